@@ -45,8 +45,8 @@ IsInvalidSize fault errors.Memory = Unit {0}
 IsInvalidSize fault (errors.InvalidArgument text) = size_fault_text fault ≡ Some (string_bytes text)
 IsInvalidSize fault _ = ⊥
 
--- A decoder returned the first argument and left the bytes `new` of `old`, exactly as `reading` does, unless memory
--- ran out. If the decoder fails, it consumes nothing.
+-- A decoder returned this result and left the bytes `new` of `old`, exactly as `reading` does, unless memory ran out.
+-- If the decoder fails, it consumes nothing.
 abbrev pub ReadsOrMemory :
     {X : Type 0} → Result X Error → List ℕ → List ℕ → Result (X × List ℕ) Fault → Type 0
 ReadsOrMemory (Ok x) old new reading = reading ≡ Ok (x, new)

@@ -61,8 +61,8 @@ Choice b P Q bytes x = MatchBool b (P bytes x) (Q bytes x)
 abbrev pub choice_at : {A E : Type 0} → Bool → Reader A E → Reader A E → Reader A E
 choice_at b p q bytes = if b then p bytes else q bytes
 
--- A decoder returned the first argument and left the bytes `new` of `old`, exactly as `reading` does. If the decoder
--- fails, it consumes nothing.
+-- A decoder returned this result and left the bytes `new` of `old`, exactly as `reading` does. If the decoder fails,
+-- it consumes nothing.
 abbrev pub ReadsAs : {X E : Type 0} → Result X E → List ℕ → List ℕ → Result (X × List ℕ) E → Type 0
 ReadsAs (Ok x) old new reading = reading ≡ Ok (x, new)
 ReadsAs (Err e) old new reading = (reading ≡ Err e) × (new ≡ old)

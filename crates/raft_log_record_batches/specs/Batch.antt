@@ -72,7 +72,7 @@ HasRoomOf b items bytes =
 abbrev pub HasRoomFor : Batch → Batch → Type 0
 HasRoomFor b other = HasRoomOf b (length other.items) (length other.entries)
 
--- the batch with `item`, which has no entries, added at the end
+-- the batch with `item` added at the end, for items without entries
 abbrev pub with_item : Batch → LogItem → Batch
 with_item b item = record b { items = b.items ++ item ∷ [] }
 

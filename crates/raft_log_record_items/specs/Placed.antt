@@ -45,26 +45,30 @@ laid_out offset (x ∷ xs) =
 abbrev pub written_entry : FileBlockHandle → EntryIndex → EntryIndex
 written_entry handle e = record e { entries = Some handle }
 
--- the content of a record whose entry block is at `handle`: entries get that handle, an operation on a key its file
+-- the content of a record whose entry block is at `handle`: entries get that handle, an operation on a key the file
+-- of the block
 abbrev pub written_content : FileBlockHandle → LogItemContent → LogItemContent
 written_content handle (contents.EntryIndexes es) = contents.EntryIndexes (map (written_entry handle) es)
 written_content handle (contents.Command c) = contents.Command c
 written_content handle (contents.Kv kv) = contents.Kv (record kv { file_id = Some handle.id })
 
--- the item of a record whose entry block is at `handle`, with that handle or its file set
+-- the item of a record whose entry block is at `handle`: entries get that handle, an operation on a key the file of
+-- the block
 abbrev pub written_item : FileBlockHandle → LogItem → LogItem
 written_item handle x = record x { content = written_content handle x.content }
 
--- the items of a record whose entry block is at `handle`, with that handle or its file set
+-- the items of a record whose entry block is at `handle`: entries get that handle, operations on keys the file of the
+-- block
 abbrev pub written : FileBlockHandle → List LogItem → List LogItem
 written handle xs = map (written_item handle) xs
 
--- The items of a record whose entry block is at `handle`, with the places of their entries and the files of their
--- keys. The first entry is at offset 0.
+-- The items of a record whose entry block is at `handle`. Entries get that handle and an offset in the block, the
+-- first 0. Operations on keys get the file of the block.
 abbrev pub placed : FileBlockHandle → List LogItem → List LogItem
 placed handle items = written handle (laid_out 0 items)
 
--- the item of a record whose entry block is at `handle`, with places set; its first entry is at `offset` in the block
+-- The item of a record whose entry block is at `handle`. Its entries get that handle and an offset in the block, the
+-- first `offset`. An operation on a key gets the file of the block.
 abbrev pub placed_item : FileBlockHandle → ℕ → LogItem → LogItem
 placed_item handle offset x = written_item handle (record x { content = laid_content offset x.content })
 

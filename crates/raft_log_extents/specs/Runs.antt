@@ -61,7 +61,7 @@ StartsFit true r = (j : ℕ) → j < r.count → r.start + j * r.size < 2 ^ 32
 StartsFit false r = Unit {0}
 
 -- Every run has entries. The entries of all runs are numbered consecutively from `first`, and their starts from `at`.
--- Offsets are below 2 ^ 32.
+-- In even runs, each entry begins at an offset below 2 ^ 32.
 abbrev pub IsNumbered : ℕ → ℕ → List Run → Type 0
 IsNumbered first at [] = Unit {0}
 IsNumbered first at (r ∷ rs) =

@@ -1,4 +1,4 @@
--- What a table reserved for a batch before the batch is written. Applying the batch afterwards can't fail.
+-- What a table reserves for a batch before the batch is written, and when it is ready to apply the batch.
 use Rattle.std.specs.Prelude.{◌≡◌, ℕ, ◌+◌, ◌-◌, ◌≤◌, Bool, true, false, List, [], ◌∷◌, length, is_some}
 use Rattle.raft_log_model_laws.specs.Item.{Item}
 use Rattle.raft_log_model_laws.specs.Item.Item.{Run, Clean, Compact, Put, Del}

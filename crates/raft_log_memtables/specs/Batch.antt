@@ -32,7 +32,7 @@ pub record IsReadyFor {E V : Type 0} (m : MemTables) (xs : List (Tagged E V)) : 
   pub groups : (g : ℕ) → IsReady (shown_of m g) (promise_of m g) (of_group g xs)
 
 -- The item was prepared. Its group has a table, where places and slots are now reserved for the item too. It leaves
--- no hole and no index too high after what was prepared before. Nothing changed in other groups.
+-- no hole and no index too high after what was prepared before. No other group got a table or another reservation.
 pub record IsPrepared {E V : Type 0} (old new : MemTables) (x : Tagged E V) : Type 0 where
   pub tables : (g : ℕ) → has_table new g ≡ (x.group == g) || has_table old g
   pub follows : MayFollow (promise_of old x.group).ends x.item
@@ -89,8 +89,8 @@ abbrev pub mentions : ℕ → List LogItem → Bool
 mentions g [] = false
 mentions g (x ∷ xs) = (x.raft_group_id == g) || mentions g xs
 
--- For the groups of the items, no places or moves are reserved any more. The reservations of other groups are
--- unchanged, and these have a table if they had one.
+-- For the groups of the items, no places or moves are reserved any more. Other groups have the same reservations as
+-- before, and have a table if and only if they had one.
 pub record IsTakenBack (old new : MemTables) (items : List LogItem) : Type 0 where
   pub forgotten : (g : ℕ) → mentions g items ≡ true → IsForgotten (promise_of new g)
   pub others : (g : ℕ) → mentions g items ≡ false → promise_of new g ≡ promise_of old g

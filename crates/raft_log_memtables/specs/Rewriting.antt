@@ -51,7 +51,8 @@ pub record PromisesMoves {E V : Type 0} (old new : MemTables) (xs : List (Tagged
   pub stay : GroupsStay old new
   pub moves : (g : ℕ) → promise_of new g ≡ moving (has_table old g) (promise_of old g) (entries_of g xs)
 
--- the item's group, if it has a table, has reserved a move for each entry of the item too; no other group changed
+-- The item's group, if it has a table, has reserved a move for each entry of the item too. The reservations of other
+-- groups are unchanged, and so are the groups that have a table or count.
 pub record PromisesMove {E V : Type 0} (old new : MemTables) (x : Tagged E V) : Type 0 where
   pub stay : GroupsStay old new
   pub move : promise_of new x.group

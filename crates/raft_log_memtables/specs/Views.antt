@@ -1,5 +1,5 @@
--- What an engine knows from its groups' tables, in the form of the log model, which calls this a view. Its steps
--- change with each batch, each copy and each owed tombstone that is written.
+-- What an engine knows from its groups' tables, in the form of the log model, which calls this a view. How the view
+-- changes with each batch, each copy and each owed tombstone that is written.
 use Rattle.std.specs.Prelude.{◌≡◌, ℕ, Bool, true, false, if◌then◌else◌, List, [], ◌∷◌, ◌++◌}
 use Rattle.raft_log_model_laws.specs.Item.{Record, Tagged, items_of}
 use Rattle.raft_log_model_laws.specs.Groups.{Map, of_group, taken}
@@ -83,8 +83,9 @@ pub record GroupEnd : Type 0 where
 abbrev pub ended : GroupEnd → (ℕ → Shown) → ℕ → Shown
 ended e v g = if e.about g then with_note (all_moved (v g) (e.moves g)) (e.least g) e.files else v g
 
--- In raft group `g`, the copies of the atomic group are allowed, and are in files up to its last one. After them,
--- nothing of Rewrite is below the file `least`. The items of all its records have the same effect as these copies.
+-- In raft group `g`, the copies of the atomic group are allowed, and are in files up to its last one. After them, the
+-- raft group has nothing of Rewrite in a file below `least`. The items of all its records have the same effect as
+-- these copies.
 pub record MayEndIn {E : Type 0} (at : Located → E) (e : GroupEnd) (v : ℕ → Shown)
     (items : List (Tagged E (List ℕ))) (g : ℕ) : Type 0 where
   pub can : CanAllMove at (v g) (e.moves g)

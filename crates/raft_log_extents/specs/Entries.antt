@@ -1,4 +1,4 @@
--- The places of entries.
+-- The entries of a group, and their places.
 use Rattle.std.specs.Prelude.{ℕ, ◌+◌, List, [], ◌∷◌, Option, Some, None, map, if◌then◌else◌, Bool}
 use Rattle.raft_log_record_base.specs.declared.pipe_log.LogQueue.{LogQueue}
 use Rattle.raft_log_record_base.specs.declared.pipe_log.LogQueue.TheVariants.{Append, Rewrite}
@@ -10,15 +10,15 @@ use Rattle.raft_log_model_laws.specs.Item.Item.{Run}
 use Rattle.raft_log_extents.specs.declared.place.Place.{Place}
 use Rattle.raft_log_extents.specs.Blocks.{between}
 
--- the places of a table, and the number of runs that keep them; for how many more places, and for how many
--- replacements, room is promised
+-- The places of a table's entries. `runs` is the number of runs that store them. `wanted` is how many more places,
+-- and `moves` how many replacements, are reserved in advance.
 pub record PlaceList : Type 0 where
   pub items : List Place
   pub runs : ℕ
   pub wanted : ℕ
   pub moves : ℕ
 
--- the place of an entry in this block; if it has no block yet, the file and the block's offset and length are 0
+-- the place of entry `e` in this block; an entry without a block has file 0 and a block of length 0 at offset 0
 abbrev pub place_in : Option FileBlockHandle → EntryIndex → Place
 place_in None e =
     record { file = 0; offset = 0; len = 0; entry_offset = e.entry_offset; entry_len = e.entry_len }
@@ -30,15 +30,15 @@ place_in (Some block) e = record {
   entry_len = e.entry_len;
 }
 
--- the place of a written entry
+-- the place of entry `e`
 abbrev pub place_of : EntryIndex → Place
 place_of e = place_in e.entries e
 
--- the queue of an entry, by whether it is rewritten
+-- the queue of an entry: Rewrite if it is rewritten, else Append
 abbrev pub queue_of : Bool → LogQueue
 queue_of rewritten = if rewritten then Rewrite else Append
 
--- the entry of this index at this place
+-- the entry of this index at place `p` in this queue
 abbrev pub entry_of : LogQueue → ℕ → Place → EntryIndex
 entry_of queue index p = record {
   index = index;
@@ -48,17 +48,17 @@ entry_of queue index p = record {
   entry_len = p.entry_len;
 }
 
--- the entries at these places, the first with this index
+-- the entries at these places in this queue; their indexes rise by one from `index`
 abbrev pub entries_of : LogQueue → ℕ → List Place → List EntryIndex
 entries_of queue index [] = []
 entries_of queue index (p ∷ ps) = entry_of queue index p ∷ entries_of queue (index + 1) ps
 
--- the entries as an item: a run from the first one's index on
+-- the entries as an item: a run of their places, which begins at the index of the first
 abbrev pub run_of : List EntryIndex → Item Place (List ℕ)
 run_of [] = Run 0 []
 run_of (e ∷ es) = Run e.index (map place_of (e ∷ es))
 
--- a block, as a place of no bytes
+-- the block at `block`, as a place of length 0 in it
 abbrev pub place_at : FileBlockHandle → Place
 place_at block = record {
   file = block.id.seq;
@@ -68,6 +68,6 @@ place_at block = record {
   entry_len = 0;
 }
 
--- the entries in a block from each of these bounds up to the next, the first with this index
+-- the adjacent entries in `block` that these bounds separate; their indexes rise by one from `index`
 abbrev pub entries_between : FileBlockHandle → ℕ → List ℕ → List EntryIndex
 entries_between block index bounds = entries_of block.id.queue index (between (place_at block) bounds)

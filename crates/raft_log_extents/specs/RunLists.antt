@@ -1,15 +1,16 @@
--- The meaning of a list of runs, and its room.
+-- The places that a list of runs encodes, and its spare capacity.
 use Rattle.std.specs.Prelude.{ℕ, ◌+◌, ◌≤◌, ◌<◌, ◌^◌, List}
 use Rattle.std.specs.VecDeque.{deque_capacity, deque_len}
 use Rattle.raft_log_extents.specs.declared.place.Place.{Place}
 use Rattle.raft_log_extents.specs.declared.runs.Runs.{Runs}
 use Rattle.raft_log_extents.specs.Runs.{expand}
 
--- the places that the runs mean
+-- the places that the runs encode
 abbrev pub places : Runs → List Place
 places r = expand r.runs.items r.starts.items
 
--- there is room for n more entries, wherever they are stored
+-- `n` more entries fit without an allocation, whether each needs a run and a start or not, and their numbers stay
+-- below 2 ^ 64
 abbrev pub HasRoom : Runs → ℕ → Type 0
 HasRoom r n =
     (deque_len r.runs + n ≤ deque_capacity r.runs) × (deque_len r.starts + n ≤ deque_capacity r.starts)

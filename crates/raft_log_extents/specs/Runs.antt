@@ -1,4 +1,6 @@
--- Lists of runs, and the places that they mean.
+-- Lists of runs, which encode places. A run has consecutive entries of a group that are adjacent in one block. If
+-- they have one length, the run is even, and only its first offset is stored. Otherwise the offset of each entry, its
+-- start, is stored in a second list.
 use Rattle.std.specs.Prelude.{◌≡◌, ℕ, ◌+◌, ◌*◌, ◌<◌, ◌≤◌, ◌^◌, Bool, true, false, List, [], ◌∷◌, ◌++◌, length, map, take, drop, slice_index_or}
 use Rattle.std.specs.Coded.{Unit-prop, le_prop, Coded-set, coded_ℕ}
 use Rattle.raft_log_record_items.specs.declared.entry.EntryIndex.{EntryIndex}
@@ -6,72 +8,74 @@ use Rattle.raft_log_extents.specs.declared.place.Place.{Place}
 use Rattle.raft_log_extents.specs.declared.run.Run.{Run}
 use Rattle.raft_log_extents.specs.Blocks.{even_places, uneven_places}
 
--- the block of a run, as a place of no bytes
+-- the block of run `r`, as a place of length 0 in it
 abbrev pub block : Run → Place
 block r = record { file = r.file; offset = r.offset; len = r.len; entry_offset = 0; entry_len = 0 }
 
--- how many starts are kept for `count` entries, by whether they have one length
+-- how many starts are stored for `count` entries: none if they have one length, else one for each
 abbrev pub width_of : Bool → ℕ → ℕ
 width_of true count = 0
 width_of false count = count
 
--- how many starts are kept for a run
+-- how many starts are stored for run `r`
 abbrev pub width : Run → ℕ
 width r = width_of r.even r.count
 
--- the places of a run whose starts are the first of these, by whether its entries have one length
+-- The places of run `r`. If its entries have one length, they follow from that; otherwise `starts` begins with their
+-- offsets.
 abbrev pub laid : Bool → Run → List ℕ → List Place
 laid true r starts = even_places (block r) r.size r.start r.count
 laid false r starts = uneven_places (block r) r.size (take r.count starts)
 
--- the places of a run whose starts are the first of these
+-- the places of run `r`, if its stored starts are the first of `starts`
 abbrev pub places_of : Run → List ℕ → List Place
 places_of r starts = laid r.even r starts
 
--- the places of runs, whose starts are these
+-- the places of these runs, whose stored starts are `starts`, in order
 abbrev pub expand : List Run → List ℕ → List Place
 expand [] starts = []
 expand (r ∷ rs) starts = places_of r starts ++ expand rs (drop (width r) starts)
 
--- the number of entries in runs
+-- the total number of entries in these runs
 abbrev pub counts : List Run → ℕ
 counts [] = 0
 counts (r ∷ rs) = r.count + counts rs
 
--- how many starts are kept for runs
+-- the total number of starts that are stored for these runs
 abbrev pub widths : List Run → ℕ
 widths [] = 0
 widths (r ∷ rs) = width r + widths rs
 
--- the first `count` entries of a run, the last of this length
+-- the first `count` entries of run `r`; `size` is the length of the last one, or of each if the run is even
 abbrev pub head : Run → ℕ → ℕ → Run
 head r count size = record r { count = count; size = size }
 
--- the entries of a run without the first `gone` ones: `count` of them, from this offset on
+-- run `r` without its first `gone` entries: `count` are left, and the first of them is at offset `start`
 abbrev pub tail : Run → ℕ → ℕ → ℕ → Run
 tail r gone count start =
     record r { first = r.first + gone; count = count; at = r.at + width_of r.even gone; start = start }
 
--- each entry of a run whose entries have one length starts at an offset of 32 bits
+-- if the run is even, each of its entries begins at an offset below 2 ^ 32
 abbrev pub StartsFit : Bool → Run → Type 0
 StartsFit true r = (j : ℕ) → j < r.count → r.start + j * r.size < 2 ^ 32
 StartsFit false r = Unit {0}
 
--- the runs have entries, their entries and starts are numbered from these numbers on, and offsets fit
+-- Every run has entries. The entries of all runs are numbered consecutively from `first`, and their starts from `at`.
+-- In even runs, each entry begins at an offset below 2 ^ 32.
 abbrev pub IsNumbered : ℕ → ℕ → List Run → Type 0
 IsNumbered first at [] = Unit {0}
 IsNumbered first at (r ∷ rs) =
     (r.first ≡ first) × (r.at ≡ at) × (0 < r.count) × StartsFit r.even r
     × IsNumbered (first + r.count) (at + width r) rs
 
--- the runs with other numbers
+-- the runs with new numbers, consecutive from `first` for entries and from `at` for starts
 abbrev pub renumbered : ℕ → ℕ → List Run → List Run
 renumbered first at [] = []
 renumbered first at (r ∷ rs) =
     record r { first = first; at = at } ∷ renumbered (first + r.count) (at + width r) rs
 
--- runs and starts that match: they are numbered from these numbers on, have `len` entries, and no number needs more
--- than 64 bits
+-- The invariant of a list of runs and its starts. Entries are numbered from `front`, and starts from `base`, which is
+-- at most `front`. The runs have `len` entries in total, and as many starts as are stored. No number reaches 2 ^ 64.
 pub record IsSound (front base len : ℕ) (rs : List Run) (starts : List ℕ) : Type 0 where
   pub numbered : IsNumbered front base rs
   pub count : counts rs ≡ len
@@ -79,25 +83,25 @@ pub record IsSound (front base len : ℕ) (rs : List Run) (starts : List ℕ) : 
   pub fits : front + len < 2 ^ 64
   pub behind : base ≤ front
 
--- these runs and starts were appended to others, numbered from these numbers on; they have `len` entries, at these
--- places
+-- The runs `more` and the starts `kept` were appended. They are numbered from `first` and `at`, and encode `len`
+-- entries at the places `ps`.
 pub record AreAdded (first at len : ℕ) (ps : List Place) (old new : List Run) (were starts : List ℕ) (more : List Run) (kept : List ℕ) : Type 0 where
   pub runs : new ≡ old ++ more
   pub starts_are : starts ≡ were ++ kept
   pub sound : IsSound first at len more kept
   pub places : expand more kept ≡ ps
 
--- the run that has the entry of this number, if there is one
+-- run number `k` has the entry of this number, if any run has it
 pub record IsFound (number : ℕ) (rs : List Run) (k : ℕ) : Type 0 where
   pub within : k < length rs
   pub low : (d : Run) → (slice_index_or rs k d).first ≤ number
   pub high : (d : Run) → k + 1 < length rs → number < (slice_index_or rs (k + 1) d).first
 
--- the offset of an entry in its block
+-- the offset of entry `e` in its block
 abbrev pub start_of_entry : EntryIndex → ℕ
 start_of_entry e = e.entry_offset
 
--- the starts that are kept for these entries, by whether they have one length
+-- the starts that are stored for these entries: none if they have one length, else the offset of each
 abbrev pub starts_for : Bool → List EntryIndex → List ℕ
 starts_for true es = []
 starts_for false es = map start_of_entry es

@@ -1,10 +1,11 @@
--- Where an entry is in a list of runs.
+-- The position of an entry in a list of runs.
 use Rattle.std.specs.Prelude.{◌≡◌, ℕ, ◌+◌, ◌*◌, ◌<◌, ◌≤◌, ◌^◌, true, List, length, take, slice_index_or}
 use Rattle.raft_log_extents.specs.declared.run.Run.{Run}
 use Rattle.raft_log_extents.specs.declared.spot.Spot.{Spot}
 use Rattle.raft_log_extents.specs.Runs.{counts, width, widths}
 
--- this is where the entry at this position of runs with these starts is
+-- The entry at `position` of runs with these starts is described by `s`: the position of its run among the runs, and
+-- the run. It also has the number of starts stored before that run, and the number of entries before it in the run.
 pub record IsSpot (rs : List Run) (starts : List ℕ) (position : ℕ) (s : Spot) : Type 0 where
   pub there : s.at < length rs
   pub run_is : s.run ≡ slice_index_or rs s.at s.run

@@ -1,4 +1,4 @@
--- The disk after a call that succeeds or fails.
+-- How each call changes the disk, if it succeeds, and what it may leave if it fails.
 use Rattle.std.specs.Prelude.{◌≡◌, ℕ, ◌+◌, ◌<◌, ◌≤◌, ◌⊎◌, Bool, true, false, cond, Option, Some, None, List, [], ◌∷◌, ◌++◌, length, slice_index, suc}
 use Rattle.std.specs.Map.{update}
 use Rattle.std.specs.Str.{bytes_eq}
@@ -7,20 +7,20 @@ use Rattle.std.specs.declared.io.ErrorKind.{ErrorKind}
 use Rattle.std.specs.declared.io.ErrorKind.TheVariants.{OutOfMemory, Other, ResourceBusy}
 use Rattle.raft_log_fs.specs.Disk.{Change, Wrote, ShortenedTo, GrewTo, File, Disk, at_rest, zeros, changed, with_file, HasDirectory}
 
--- the file with this content, and one more change that isn't synced
+-- the file with new content, and with `change` added to the changes that are not synced
 abbrev pub with_change : Change → List ℕ → File → File
 with_change change content file =
     record { content = content; synced = file.synced; changes = file.changes ++ change ∷ [] }
 
--- the file after a change
+-- the file after `change` was done in full, and not synced
 abbrev pub after_change : Change → File → File
 after_change change file = with_change change (changed change file.content) file
 
--- the file after a sync
+-- the file after a sync: its content is durable, and it has no unsynced changes
 abbrev pub flushed : File → File
 flushed file = at_rest file.content
 
--- the disk with an empty file under a new name
+-- the disk after an empty file was created at `path`
 abbrev pub created : List ℕ → Disk → Disk
 created path d = record d {
   names = update bytes_eq d.names path (Some d.unused);
@@ -28,17 +28,18 @@ created path d = record d {
   unused = suc d.unused;
 }
 
--- the disk without a name and its file
+-- the disk after the file `id` at `path` was deleted
 abbrev pub deleted : List ℕ → ℕ → Disk → Disk
 deleted path id d =
     record d { names = update bytes_eq d.names path None; files = update nat_eq d.files id None }
 
--- the files without the one that loses its name
+-- the files without this one, if there is one
 abbrev pub without : Option ℕ → (ℕ → Option File) → ℕ → Option File
 without None files = files
 without (Some id) files = update nat_eq files id None
 
--- the disk with a file under another name; a file that had that name is gone, and the renamed one is unchanged
+-- The disk after the file `id` was renamed. A file that had the new path is gone. The content and unsynced changes of
+-- the renamed file stay the same.
 abbrev pub renamed : List ℕ → List ℕ → ℕ → Disk → Disk
 renamed from to id d = record d {
   names = update bytes_eq (update bytes_eq d.names from None) to (Some id);
@@ -49,21 +50,21 @@ renamed from to id d = record d {
 abbrev pub with_directory : List ℕ → Disk → Disk
 with_directory path d = record d { directories = λ q. cond (bytes_eq path q) true (d.directories q) }
 
--- the disk with other marks of unreadable places
+-- the disk with other marks for which offsets of files are unreadable
 abbrev pub with_marks : (ℕ → ℕ → Bool) → Disk → Disk
 with_marks marks d = record d { unreadable = marks }
 
--- the marks, and one more at a place of a file, if there is one
+-- the marks, with one more at offset `place` of this file, if there is one
 abbrev pub marked : Option ℕ → ℕ → (ℕ → ℕ → Bool) → ℕ → ℕ → Bool
 marked None place marks id at = marks id at
 marked (Some file) place marks id at =
     cond (nat_eq file id) (cond (nat_eq place at) true (marks id at)) (marks id at)
 
--- the disk with an unreadable place in the file that has this name; unchanged if no file has it
+-- the disk after offset `place` became unreadable in the file at `name`; unchanged if no file has this path
 abbrev pub denied : List ℕ → ℕ → Disk → Disk
 denied name place d = with_marks (marked (d.names name) place d.unreadable) d
 
--- the disk with one more failure counted, which returned this kind
+-- the disk with one more failure counted, and its error kind recorded
 abbrev pub counted : ErrorKind → Disk → Disk
 counted error d = record d { failures = suc d.failures; kinds = error ∷ d.kinds }
 
@@ -71,30 +72,31 @@ counted error d = record d { failures = suc d.failures; kinds = error ∷ d.kind
 abbrev pub at_stop : Disk → Disk
 at_stop d = record d { stopped = true }
 
--- What may be left of a content if a write fails after it wrote some bytes: the places outside its range are unchanged,
--- and inside it there may be any bytes. The file doesn't get shorter, nor longer than the write would make it.
+-- What a write may leave if it fails after some bytes. The bytes outside of its range are unchanged, and inside it
+-- there may be any bytes. The file doesn't shrink, and doesn't grow beyond the later of its old end and the write's
+-- end.
 pub record IsTorn (at : ℕ) (bytes old new : List ℕ) : Type 0 where
   pub outside : (place : ℕ) → place < length old → (place < at) ⊎ (at + length bytes ≤ place)
       → slice_index new place ≡ slice_index old place
   pub longer : length old ≤ length new
   pub within : (size : ℕ) → length old ≤ size → at + length bytes ≤ size → length new ≤ size
 
--- what may be left of a content after a failed change: some of a write, a truncation or nothing, some of a growth's
--- zeros
+-- What a failed change may leave of the content `old`. A write may be torn. A truncation is done or not. A growth may
+-- have added some of its zeros.
 abbrev pub InPart : Change → List ℕ → List ℕ → Type 0
 InPart (Wrote at bytes) old new = IsTorn at bytes old new
 InPart (ShortenedTo size) old new = (new ≡ old) ⊎ (new ≡ take size old)
 InPart (GrewTo size) old new =
     (count : ℕ) × (length old + count ≤ size ⊎ (count ≡ 0)) × (new ≡ old ++ zeros count)
 
--- a call changed one file, and succeeded before the file system stopped
+-- the file system runs, and the file `id` was changed by `next`; nothing else was changed
 pub record Changes (id : ℕ) (next : File → File) (old new : Disk) : Type 0 where
   pub runs : old.stopped ≡ false
   pub file : File
   pub is : old.files id ≡ Some file
   pub done : new ≡ with_file id (Some (next file)) old
 
--- an empty file got a name
+-- An empty file with the number `id` was created at `path`. The path was free, and its directory exists.
 pub record Creates (path : List ℕ) (id : ℕ) (old new : Disk) : Type 0 where
   pub runs : old.stopped ≡ false
   pub free : old.names path ≡ None
@@ -103,14 +105,14 @@ pub record Creates (path : List ℕ) (id : ℕ) (old new : Disk) : Type 0 where
   pub number : id ≡ old.unused
   pub done : new ≡ created path old
 
--- a name and its file were deleted
+-- the path and its file were deleted
 pub record Deletes (path : List ℕ) (old new : Disk) : Type 0 where
   pub runs : old.stopped ≡ false
   pub id : ℕ
   pub is : old.names path ≡ Some id
   pub done : new ≡ deleted path id old
 
--- a file got another name
+-- The file at `from` was renamed to `to`. No directory has the path `to`, and the directory that it is in exists.
 pub record Renames (from to : List ℕ) (old new : Disk) : Type 0 where
   pub runs : old.stopped ≡ false
   pub id : ℕ
@@ -119,34 +121,35 @@ pub record Renames (from to : List ℕ) (old new : Disk) : Type 0 where
   pub home : HasDirectory to old
   pub done : new ≡ renamed from to id old
 
--- a directory was made
+-- a directory was created at `path`, which was free
 pub record MakesDirectory (path : List ℕ) (old new : Disk) : Type 0 where
   pub runs : old.stopped ≡ false
   pub free : old.names path ≡ None
   pub apart : old.directories path ≡ false
   pub done : new ≡ with_directory path old
 
--- none of a call's arguments is wrong in the present state
+-- no argument of the call is wrong, with any error
 abbrev pub IsRight : (ErrorKind → Type 0) → Type 0
 IsRight wrong = (error : ErrorKind) → wrong error → ⊥
 
--- A call at which the file system stops doesn't return `OutOfMemory`: a caller takes that to mean that nothing was
--- done, and that the same call may succeed.
+-- Any error but `OutOfMemory`. A call at which the file system stops doesn't return that one. Callers take it to mean
+-- that nothing was done and the call can be repeated.
 abbrev pub IsStopKind : ErrorKind → Type 0
 IsStopKind error = error ≡ OutOfMemory → ⊥
 
--- the kind that a call returns if the file system stops at it: this kind, or `ResourceBusy` instead of `OutOfMemory`
+-- The error of a call that was to fail with `kind`, if the file system stops at it. It is the same kind, but
+-- `ResourceBusy` instead of `OutOfMemory`.
 pub record IsToldAtStop (kind error : ErrorKind) : Type 0 where
   pub stops : IsStopKind error
   pub told : (error ≡ kind) ⊎ ((kind ≡ OutOfMemory) × (error ≡ ResourceBusy))
 
 -- A failed call. There are these cases:
--- - After a stop nothing changes, and the error is `Other`.
--- - An argument is wrong in the present state: nothing changes, and no failure is counted. The error says which.
--- - No argument is wrong: a failure is counted, and the call may have been done in part. The error may be of any kind,
---   and that kind is kept with the failure.
--- - The file system stopped at this call: nothing was done or, if the arguments are right, a part or all. The error may
---   be of any kind but `OutOfMemory`, and none is kept.
+-- - After a stop, nothing changes, and the error is `Other`.
+-- - An argument is wrong: nothing changes, and no failure is counted. The error says which argument.
+-- - No argument is wrong: a failure is counted, and the call may have been done in part. The error may be of any
+--   kind, and the kind is recorded.
+-- - The file system stops at this call: nothing was done, or, if no argument is wrong, some or all of it. The error
+--   may be of any kind but `OutOfMemory`, and is not recorded.
 pub data Refused (part done : Disk → Type 0) (wrong : ErrorKind
     → Type 0) (error : ErrorKind) (old new : Disk) : Type 0 where
   after_stop : old.stopped ≡ true → new ≡ old → error ≡ Other → Refused part done wrong error old new
@@ -157,22 +160,22 @@ pub data Refused (part done : Disk → Type 0) (wrong : ErrorKind
       → new ≡ at_stop left
       → Refused part done wrong error old new
 
--- what may be left by a failed call that is done whole or not at all: a call on names, or a sync
+-- What a failed call may leave that is done in full or not at all, such as a sync or a renaming: the same disk.
 abbrev pub Nothing : Disk → Disk → Type 0
 Nothing old left = left ≡ old
 
--- what may be left by a failed write, truncation or growth: nothing, or a content with some of it, and the change among
--- those since the last sync
+-- What a failed write, truncation or growth may leave: the same disk, or the file with a part of the change. In the
+-- second case, the change is among the unsynced ones.
 pub data SomeOf (id : ℕ) (change : Change) (old left : Disk) : Type 0 where
   none : left ≡ old → SomeOf id change old left
   some : (file : File) (content : List ℕ) → old.files id ≡ Some file → InPart change file.content content
       → left ≡ with_file id (Some (with_change change content file)) old → SomeOf id change old left
 
--- a failed write, truncation or growth
+-- the write, truncation or growth `change` of the file `id` failed
 abbrev pub RefusedChange : ℕ → Change → (ErrorKind → Type 0) → ErrorKind → Disk → Disk → Type 0
 RefusedChange id change wrong error old new =
     Refused (SomeOf id change old) (Changes id (after_change change) old) wrong error old new
 
--- a failed call that is done whole or not at all
+-- a call failed that is done in full or not at all; `done` says what it does if it succeeds
 abbrev pub RefusedWhole : (Disk → Type 0) → (ErrorKind → Type 0) → ErrorKind → Disk → Disk → Type 0
 RefusedWhole done wrong error old new = Refused (Nothing old) done wrong error old new

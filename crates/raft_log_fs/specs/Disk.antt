@@ -1,26 +1,26 @@
--- What a file system holds: directories, names, and for each file its content, what is synced of it, and the changes
--- made since.
+-- What a file system holds: directories, paths, and files. Each file has its content, what was synced of it, and the
+-- changes that are not synced.
 use Rattle.std.specs.Prelude.{◌≡◌, ℕ, ◌+◌, ◌-◌, ◌<◌, ◌^◌, Bool, true, false, Option, None, List, [], ◌∷◌, ◌++◌, length, slice_index}
 use Rattle.std.specs.Map.{update}
 use Rattle.std.specs.declared.io.ErrorKind.{ErrorKind}
 use Rattle.std.proofs.Common.{nat_eq, take, drop, replicate}
 
--- A change of a file that isn't synced yet: a write, with all bytes that were passed in, even if the call failed after
--- it wrote some of them; a truncation to a size; a growth to a size by zeros.
+-- A change of a file that is not synced. A write has all bytes that were passed in, even if the call failed after
+-- some of them. A truncation has the new size, and so has a growth, which adds zeros.
 pub data Change : Type 0 where
   Wrote : (at : ℕ) (bytes : List ℕ) → Change
   ShortenedTo : (size : ℕ) → Change
   GrewTo : (size : ℕ) → Change
 
--- A file: what a read returns now, what was synced, and the changes since then, the oldest first.
+-- A file: the content that a read returns now, the content at the last sync, and the changes since, in order.
 pub record File : Type 0 where
   pub content : List ℕ
   pub synced : List ℕ
   pub changes : List Change
 
--- A file system. A path names the file with a number. Each number is given once, so a handle stays with its file.
--- Whether a place of a file is unreadable is a mark on the file, which outlives writes and renames. Failures are
--- counted, and the kinds that they returned are kept, the last one first.
+-- A file system. `names` maps each path to the number of its file. A number is never used again, so a handle keeps
+-- its file. `unreadable` marks offsets of files, and writes and renames don't change it. `kinds` has the error kinds
+-- of all counted failures, the latest first.
 pub record Disk : Type 0 where
   pub directories : List ℕ → Bool
   pub names : List ℕ → Option ℕ
@@ -31,59 +31,59 @@ pub record Disk : Type 0 where
   pub failures : ℕ
   pub kinds : List ErrorKind
 
--- a file whose bytes are all synced
+-- a file whose content is all synced
 abbrev pub at_rest : List ℕ → File
 at_rest bytes = record { content = bytes; synced = bytes; changes = [] }
 
--- n zeros
+-- `n` zeros
 abbrev pub zeros : ℕ → List ℕ
 zeros n = replicate n 0
 
--- bytes, with zeros up to a size
+-- the bytes, extended with zeros to `size` if they are shorter
 abbrev pub grown : ℕ → List ℕ → List ℕ
 grown size bytes = bytes ++ zeros (size - length bytes)
 
--- old bytes with others over them from an offset on; a gap between the end and that offset is filled with zeros
+-- the content `old` overwritten with `bytes` from offset `at` on; a gap before that is filled with zeros
 abbrev pub spliced : ℕ → List ℕ → List ℕ → List ℕ
 spliced at bytes old =
     let room = grown (at + length bytes) old in take at room ++ (bytes ++ drop (at + length bytes) room)
 
--- old bytes after a write of these bytes at an offset; no bytes change nothing, whatever the offset
+-- the content `old` after a write of these bytes at offset `at`; a write of no bytes changes nothing
 abbrev pub overwritten : ℕ → List ℕ → List ℕ → List ℕ
 overwritten at [] old = old
 overwritten at (b ∷ bs) old = spliced at (b ∷ bs) old
 
--- a content after a change that is done whole
+-- the content after the change was done in full
 abbrev pub changed : Change → List ℕ → List ℕ
 changed (Wrote at bytes) old = overwritten at bytes old
 changed (ShortenedTo size) old = take size old
 changed (GrewTo size) old = grown size old
 
--- each file is shorter than this
+-- the limit for the size of a file, which must be below it
 abbrev pub file_limit : ℕ
 file_limit = 2 ^ 63
 
--- the disk with another state of one file
+-- the disk with another state of the file `id`
 abbrev pub with_file : ℕ → Option File → Disk → Disk
 with_file id file d = record d { files = update nat_eq d.files id file }
 
--- a name within a directory has no slash
+-- a name without a slash, as a file in a directory has
 abbrev pub IsPlain : List ℕ → Type 0
 IsPlain name = (k : ℕ) → k < length name → slice_index name k ≡ 47 → ⊥
 
--- a path of a file: a directory's path, a slash, and a name without a slash
+-- the path of a file in this directory: the directory's path, a slash, and a name without a slash
 pub record IsPathIn (directory path : List ℕ) : Type 0 where
   pub name : List ℕ
   pub joined : path ≡ directory ++ 47 ∷ name
   pub plain : IsPlain name
 
--- the path's own directory exists
+-- the directory that the path is in exists
 pub record HasDirectory (path : List ℕ) (d : Disk) : Type 0 where
   pub directory : List ℕ
   pub inside : IsPathIn directory path
   pub there : d.directories directory ≡ true
 
--- the disk of a file system with no directory
+-- the disk of a file system without directories or files
 abbrev pub empty_disk : Disk
 empty_disk = record {
   directories = λ path. false;

@@ -1,4 +1,4 @@
--- The laws of the definitions, as the public functions without a body state them.
+-- Laws that follow from the definitions. Public functions without a body state them in their contracts.
 use Rattle.std.specs.Prelude.{◌≡◌, ℕ, ◌<◌, Bool, true, false, Some, None, List, [], ◌∷◌}
 use Rattle.std.specs.List.{Contains}
 use Rattle.std.specs.declared.io.ErrorKind.{ErrorKind}
@@ -8,48 +8,48 @@ use Rattle.raft_log_fs.specs.Image.{Touches, end_of, IsLeft, IsImage, IsSound, a
 use Rattle.raft_log_fs.specs.Calls.{with_change, flushed, created, deleted, renamed, with_directory, with_marks, counted, at_stop, InPart, IsStopKind, IsRight, RefusedChange, RefusedWhole}
 use Rattle.raft_log_fs.specs.Causes.{HasCause, Fails, IsUndisturbed}
 
--- each file with its present content: that is an image
+-- one crash image keeps the present content of every file
 abbrev pub StandsIsImage : Type 0
 StandsIsImage = (d : Disk) → IsSound d → IsImage d (as_it_stands d)
 
--- if every file is synced, each file with its present content is the only image
+-- if no file has unsynced changes, the only crash image is the one that keeps the present content of every file
 abbrev pub SyncedIsOnlyImage : Type 0
 SyncedIsOnlyImage = (d image : Disk) → IsSound d → IsAllSynced d → IsImage d image → image ≡ as_it_stands d
 
--- if a file's changes are all synced, a crash leaves of it what a read returns
+-- if a file has no unsynced changes, it has its present content in every crash image
 abbrev pub SyncedFileHasOneImage : Type 0
 SyncedFileHasOneImage = (d image : Disk) (id : ℕ) (file : File) → IsSound d → d.files id ≡ Some file
     → file.changes ≡ [] → IsImage d image
     → image.files id ≡ Some (at_rest file.content)
 
--- what a second crash leaves of what a first one left, the first one could have left
+-- a crash image of a crash image of `d` is a crash image of `d`
 abbrev pub ImageOfImage : Type 0
 ImageOfImage = (d image later : Disk) → IsImage d image → IsImage image later → IsImage d later
 
--- what a crash leaves of a sound disk is sound
+-- every crash image of a consistent disk is consistent
 abbrev pub ImageIsSound : Type 0
 ImageIsSound = (d image : Disk) → IsSound d → IsImage d image → IsSound image
 
--- if some bytes may be left, they may also be left with any byte in a written range, or after the point where the file
--- was truncated
+-- If a crash may leave `bytes` of a file, it may also leave other bytes at the offsets that an unsynced change
+-- touches.
 abbrev pub AnyByteLeft : Type 0
 AnyByteLeft = (file : File) (bytes : List ℕ) (change : Change) (place byte : ℕ)
     → Contains file.changes change → Touches change place
     → IsLeft file bytes → IsLeft file (set bytes place byte)
 
--- if no failure was counted since, and the disk runs and can be read, there is no cause
+-- if nothing disturbs the disk, and no failure was counted since `old`, a call has no cause to fail
 abbrev pub UndisturbedHasNoCause : (ℕ → Type 0) → Type 0
 UndisturbedHasNoCause files = (old new : Disk) → IsUndisturbed new → new.failures ≡ old.failures
     → HasCause files old new → ⊥
 
--- A place of another file is no cause: if each place of the files that the call asks for can be read, a failure was
--- counted, or the file system has stopped.
+-- Unreadable offsets of other files are no cause for a call to fail. If every offset of the call's files is readable,
+-- a failure was counted, or the file system has stopped.
 abbrev pub OtherFilesAreNoCause : (ℕ → Type 0) → Type 0
 OtherFilesAreNoCause files = (old new : Disk) → ((id place : ℕ) → files id → new.unreadable id place ≡ false)
     → HasCause files old new → Fails old new
 
--- If a call with right arguments fails and the disk still runs, the failure was counted. The kind that it returns is
--- kept with the failure, before the earlier ones.
+-- If a call with right arguments fails and the file system still runs, the failure is recorded. The error of the call
+-- is now the latest of the recorded kinds.
 pub record CountedRefusalTellsItsKind (wrong : ErrorKind → Type 0) (done : Disk → Type 0) : Type 0 where
   pub change : (id : ℕ) (change : Change) (error : ErrorKind) (old new : Disk)
       → IsRight wrong → new.stopped ≡ false → RefusedChange id change wrong error old new
@@ -58,7 +58,8 @@ pub record CountedRefusalTellsItsKind (wrong : ErrorKind → Type 0) (done : Dis
       → IsRight wrong → new.stopped ≡ false → RefusedWhole done wrong error old new
       → new.kinds ≡ error ∷ old.kinds
 
--- if such a call may return two kinds, they are the same
+-- If a call with right arguments fails and the file system still runs, the disks before and after it determine its
+-- error.
 pub record CountedRefusalHasOneKind (wrong : ErrorKind → Type 0) (done : Disk → Type 0) : Type 0 where
   pub change : (id : ℕ) (change : Change) (a b : ErrorKind) (old new : Disk)
       → IsRight wrong → new.stopped ≡ false → RefusedChange id change wrong a old new
@@ -67,15 +68,15 @@ pub record CountedRefusalHasOneKind (wrong : ErrorKind → Type 0) (done : Disk 
       → IsRight wrong → new.stopped ≡ false → RefusedWhole done wrong a old new
       → RefusedWhole done wrong b old new → a ≡ b
 
--- a failed call that leaves a stopped file system, whether it stopped before the call or at it, doesn't return
--- `OutOfMemory`
+-- If a call fails and the file system has stopped after it, whether at this call or before, the error isn't
+-- `OutOfMemory`.
 pub record StopIsNoWantOfMemory (wrong : ErrorKind → Type 0) (done : Disk → Type 0) : Type 0 where
   pub change : (id : ℕ) (change : Change) (error : ErrorKind) (old new : Disk)
       → new.stopped ≡ true → RefusedChange id change wrong error old new → IsStopKind error
   pub whole : (error : ErrorKind) (old new : Disk)
       → new.stopped ≡ true → RefusedWhole done wrong error old new → IsStopKind error
 
--- if a disk is sound, what a call may leave of it is sound
+-- each call, whether it succeeds or fails, leaves a consistent disk consistent
 pub record CallsKeepSound : Type 0 where
   pub change : (d : Disk) (id : ℕ) (file : File) (change : Change) (content : List ℕ) → IsSound d
       → d.files id ≡ Some file
@@ -94,17 +95,17 @@ pub record CallsKeepSound : Type 0 where
   pub failure : (error : ErrorKind) (d : Disk) → IsSound d → IsSound (counted error d)
   pub stop : (d : Disk) → IsSound d → IsSound (at_stop d)
 
--- a name leads to a number that was given
+-- on a consistent disk, the number of each file with a path was used before
 abbrev pub NamedIsUsed : Type 0
 NamedIsUsed = (d : Disk) (path : List ℕ) (id : ℕ) → IsSound d → d.names path ≡ Some id → id < d.unused
 
--- no name is in a directory that doesn't exist
+-- on a consistent disk, no file is in a directory that doesn't exist
 abbrev pub AbsentHoldsNoName : Type 0
 AbsentHoldsNoName = (d : Disk) (directory path : List ℕ) → IsSound d → d.directories directory ≡ false
     → IsPathIn directory path → d.names path ≡ None
 
--- What a crash may leave doesn't depend on marks, on counted failures and their kinds, nor on whether the file system
--- has stopped.
+-- The crash images of a disk don't depend on which offsets are unreadable, on the failures, or on whether the file
+-- system has stopped.
 pub record ImagesStay : Type 0 where
   pub marks : (d image : Disk) (unreadable : ℕ → ℕ → Bool) → IsImage d image
       → IsImage (with_marks unreadable d) image

@@ -1,26 +1,26 @@
--- What calls touch, and what they leave unchanged.
+-- Which files and paths a call changes, and which it leaves unchanged.
 use Rattle.std.specs.Prelude.{◌≡◌, ℕ, Some, List}
 use Rattle.raft_log_fs.specs.Disk.{File, Disk}
 
--- the file with a number exists, and P is true of it
+-- the file number `id` exists, and `P` is true of it
 pub record HasFile (id : ℕ) (P : File → Type 0) (d : Disk) : Type 0 where
   pub file : File
   pub is : d.files id ≡ Some file
   pub has : P file
 
--- a path names a file, and P is true of it
+-- a file has this path, and `P` is true of it
 pub record HasNamed (path : List ℕ) (P : File → Type 0) (d : Disk) : Type 0 where
   pub id : ℕ
   pub named : d.names path ≡ Some id
   pub file : HasFile id P d
 
--- the names, the directories and all other files are unchanged
+-- paths, directories, and all files but `id` are unchanged
 pub record TouchesOnly (id : ℕ) (old new : Disk) : Type 0 where
   pub names : new.names ≡ old.names
   pub directories : new.directories ≡ old.directories
   pub others : (other : ℕ) → (other ≡ id → ⊥) → new.files other ≡ old.files other
 
--- The directories are unchanged. Each name that isn't one of these leads to the same file as before, which is
+-- Directories are unchanged. Each path for which `own` is false has the same file as before, and that file is
 -- unchanged.
 pub record TouchesOnlyNames (own : List ℕ → Type 0) (old new : Disk) : Type 0 where
   pub directories : new.directories ≡ old.directories
@@ -28,7 +28,8 @@ pub record TouchesOnlyNames (own : List ℕ → Type 0) (old new : Disk) : Type 
   pub files : (path : List ℕ) (id : ℕ) → (own path → ⊥) → old.names path ≡ Some id
       → new.files id ≡ old.files id
 
--- What is known of another name's file stays true: calls on one queue's files don't touch another one's.
+-- If a call changes only paths in `own`, whatever is true of a file at another path stays true. So calls on one
+-- queue's files don't affect those of the other queue.
 abbrev pub OtherNamesStay : (List ℕ → Type 0) → (File → Type 0) → Type 0
 OtherNamesStay own P = (old new : Disk) (path : List ℕ) → TouchesOnlyNames own old new → (own path → ⊥)
     → HasNamed path P old → HasNamed path P new

@@ -1,4 +1,4 @@
--- The files that store something of a table.
+-- In which files the entries and values of a table are.
 use Rattle.std.specs.Prelude.{◌≡◌, ℕ, ◌+◌, ◌<◌, ◌≤◌, ◌⊎◌, true, false, List, Option, Some, None, option_map, if◌then◌else◌, nat_lt, length, slice_get}
 use Rattle.raft_log_record_base.specs.declared.pipe_log.LogQueue.{LogQueue}
 use Rattle.raft_log_record_base.specs.declared.pipe_log.LogQueue.TheVariants.{Append, Rewrite}
@@ -10,60 +10,65 @@ use Rattle.raft_log_memtable_index.specs.Noted.{file_at, noting, place_file, sta
 use Rattle.raft_log_memtable_index.specs.LeastFiles.{least_value, lesser, IsLeastValue}
 use Rattle.raft_log_memtable.specs.Table.{shown, Raw}
 
--- the file of a queue's first entry in what is shown
+-- the file of a table's first entry in `queue`, if it has one there
 abbrev pub first_file : LogQueue → Shown → Option ℕ
 first_file Append v = option_map (λ p. p.file) (slice_get v.places v.rewritten)
 first_file Rewrite v =
     if nat_lt 0 v.rewritten then option_map (λ p. p.file) (slice_get v.places 0) else None
 
--- the file of a table's first entry in a queue
+-- the file of the first entry in `queue` for a table with these fields, if it has one there
 abbrev pub first_place : LogQueue → Raw → Option ℕ
 first_place queue t = first_file queue (shown t)
 
--- the least file of Rewrite that has something, if files don't fall along the entries
+-- The lowest file of Rewrite that has an entry or value of the table. This is right if file numbers never fall from
+-- one entry to the next.
 abbrev pub least_rewritten : Raw → Option ℕ
 least_rewritten t = lesser (first_place Rewrite t) (least_value false t.keys)
 
--- the least file of a queue in use; for Rewrite the first file of the noted groups, if they may reach to it
+-- The lowest file of `queue` that the table needs. For Rewrite, it is the first file of the recorded atomic groups,
+-- if these may reach to its lowest entry or value.
 abbrev pub min_file : LogQueue → Raw → Option ℕ
 min_file Append t = lesser (first_place Append t) (least_value true t.keys)
 min_file Rewrite t = option_map (λ n. start_of n t.noted) (least_rewritten t)
 
--- this is the least file of Rewrite that has something, if files don't fall along the entries: that of the first entry,
--- or the least of a value
+-- `least` is the file of the first entry in Rewrite, or the lowest file of a value there, whichever is lower.
 abbrev pub IsLeastRewritten : Shown → Option ℕ → Type 0
 IsLeastRewritten v least =
     (value : Option ℕ) × IsLeastValue false v.held value × (least ≡ lesser (first_file Rewrite v) value)
 
--- this is the least file of a queue in use; for Rewrite the first file of the noted groups, if they may reach to it
+-- `file` is the lowest file of the queue that the table needs. For Rewrite, it is the first file of the recorded
+-- atomic groups, if these may reach to its lowest entry or value.
 abbrev pub IsMinFile : LogQueue → Shown → Option ℕ → Type 0
 IsMinFile Append v file =
     (value : Option ℕ) × IsLeastValue true v.held value × (file ≡ lesser (first_file Append v) value)
 IsMinFile Rewrite v file =
     (least : Option ℕ) × IsLeastRewritten v least × (file ≡ option_map (λ n. start_of n v.noted) least)
 
--- the note once a new group has ended, if `least` is the least file of Rewrite that has something
+-- the files of atomic groups to record after a group in the files `new` ended, if `least` is the lowest file of
+-- Rewrite in use
 abbrev pub noted_after : Option ℕ → Option GroupFiles → GroupFiles → GroupFiles
 noted_after None old new = new
 noted_after (Some least) old new = noting least old new
 
--- what is shown once an atomic group in these files has ended and is noted
+-- the table after it recorded an atomic group in these files
 abbrev pub with_group : Raw → GroupFiles → Shown
 with_group t files = record (shown t) { noted = Some (noted_after (least_rewritten t) t.noted files) }
 
--- an atomic group in these files has ended and is noted, by the least file of Rewrite that has something
+-- `u` is the table `v` after it recorded an atomic group in these files. Files recorded before are dropped if nothing
+-- of Rewrite is in them.
 abbrev pub NotesGroup : GroupFiles → Shown → Shown → Type 0
 NotesGroup files v u =
     (least : Option ℕ) × IsLeastRewritten v least
     × (u ≡ record v { noted = Some (noted_after least v.noted files) })
 
--- what was read of a group, once an atomic group in these files was read too: they are noted with those that were noted
--- before
+-- The result of a replay, after an atomic group in these files was read: they are recorded in addition to the old
+-- ones.
 abbrev pub with_read_group : Replayed → GroupFiles → Replayed
 with_read_group z files =
     record z { table = record z.table { noted = both_noted z.table.noted (Some files) } }
 
--- no entry of a queue is in an earlier file than the first one there, as it is if files don't fall along the entries
+-- In each queue, no entry is in a lower file than the first entry there. This holds if file numbers never fall from
+-- one entry to the next.
 abbrev pub FrontIsLeast : Shown → Type 0
 FrontIsLeast v =
     ((i : ℕ) → v.first ≤ i → i < v.first + v.rewritten
@@ -71,13 +76,13 @@ FrontIsLeast v =
     × ((i : ℕ) → v.first + v.rewritten ≤ i → i < v.first + length v.places
     → place_file (slice_get v.places v.rewritten) ≤ file_at v (Index i))
 
--- no appended entry and no appended value is in a file below this one
+-- no entry or value in Append is in a file below `least`
 abbrev pub IsLeastInAppend : Shown → ℕ → Type 0
 IsLeastInAppend v least =
     ((i : ℕ) → v.first + v.rewritten ≤ i → i < v.first + length v.places → least ≤ file_at v (Index i))
     × ((k : List ℕ) (h : KeyValue) → v.held k ≡ Some h → h.appended ≡ true → least ≤ h.file)
 
--- the noted groups begin past that file, or end at or before it
+-- the recorded atomic groups begin after file `n`, or end at or before it
 abbrev pub ArePast : ℕ → Option GroupFiles → Type 0
 ArePast n None = Unit {0}
 ArePast n (Some files) = (n < files.from) ⊎ (files.to ≤ n)

@@ -13,15 +13,15 @@ use Rattle.raft_log_extents.specs.Entries.{entry_of, queue_of}
 use Rattle.raft_log_memtable_index.specs.Shown.{Shown}
 use Rattle.raft_log_memtable_index.specs.Listing.{rewritten_values, ListsAll}
 
--- the first index, if there are entries
+-- the first index, if the table has entries
 abbrev pub first_of : Shown → Option ℕ
 first_of v = if nat_lt 0 (length v.places) then Some v.first else None
 
--- the last index, if there are entries
+-- the last index, if the table has entries
 abbrev pub last_of : Shown → Option ℕ
 last_of v = if nat_lt 0 (length v.places) then Some (v.first + (length v.places - 1)) else None
 
--- the entry at an index, if there is one
+-- the entry at index `i`, with its place and queue, if the table has it
 abbrev pub entry_at : Shown → ℕ → Option EntryIndex
 entry_at v i =
     if nat_le v.first i
@@ -29,23 +29,24 @@ entry_at v i =
     (slice_get v.places (i - v.first))
     else None
 
--- the entries at these places, from a position in the table on
+-- the entries at these places, which begin at position `n` in the table, with their indexes and queues
 abbrev pub entries_from : Shown → ℕ → List Place → List EntryIndex
 entries_from v n [] = []
 entries_from v n (p ∷ ps) =
     entry_of (queue_of (nat_lt n v.rewritten)) (v.first + n) p ∷ entries_from v (n + 1) ps
 
--- the places of the indexes from begin on, below end
+-- the places of the entries from index `begin` on, below `end`
 abbrev pub places_between : Shown → ℕ → ℕ → List Place
 places_between v begin end = take (end - begin) (drop (begin - v.first) v.places)
 
--- the entries from begin on, below end, up to the greatest size
+-- the entries from index `begin` on, below `end`: always the first, and more as long as their total length is at most
+-- `max`
 abbrev pub fetched : Shown → ℕ → ℕ → Option ℕ → List EntryIndex
 fetched v begin end max =
     entries_from v (begin - v.first)
     (take (sized max (places_between v begin end)) (places_between v begin end))
 
--- the entries in Append from the first on, up to the first in a file past the gate
+-- the entries in Append, up to the first one in a file past the gate
 abbrev pub appended_entries : Shown → ℕ → List EntryIndex
 appended_entries v gate =
     entries_from v v.rewritten (take (passing gate (drop v.rewritten v.places)) (drop v.rewritten v.places))
@@ -54,27 +55,29 @@ appended_entries v gate =
 abbrev pub rewritten_entries : Shown → List EntryIndex
 rewritten_entries v = entries_from v 0 (take v.rewritten v.places)
 
--- the place is in a file of this queue up to the gate
+-- whether there is a place, and its file in this queue is at most `gate` in the order of files
 abbrev pub is_up_to : FileId → LogQueue → Option Place → Bool
 is_up_to gate queue None = false
 is_up_to gate queue (Some p) = is_le (file_cmp (record { queue = queue; seq = p.file }) gate)
 
--- there are this many entries, and the last of these is in a file up to the gate
+-- whether the table has `n` entries, and the last of these is in a file up to `gate`; true if `n` is 0
 abbrev pub has_before : Shown → FileId → ℕ → Bool
 has_before v gate zero = true
 has_before v gate (suc n) = is_up_to gate (queue_of (nat_lt n v.rewritten)) (slice_get v.places n)
 
--- these entries are appended to the old ones, and this is how many
+-- The call appended the entries from index `begin` on, below `end`, to `old`, as far as `max` allows, and returned
+-- their number `count`.
 abbrev pub Fetches : Shown → ℕ → ℕ → Option ℕ → List EntryIndex → List EntryIndex → ℕ → Type 0
 Fetches v begin end max old new count =
     (new ≡ old ++ fetched v begin end max) × (count ≡ sized max (places_between v begin end))
 
--- the indexes from begin on, below end, are those of entries that the table has
+-- the table has an entry at each index from `begin` on, below `end`
 abbrev pub AreIn : Shown → ℕ → ℕ → Type 0
 AreIn v begin end = begin < end → (v.first ≤ begin) × (end ≤ v.first + length v.places)
 
--- why a fetch fails: there are no entries, the first is compacted away, the last isn't there, or memory ran out; it
--- never fails if the range is empty
+-- Why reading entries from `begin` on, below `end`, fails. The table has no entries, or none at the last of these
+-- indexes: `EntryNotFound`. The first was compacted away: `EntryCompacted`. Or memory ran out. Reading an empty range
+-- never fails.
 abbrev pub FetchRefused : Shown → ℕ → ℕ → Error → Type 0
 FetchRefused v begin end error =
     (begin < end)

@@ -1,4 +1,4 @@
--- Runs and segments that are put over what a table has.
+-- Runs and segments that are applied to a table.
 use Rattle.std.specs.Prelude.{◌≡◌, ℕ, ◌-◌, ◌≤◌, ◌⊎◌, min, Bool, true, false, not, ◌&&◌, [], length, take, if◌then◌else◌, nat_lt}
 use Rattle.raft_log_record_base.specs.declared.errors.Error.{Error}
 use Rattle.raft_log_record_base.specs.declared.errors.Error.TheVariants as errors
@@ -15,7 +15,8 @@ abbrev pub in_append : LogQueue → Bool
 in_append Append = true
 in_append Rewrite = false
 
--- what stays if a run begins at this index: the entries below it, or none if it leaves a hole
+-- What a run from index `f` on leaves of the table's entries: those below `f`. If the run begins past their end, it
+-- leaves none.
 abbrev pub under : Shown → ℕ → Shown
 under v f =
     if is_past (span v) f then record v { first = f; places = []; rewritten = 0 }
@@ -25,21 +26,23 @@ under v f =
       rewritten = min v.rewritten (f - v.first);
     }
 
--- the first index of the entries if nothing is before them: 0 without entries, but unchanged after a Clean
+-- The first index of the entries if nothing is before them. Without entries it is 0, unless a Clean is owed; then it
+-- is unchanged.
 abbrev pub begin_alone : Shown → ℕ
 begin_alone v = if v.cleaned then v.first else (if nat_lt 0 (length v.places) then v.first else 0)
 
--- whether a later segment's run, which is in Append, starts past the end of what it leaves
+-- whether the entries of a later segment are in Append and begin past the end of the entries that it leaves of `v`
 abbrev pub leaves_hole : Shown → Replayed → Bool
 leaves_hole v z =
     nat_lt 0 (length z.table.places)
     && (not (nat_lt 0 z.table.rewritten) && is_past (span (left v z.low z.high)) z.table.first)
 
--- why a later segment isn't joined: `Hole` if and only if it leaves a hole, else `Memory`
+-- Why a later segment isn't joined to a table. The error is `Hole` if and only if the segment's entries leave a hole.
+-- Otherwise it is `Memory`.
 abbrev pub MergeRefused : Shown → Replayed → Error → Type 0
 MergeRefused v z error =
     ((error ≡ errors.Hole) × LeavesHole v z) ⊎ ((error ≡ errors.Memory) × (LeavesHole v z → ⊥))
 
--- there is room for what the other table has
+-- table `t` has reserved places for all entries of `u`, and has a slot for each key that has one in `u`
 abbrev pub HasTableRoom : Raw → Raw → Type 0
 HasTableRoom t u = (length u.places.items ≤ t.places.wanted) × HasKeyRoomFor (keys_of t.keys) (keys_of u.keys)

@@ -1,4 +1,4 @@
--- What a table promised to a batch before the write, and when it is ready for the batch.
+-- What a table reserves for a batch before the batch is written, and when it is ready to apply the batch.
 use Rattle.std.specs.Prelude.{◌≡◌, ℕ, ◌+◌, ◌-◌, ◌≤◌, Bool, true, false, List, [], ◌∷◌, length, is_some}
 use Rattle.raft_log_model_laws.specs.Item.{Item}
 use Rattle.raft_log_model_laws.specs.Item.Item.{Run, Clean, Compact, Put, Del}
@@ -6,53 +6,53 @@ use Rattle.raft_log_model_laws.specs.Holes.{Window}
 use Rattle.raft_log_machine_laws.specs.Whereabouts.{with_key}
 use Rattle.raft_log_memtable_index.specs.Shown.{Shown, nothing_shown, span, next_span, MayFollow, MayAllFollow}
 
--- room for more places, and for entries to move into Rewrite; the ends of the entries once all that was prepared is
--- done; and the keys that have room
+-- What a table reserved. `wanted` is how many more places it can take, and `moves` how many entries can move into
+-- Rewrite. `ends` is the range of its indexes after everything that is reserved. `has` is the keys with a slot.
 pub record Promise : Type 0 where
   pub wanted : ℕ
   pub moves : ℕ
   pub ends : Window
   pub has : List ℕ → Bool
 
--- this key has room too
+-- the reservation after key `k` got a slot
 abbrev pub with_room_for : Promise → List ℕ → Promise
 with_room_for q k = record q { has = with_key q.has k true }
 
--- n more entries may move
+-- the reservation for `n` more moves of entries into Rewrite
 abbrev pub with_moves : Promise → ℕ → Promise
 with_moves q n = record q { moves = q.moves + n }
 
--- n fewer entries may move
+-- the reservation after `n` of the moves were made
 abbrev pub without_moves : Promise → ℕ → Promise
 without_moves q n = record q { moves = q.moves - n }
 
--- a key has room if it has a value, and else none
+-- the reservation where only keys with a value have a slot
 abbrev pub with_room_of : Promise → Shown → Promise
 with_room_of q v = record q { has = λ k. is_some (v.held k) }
 
--- no places are promised and no moves, and the ends are these
+-- the reservation for no places and no moves, with the range `w`
 abbrev pub taken_back : Promise → Window → Promise
 taken_back q w = record q { wanted = 0; moves = 0; ends = w }
 
--- no places are promised and no moves
+-- nothing is reserved for places or moves
 abbrev pub IsForgotten : Promise → Type 0
 IsForgotten q = (q.wanted ≡ 0) × (q.moves ≡ 0)
 
--- nothing is promised
+-- the reservation of a new table: nothing
 abbrev pub no_promise : Promise
 no_promise = record { wanted = 0; moves = 0; ends = record { first = 0; end = 0 }; has = λ k. false }
 
--- a table like a new one: no entries, values or tombstones, no noted files, and nothing promised
+-- the table is as a new one: no entries, values, tombstones or recorded files, and nothing is reserved
 abbrev pub IsVacant : Shown → Promise → Type 0
 IsVacant v q = (v ≡ nothing_shown) × (q ≡ no_promise)
 
 module _ {E V : Type 0} where
-  -- how many places the item needs
+  -- how many places the item needs: one for each of its entries
   abbrev pub count_of : Item E V → ℕ
   count_of (Run f es) = length es
   count_of _ = 0
 
-  -- what is promised once the item was prepared too
+  -- the reservation, extended for one more item: for its places, its key's slot, and the range of indexes after it
   abbrev pub promised : Promise → Item E V → Promise
   promised q (Run f es) =
       record q { wanted = q.wanted + length es; ends = next_span {E = E} {V = V} q.ends (Run f es) }
@@ -61,38 +61,39 @@ module _ {E V : Type 0} where
   promised q (Put k v) = record q { has = with_key q.has k true }
   promised q (Del k) = record q { has = with_key q.has k true }
 
-  -- what is promised once the item was applied
+  -- the reservation that is left after the item was applied
   abbrev pub kept : Promise → Item E V → Promise
   kept q (Run f es) = record q { wanted = q.wanted - length es }
   kept q _ = q
 
-  -- the item's key has room
+  -- if the item puts or deletes a key, the key has a slot
   abbrev pub HasRoom : (List ℕ → Bool) → Item E V → Type 0
   HasRoom has (Put k v) = has k ≡ true
   HasRoom has (Del k) = has k ≡ true
   HasRoom has _ = Unit {0}
 
-  -- applying the item can't fail
+  -- Applying the item can't fail: enough places are reserved, its key has a slot, and its run leaves no hole and no
+  -- index too high.
   abbrev pub CanTake : Shown → Promise → Item E V → Type 0
   CanTake v q x = (count_of x ≤ q.wanted) × HasRoom q.has x × MayFollow (span v) x
 
-  -- how many places the items need
+  -- how many places these items need in total
   abbrev pub needs : List (Item E V) → ℕ
   needs [] = 0
   needs (x ∷ xs) = count_of x + needs xs
 
-  -- the keys of all items have room
+  -- every key that these items put or delete has a slot
   abbrev pub AllHave : (List ℕ → Bool) → List (Item E V) → Type 0
   AllHave has [] = Unit {0}
   AllHave has (x ∷ xs) = HasRoom has x × AllHave has xs
 
-  -- the ends after the items
+  -- the range of the indexes after these items
   abbrev pub span_after : Window → List (Item E V) → Window
   span_after w [] = w
   span_after w (x ∷ xs) = span_after (next_span w x) xs
 
-  -- the table is ready for the items, one after another: there is room for their places and keys, none leaves a hole or
-  -- ends too high, and the promised ends are those after them
+  -- The table can take all these items, one after another. Places and slots are reserved. No run leaves a hole or an
+  -- index too high, and the reserved range is the one after the items.
   pub record IsReady (v : Shown) (q : Promise) (xs : List (Item E V)) : Type 0 where
     pub room : needs xs ≤ q.wanted
     pub keys : AllHave q.has xs

@@ -1,4 +1,4 @@
--- The fields of a table, what it shows in contracts, and what it promises.
+-- The fields of a table, what callers see of it, and what it has reserved.
 use Rattle.std.specs.Prelude.{◌≡◌, ℕ, ◌⊎◌, Bool, false, List, length, Option, None}
 use Rattle.raft_log_record_base.specs.declared.errors.Error.{Error}
 use Rattle.raft_log_record_base.specs.declared.errors.Error.TheVariants as errors
@@ -13,7 +13,7 @@ use Rattle.raft_log_memtable_index.specs.declared.key_map.KeySlot.{KeySlot}
 use Rattle.raft_log_memtable_index.specs.Keys.{keys_of, no_keys}
 use Rattle.raft_log_memtable.specs.Room.{Promise}
 
--- a table with its room
+-- The fields of a table: what it holds, what it reserved, and what a replay keeps.
 pub record Raw : Type 0 where
   pub first : ℕ
   pub places : PlaceList
@@ -26,11 +26,11 @@ pub record Raw : Type 0 where
   pub low : ℕ
   pub high : Option ℕ
 
--- two ends as a window of the model
+-- the two ends as a range of the log model
 abbrev pub window_of : Ends → Window
 window_of e = record { first = e.first; end = e.end }
 
--- what a table shows: all but its room
+-- what callers see of a table: everything but its reservations
 abbrev pub shown : Raw → Shown
 shown t = record {
   first = t.first;
@@ -43,19 +43,19 @@ shown t = record {
   noted = t.noted;
 }
 
--- the number of runs that keep the places of a table's entries
+-- the number of runs in which a table stores the places of its entries
 abbrev pub runs_of : Raw → ℕ
 runs_of t = t.places.runs
 
--- what was read from segments into a table
+-- the result of the replay that made this table
 abbrev pub replay_of : Raw → Replayed
 replay_of t = record { table = shown t; low = t.low; high = t.high }
 
--- what was read leaves the same of the entries before it
+-- both tables leave the same of the entries before them, in a replay
 abbrev pub IsBoundAs : Raw → Raw → Type 0
 IsBoundAs t u = (u.low ≡ t.low) × (u.high ≡ t.high)
 
--- what a table promised
+-- what a table has reserved
 abbrev pub promise : Raw → Promise
 promise t = record {
   wanted = t.places.wanted;
@@ -64,21 +64,22 @@ promise t = record {
   has = (keys_of t.keys).has;
 }
 
--- why a run isn't applied to entries with these ends: `Hole` if and only if it leaves a hole, else `Memory`
+-- Why a run isn't applied to entries with the range `w`. The error is `Hole` if and only if the run leaves a hole or
+-- an index too high. Otherwise it is `Memory`.
 abbrev pub RunRefused : {E V : Type 0} → Window → Item E V → Error → Type 0
 RunRefused w x error =
     ((error ≡ errors.Hole) × (MayFollow w x → ⊥)) ⊎ ((error ≡ errors.Memory) × MayFollow w x)
 
--- a table has no entries, no values, and no keys with room
+-- the table has no entries, no values, no slots and no owed Dels
 abbrev pub StandsEmpty : Raw → Type 0
 StandsEmpty t =
     (t.first ≡ 0) × (t.rewritten ≡ 0) × (length t.places.items ≡ 0) × (keys_of t.keys ≡ no_keys)
 
--- a table owes neither a Clean nor a Compact, and notes no files
+-- the table owes neither a Clean nor a Compact, and has no recorded files of atomic groups
 abbrev pub OwesNothing : Raw → Type 0
 OwesNothing t = (t.cleaned ≡ false) × (t.compacted ≡ false) × (t.noted ≡ None)
 
--- a table promises no places and no moves, and the promised ends are those of an empty table
+-- nothing is reserved for places or moves, and the reserved range is empty, as in a new table
 abbrev pub PromisesNothing : Raw → Type 0
 PromisesNothing t =
     (t.ahead.first ≡ 0) × (t.ahead.end ≡ 0) × (t.places.wanted ≡ 0) × (t.places.moves ≡ 0)

@@ -1,5 +1,5 @@
--- The meaning of a table's places, if the bytes at each place are known, and the steps of the machine that a table's
--- changes are.
+-- What a table represents if the bytes at each place are known. How a table changes if its entries or values are
+-- copied into Rewrite.
 use Rattle.std.specs.Prelude.{◌≡◌, ℕ, zero, suc, ◌+◌, ◌-◌, ◌≤◌, ◌⊎◌, Bool, true, false, List, [], ◌∷◌, ◌++◌, map, length, take, drop, Option, Some, None, option_map, if◌then◌else◌, nat_lt, bytes_eq}
 use Rattle.raft_log_model_laws.specs.Item.{Item}
 use Rattle.raft_log_model_laws.specs.Item.Item.{Run, Clean, Compact, Put, Del}
@@ -10,27 +10,28 @@ use Rattle.raft_log_machine_laws.specs.Whereabouts.{top}
 use Rattle.raft_log_extents.specs.declared.place.Place.{Place}
 use Rattle.raft_log_memtable_index.specs.Shown.{KeyValue, Shown, with_held}
 
--- a place in a queue: Append, or else Rewrite
+-- a place and its queue: Append if `appended` is true, else Rewrite
 pub record Located : Type 0 where
   pub appended : Bool
   pub place : Place
 
--- the place in that queue
+-- the place `p` in Append if the flag is true, else in Rewrite
 abbrev pub in_queue : Bool → Place → Located
 in_queue appended p = record { appended = appended; place = p }
 
--- the places with their queue: the first n are in Rewrite
+-- the places with their queue: as many as the first argument says, from the front, are in Rewrite, the others in
+-- Append
 abbrev pub located : ℕ → List Place → List Located
 located zero ps = map (in_queue true) ps
 located (suc n) [] = []
 located (suc n) (p ∷ ps) = in_queue false p ∷ located n ps
 
--- the bytes of a value
+-- the bytes of a value, if there is one
 abbrev pub bytes_held : Option KeyValue → Option (List ℕ)
 bytes_held None = None
 bytes_held (Some h) = Some h.bytes
 
--- the table as one of the model, with places as entries
+-- the table in the form of the log model: its entries are places with their queue, and its values are bytes
 abbrev pub table_of : Shown → Table Located (List ℕ)
 table_of v = record {
   first = v.first;
@@ -38,52 +39,56 @@ table_of v = record {
   values = λ k. bytes_held (v.held k);
 }
 
--- what the item of places says, if these are the bytes at each place
+-- the item with the entries that it writes in Append, if `at` gives the bytes at each place
 abbrev pub written : {E : Type 0} → (Located → E) → Item Place (List ℕ) → Item E (List ℕ)
 written at x = renamed (λ p. at (in_queue true p)) x
 
--- the table means the map m, if these are the bytes at each place
+-- The table represents the contents `m` of its group: in each slot, `m` has what the table has, if `at` gives the
+-- bytes at each place.
 abbrev pub IsMeant : {E : Type 0} → (Located → E) → Shown → (Slot → Option (Content E (List ℕ))) → Type 0
 IsMeant at v m = (s : Slot) → option_map (renamed_content at) (content (table_of v) s) ≡ m s
 
--- the bytes of `count` entries from an index on
+-- the bytes of `count` entries of the table, from index `f` on, if `at` gives the bytes at each place
 abbrev pub read : {E : Type 0} → (Located → E) → Shown → ℕ → ℕ → List E
 read at v f count = map at (take count (drop (f - v.first) (located v.rewritten v.places)))
 
--- a copy in Rewrite: entries from an index on are now at these places, or the key is in this file
+-- One copy into Rewrite. `MoveRun` copies entries from an index on to new places, and `MoveKey` the value of a key
+-- into a file.
 pub data Move : Type 0 where
   MoveRun : ℕ → List Place → Move
   MoveKey : List ℕ → ℕ → Move
 
--- the entries from an index on, and all below, are in Rewrite: these at these places
+-- The table after a copy of entries from index `f` on to the places `ps` in Rewrite. All entries before these are in
+-- Rewrite too.
 abbrev pub moved_run : Shown → ℕ → List Place → Shown
 moved_run v f ps = record v {
   places = take (f - v.first) v.places ++ (ps ++ drop ((f - v.first) + length ps) v.places);
   rewritten = (f - v.first) + length ps;
 }
 
--- the value in this file of Rewrite
+-- the value in file `n` of Rewrite, if there is one
 abbrev pub rewritten_value : ℕ → Option KeyValue → Option KeyValue
 rewritten_value n None = None
 rewritten_value n (Some h) = Some (record { bytes = h.bytes; appended = false; file = n })
 
--- the key is in this file of Rewrite
+-- the table after the value of key `k` was copied into file `n` of Rewrite
 abbrev pub moved_key : Shown → List ℕ → ℕ → Shown
 moved_key v k n = record v { held = with_held v.held k (rewritten_value n (v.held k)) }
 
--- the table after a copy
+-- the table after one copy
 abbrev pub moved : Shown → Move → Shown
 moved v (MoveRun f ps) = moved_run v f ps
 moved v (MoveKey k n) = moved_key v k n
 
--- the table after more copies
+-- the table after these copies, one after another
 abbrev pub all_moved : Shown → List Move → Shown
 all_moved v [] = v
 all_moved v (x ∷ xs) = all_moved (moved v x) xs
 
--- A copy may be made. A run begins at a rewritten entry or the first appended one, and reaches to the last rewritten
--- one. It passes that only if neither a Clean nor a Compact is owed; its bytes are those that were read. A key has a
--- value, and if that is in Append, neither a Clean nor the key's Del is owed
+-- The copy is allowed. A run starts at an entry of Rewrite or right after them, and ends at or after the last of
+-- them. It may go on into Append only if the table owes neither a Clean nor a Compact. The bytes at the new places
+-- are those at the old ones. A key must have a value. If the value is in Append, the table must owe neither a Clean
+-- nor the Del of this key.
 abbrev pub CanMove : {E : Type 0} → (Located → E) → Shown → Move → Type 0
 CanMove at v (MoveRun f ps) =
     (v.first ≤ f) × (f ≤ v.first + v.rewritten) × (v.first + v.rewritten ≤ f + length ps)
@@ -94,51 +99,52 @@ CanMove at v (MoveKey k n) =
     (h : KeyValue) × (v.held k ≡ Some h)
     × (h.appended ≡ true → (v.cleaned ≡ false) × (v.deleted k ≡ false))
 
--- the copies may be made, one after another
+-- each copy is allowed after those before it
 abbrev pub CanAllMove : {E : Type 0} → (Located → E) → Shown → List Move → Type 0
 CanAllMove at v [] = Unit {0}
 CanAllMove at v (x ∷ xs) = CanMove at v x × CanAllMove at (moved v x) xs
 
--- the item of a copied key: a put of its value
+-- the item that copies key `k`: a put of its value, or nothing if it has none
 abbrev pub item_of_key : {E : Type 0} → List ℕ → Option KeyValue → Item E (List ℕ)
 item_of_key k None = Run 0 []
 item_of_key k (Some h) = Put k h.bytes
 
--- the item of one copy
+-- the item that one copy writes
 abbrev pub item_of : {E : Type 0} → (Located → E) → Shown → Move → Item E (List ℕ)
 item_of at v (MoveRun f ps) = Run f (map (λ p. at (in_queue false p)) ps)
 item_of at v (MoveKey k n) = item_of_key k (v.held k)
 
--- the items of the copies
+-- the items that these copies write, one after another
 abbrev pub items_of : {E : Type 0} → (Located → E) → Shown → List Move → List (Item E (List ℕ))
 items_of at v [] = []
 items_of at v (x ∷ xs) = item_of at v x ∷ items_of at (moved v x) xs
 
--- a Del for each key
+-- a Del for each of these keys
 abbrev pub dels : {E : Type 0} → List (List ℕ) → List (Item E (List ℕ))
 dels [] = []
 dels (k ∷ ks) = Del k ∷ dels ks
 
--- the Compact that is owed: up to the first entry if there are rewritten ones, else of all
+-- The Compact that the table owes, if any. It deletes the indexes below the table's first entry if some entries are
+-- in Rewrite, else all.
 abbrev pub compact_owed : {E : Type 0} → Shown → List (Item E (List ℕ))
 compact_owed v =
     if v.compacted then Compact (if nat_lt 0 v.rewritten then v.first else top) ∷ [] else []
 
--- the tombstones that are owed, the Clean first, with Dels of these keys
+-- the tombstones that the table owes to Rewrite, with a Del for each key in `ks`: the Clean first, then the Compact
 abbrev pub marks : {E : Type 0} → Shown → List (List ℕ) → List (Item E (List ℕ))
 marks v ks = (if v.cleaned then Clean ∷ [] else []) ++ (compact_owed v ++ dels ks)
 
--- the Del of each key is owed, each of them once
+-- `deleted` is true for each of these keys, and none of them comes twice
 abbrev pub AllOwed : (List ℕ → Bool) → List (List ℕ) → Type 0
 AllOwed deleted [] = Unit {0}
 AllOwed deleted (k ∷ ks) =
     (deleted k ≡ true) × AllOwed (λ j. if bytes_eq k j then false else deleted j) ks
 
--- the test without the keys
+-- `deleted`, changed to false for each of these keys
 abbrev pub without : (List ℕ → Bool) → List (List ℕ) → List ℕ → Bool
 without deleted [] = deleted
 without deleted (k ∷ ks) = without (λ j. if bytes_eq k j then false else deleted j) ks
 
--- no tombstone is owed any more
+-- the table after all its tombstones were written to Rewrite
 abbrev pub unmarked : Shown → Shown
 unmarked v = record v { cleaned = false; compacted = false; deleted = λ k. false }

@@ -1,4 +1,4 @@
--- The keys of a group in its table: values, keys deleted since tombstones were last written, and keys that have room.
+-- The keys of a group in its table: their values, the Dels that the table owes, and which keys have a slot.
 use Rattle.std.specs.Prelude.{◌≡◌, ℕ, Bool, true, false, ◌||◌, List, [], ◌∷◌, Option, Some, None, if◌then◌else◌, is_some, bytes_eq}
 use Rattle.std.specs.Option.{option_or}
 use Rattle.std.specs.Map.{lookup}
@@ -8,41 +8,41 @@ use Rattle.raft_log_memtable_index.specs.Bridge.{rewritten_value}
 use Rattle.raft_log_memtable_index.specs.declared.key_map.HeldValue.{HeldValue}
 use Rattle.raft_log_memtable_index.specs.declared.key_map.KeySlot.{KeySlot}
 
--- the state of each key
+-- For each key: its value, if any, and whether its Del is owed.
 pub record Keys : Type 0 where
   pub values : List ℕ → Option KeyValue
   pub deleted : List ℕ → Bool
-  -- keys with a slot: for them no more memory is needed
+  -- the keys with a slot: changing their value needs no allocation
   pub has : List ℕ → Bool
 
--- the value as contracts show it
+-- the value of a slot, in the form that contracts use
 abbrev pub value_of : HeldValue → KeyValue
 value_of h = record { bytes = h.bytes; appended = h.appended; file = h.file }
 
--- the value in a slot, if there is one
+-- the value of a slot, if it has one, in the form that contracts use
 abbrev pub shown_value : Option HeldValue → Option KeyValue
 shown_value None = None
 shown_value (Some h) = Some (value_of h)
 
--- the value in this file of Rewrite
+-- the value in file number `file` of Rewrite
 abbrev pub rewritten_held : ℕ → HeldValue → HeldValue
 rewritten_held file h = record { bytes = h.bytes; appended = false; file = file }
 
--- the value of the key with this slot
+-- the value of a key with this slot, or with none
 abbrev pub held_in : Option KeySlot → Option KeyValue
 held_in None = None
 held_in (Some slot) = shown_value slot.held
 
--- whether the key of this slot has a tombstone
+-- whether the Del of a key with this slot is owed
 abbrev pub deleted_in : Option KeySlot → Bool
 deleted_in None = false
 deleted_in (Some slot) = slot.deleted
 
--- the slot of a key
+-- the slot of key `k`, if it has one
 abbrev pub slot_at : List (List ℕ × KeySlot) → List ℕ → Option KeySlot
 slot_at slots k = lookup (bytes_eq k) slots
 
--- the keys that slots mean
+-- the keys that these slots represent
 abbrev pub keys_of : List (List ℕ × KeySlot) → Keys
 keys_of slots = record {
   values = λ k. held_in (slot_at slots k);
@@ -50,31 +50,31 @@ keys_of slots = record {
   has = λ k. is_some (slot_at slots k);
 }
 
--- no key has a value, a tombstone or room
+-- no key has a value or a slot, and no Del is owed
 abbrev pub no_keys : Keys
 no_keys = record { values = λ k. None; deleted = λ k. false; has = λ k. false }
 
--- the key has room
+-- the keys after `k` got a slot
 abbrev pub with_room : Keys → List ℕ → Keys
 with_room ks k = record ks { has = with_key ks.has k true }
 
--- the key has this value, or none
+-- the keys after `k` got this value, or lost its value
 abbrev pub with_value : Keys → List ℕ → Option KeyValue → Keys
 with_value ks k value = record ks { values = with_held ks.values k value }
 
--- the key's value, if it has one, is in this file of Rewrite
+-- the keys after the value of `k`, if it has one, was moved to file number `file` of Rewrite
 abbrev pub with_rewritten : Keys → List ℕ → ℕ → Keys
 with_rewritten ks k file = with_value ks k (rewritten_value file (ks.values k))
 
--- the key has no value, and has a tombstone
+-- the keys after `k` lost its value, and its Del became owed
 abbrev pub with_mark : Keys → List ℕ → Keys
 with_mark ks k = record ks { values = with_held ks.values k None; deleted = with_key ks.deleted k true }
 
--- no key has a value
+-- the keys without any value
 abbrev pub emptied : Keys → Keys
 emptied ks = record ks { values = λ k. None }
 
--- no key has a value, and only keys with tombstones have room
+-- the keys without any value, where only the keys whose Del is owed keep a slot
 abbrev pub cleared_keys : Keys → Keys
 cleared_keys ks = record ks { values = λ k. None; has = ks.deleted }
 
@@ -82,37 +82,38 @@ cleared_keys ks = record ks { values = λ k. None; has = ks.deleted }
 abbrev pub HasNoValue : Keys → Type 0
 HasNoValue ks = ks.values ≡ (λ k. None)
 
--- the keys that have room are those with tombstones
+-- a key has a slot if and only if its Del is owed
 abbrev pub HasMarksAlone : Keys → Type 0
 HasMarksAlone ks = ks.has ≡ ks.deleted
 
--- if no key may have a value, none has one; if no key may have room without a tombstone, none has it
+-- If `valued` is false, no key has a value. If `spare` is false, a key has a slot only if its Del is owed.
 abbrev pub MaySkip : Bool → Bool → Keys → Type 0
 MaySkip valued spare ks = (valued ≡ false → HasNoValue ks) × (spare ≡ false → HasMarksAlone ks)
 
--- no key has a tombstone
+-- the keys after all owed Dels were written
 abbrev pub unmarked_keys : Keys → Keys
 unmarked_keys ks = record ks { deleted = λ k. false }
 
--- no key has a tombstone, and only keys with values have room
+-- the keys after all owed Dels were written, where only keys with values keep a slot
 abbrev pub settled_keys : Keys → Keys
 settled_keys ks = record ks { deleted = λ k. false; has = λ k. is_some (ks.values k) }
 
--- a later value, if there is one
+-- the keys after `k` got a value that was read later, if there is one
 abbrev pub with_later : Keys → List ℕ → Option HeldValue → Keys
 with_later ks k None = ks
 with_later ks k (Some h) = with_value ks k (Some (value_of h))
 
--- the keys with a later slot of this key: with its tombstone, if it has one, and its value
+-- the keys after `k` was read later with this slot: its Del, if owed, applies first, then its value, if any
 abbrev pub with_slot : Keys → List ℕ → KeySlot → Keys
 with_slot ks k slot = with_later (if slot.deleted then with_mark ks k else ks) k slot.held
 
--- the keys with later slots, one after another
+-- the keys after these slots were read later, one after another
 abbrev pub with_slots : Keys → List (List ℕ × KeySlot) → Keys
 with_slots ks [] = ks
 with_slots ks (e ∷ es) = with_slots (with_slot ks e.0 e.1) es
 
--- the values and tombstones of later keys over those of earlier ones
+-- The keys of a segment, changed by those of a later segment: later values and Dels take precedence. The slots are
+-- those of the earlier one.
 abbrev pub joined_keys : Keys → Keys → Keys
 joined_keys ks later = record {
   values = λ k. option_or (later.values k) (if later.deleted k then None else ks.values k);
@@ -120,11 +121,11 @@ joined_keys ks later = record {
   has = ks.has;
 }
 
--- each of the later keys has room among the earlier ones
+-- each key with a slot in `later` has a slot in `ks` too
 abbrev pub HasKeyRoomFor : Keys → Keys → Type 0
 HasKeyRoomFor ks later = (k : List ℕ) → later.has k ≡ true → ks.has k ≡ true
 
--- each of these keys has room
+-- each key of these slots has a slot
 abbrev pub KeysHaveRoom : (List ℕ → Bool) → List (List ℕ × KeySlot) → Type 0
 KeysHaveRoom has [] = Unit {0}
 KeysHaveRoom has (e ∷ es) = (has e.0 ≡ true) × KeysHaveRoom has es

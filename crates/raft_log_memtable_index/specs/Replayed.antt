@@ -1,4 +1,5 @@
--- What is kept of a group while a segment of a queue is read, and how two segments are joined.
+-- What a replay of one segment keeps of a group, and how the results of two segments are combined. A segment here is
+-- several consecutive files of a queue that one worker reads.
 use Rattle.std.specs.Prelude.{◌≡◌, ℕ, ◌+◌, ◌-◌, ◌<◌, min, max, Bool, true, false, ◌&&◌, ◌||◌, List, [], ◌∷◌, ◌++◌, map, length, take, drop, Option, Some, None, if◌then◌else◌, nat_lt}
 use Rattle.std.specs.Option.{option_or}
 use Rattle.raft_log_model_laws.specs.Item.{Item}
@@ -12,20 +13,20 @@ use Rattle.raft_log_memtable_index.specs.declared.group_files.GroupFiles.{GroupF
 use Rattle.raft_log_memtable_index.specs.Shown.{IsOrderly, KeyValue, Shown, nothing_shown, span, whereabouts, with_clean, with_compact, with_del, with_held, with_run}
 use Rattle.raft_log_memtable_index.specs.Bridge.{Located, in_queue, located, unmarked}
 
--- The result of reading items: the table that they make, and what they leave of entries before them. Unless the items
--- have a Clean, they leave the entries from `low` on, below `high`: `low` is their greatest Compact index, `high` the
--- least start of their runs
+-- The result of replaying items of a group: the table that they make, and which earlier entries they leave. Unless
+-- there was a Clean, they leave the entries from `low` on, below `high`. `low` is the greatest index of a Compact,
+-- and `high` the least start of a run.
 pub record Replayed : Type 0 where
   pub table : Shown
   pub low : ℕ
   pub high : Option ℕ
 
--- nothing was read
+-- the result if no item was read
 abbrev pub nothing_replayed : Replayed
 nothing_replayed = record { table = nothing_shown; low = 0; high = None }
 
--- entries from an index on, of which the first `count` are in Rewrite, replace all entries at or above it; if they
--- would leave a hole, they replace all
+-- The table after a run from index `f` on, whose first `count` entries are in Rewrite. It replaces all entries from
+-- `f` on. If `f` is past the end of the entries, so that a hole would remain, it replaces all entries.
 abbrev pub run_over : Shown → ℕ → List Place → ℕ → Shown
 run_over v f ps count =
     if is_past (span v) f then record v { first = f; places = ps; rewritten = count }
@@ -35,7 +36,7 @@ run_over v f ps count =
       rewritten = min v.rewritten (f - v.first) + count;
     }
 
--- the table after an item that is read in file n of a queue: Append, or else Rewrite
+-- the table after an item was read in file `n`, of Append if `q` is true, else of Rewrite
 abbrev pub replay_step : Bool → ℕ → Shown → Item Place (List ℕ) → Shown
 replay_step q n v (Run f []) = v
 replay_step q n v (Run f (p ∷ ps)) =
@@ -46,18 +47,18 @@ replay_step q n v (Put k w) =
     record v { held = with_held v.held k (Some (record { bytes = w; appended = q; file = n })) }
 replay_step q n v (Del k) = with_del v k
 
--- the greatest Compact index with one more item
+-- the greatest index of a Compact, after one more item
 abbrev pub low_with : {E V : Type 0} → Item E V → ℕ → ℕ
 low_with (Compact c) low = max c low
 low_with _ low = low
 
--- the least start of a run with one more item
+-- the least start of a run, after one more item
 abbrev pub high_with : {E V : Type 0} → Item E V → Option ℕ → Option ℕ
 high_with (Run f []) high = high
 high_with (Run f (e ∷ es)) high = Some (least f high)
 high_with _ high = high
 
--- the result of reading, after one more item in file n of this queue
+-- the result after one more item was read in file `n`, of Append if `q` is true, else of Rewrite
 abbrev pub replayed : Bool → ℕ → Replayed → Item Place (List ℕ) → Replayed
 replayed q n z x = record {
   table = replay_step q n z.table x;
@@ -65,13 +66,13 @@ replayed q n z x = record {
   high = high_with x z.high;
 }
 
--- the entries below an index
+-- the table with only its entries below the index, if there is one
 abbrev pub below : Shown → Option ℕ → Shown
 below v None = v
 below v (Some h) =
     record v { places = take (h - v.first) v.places; rewritten = min v.rewritten (h - v.first) }
 
--- the entries from an index on, and below another
+-- the table with only its entries from `low` on, below `high`
 abbrev pub left : Shown → ℕ → Option ℕ → Shown
 left v low high =
     below
@@ -82,21 +83,21 @@ left v low high =
     })
     high
 
--- the entries that a later segment leaves, and its own over them
+-- the table's entries after a later segment without a Clean: those that the segment leaves, then its own
 abbrev pub with_entries : Shown → Replayed → Shown
 with_entries v z =
     if nat_lt 0 (length z.table.places)
     then run_over (left v z.low z.high) z.table.first z.table.places z.table.rewritten
     else left v z.low z.high
 
--- the files of the groups of both
+-- the least range of files that covers both
 abbrev pub both_noted : Option GroupFiles → Option GroupFiles → Option GroupFiles
 both_noted None new = new
 both_noted (Some old) None = Some old
 both_noted (Some old) (Some new) = Some (record { from = min old.from new.from; to = max old.to new.to })
 
--- a table with a later segment over it that has no Clean: its entries and keys over the others, and the tombstones of
--- both
+-- The table after a later segment without a Clean. Later entries and keys take precedence, and the tombstones of both
+-- are owed.
 abbrev pub with_newer : Shown → Replayed → Shown
 with_newer v z = record (with_entries v z) {
   held = λ k. option_or (z.table.held k) (if z.table.deleted k then None else v.held k);
@@ -106,23 +107,25 @@ with_newer v z = record (with_entries v z) {
   noted = both_noted v.noted z.table.noted;
 }
 
--- two segments of a queue, one after the other, as one: if the later one has a Clean, only it counts
+-- The result of two segments, one after the other. If the later one has a Clean, it is the later result alone.
 abbrev pub joined : Replayed → Replayed → Replayed
 joined a z =
     if z.table.cleaned then z
     else record { table = with_newer a.table z; low = max z.low a.low; high = lesser z.high a.high }
 
--- Append over Rewrite, whose tombstones are dropped
+-- The table that was read of Rewrite, with the result of Append applied. The tombstones of the first are dropped.
 abbrev pub merged : Shown → Replayed → Shown
 merged v z = if z.table.cleaned then z.table else with_newer (unmarked v) z
 
--- the later segment's run, which is in Append, starts past the end of the entries that it leaves
+-- The later segment has no Clean. Its entries are in Append, and begin past the end of the entries that it leaves of
+-- `v`.
 abbrev pub LeavesHole : Shown → Replayed → Type 0
 LeavesHole v z =
     (z.table.cleaned ≡ false) × (0 < length z.table.places) × (z.table.rewritten ≡ 0)
     × (is_past (span (left v z.low z.high)) z.table.first ≡ true)
 
--- the item as it was read in file n of a queue: each place with its queue, each value with its queue and file
+-- the item as it was read in file `n`, of Append if `q` is true, else of Rewrite: places with their queue, values
+-- with queue and file
 abbrev pub placed : Bool → ℕ → Item Place (List ℕ) → Item Located KeyValue
 placed q n (Run f ps) = Run f (map (in_queue q) ps)
 placed q n Clean = Clean
@@ -130,7 +133,7 @@ placed q n (Compact c) = Compact c
 placed q n (Put k w) = Put k (record { bytes = w; appended = q; file = n })
 placed q n (Del k) = Del k
 
--- the item with the bytes at its places, and its value
+-- the item with bytes, if `at` gives the bytes at each place
 abbrev pub told : {E : Type 0} → (Located → E) → Item Located KeyValue → Item E (List ℕ)
 told at (Run f ps) = Run f (map at ps)
 told at Clean = Clean
@@ -138,11 +141,11 @@ told at (Compact c) = Compact c
 told at (Put k h) = Put k h.bytes
 told at (Del k) = Del k
 
--- the table as one of the model, with places as entries, and values with their files
+-- the table in the form of the log model: its entries are places with their queue, its values have their files
 abbrev pub standing : Shown → Table Located KeyValue
 standing v = record { first = v.first; entries = located v.rewritten v.places; values = v.held }
 
--- what was read as a summary of the model
+-- the result of a replay in the form of the log model
 abbrev pub summary_of : Replayed → Summary Located KeyValue
 summary_of z = record {
   table = standing z.table;
@@ -152,12 +155,13 @@ summary_of z = record {
   deleted = z.table.deleted;
 }
 
--- all entries and values are in this queue: Append, or else Rewrite
+-- all entries and values of the table are in Append if `q` is true, else in Rewrite
 pub record AllStandsIn (q : Bool) (v : Shown) : Type 0 where
   pub entries : v.rewritten ≡ (if q then 0 else length v.places)
   pub values : (k : List ℕ) (h : KeyValue) → v.held k ≡ Some h → h.appended ≡ q
 
--- this is the result of reading these items of the queue: it says of each slot what they say, and has their tombstones
+-- `z` is the result of replaying the items `xs`, of Append if `q` is true, else of Rewrite. In each slot it has what
+-- they put there, and it owes their tombstones.
 pub record IsReplayed (q : Bool) (xs : List (Item Located KeyValue)) (z : Replayed) : Type 0 where
   pub summary : IsSummary (summary_of z) xs
   pub marks : HasMarks xs (whereabouts z.table)

@@ -1,4 +1,5 @@
--- A batch over all its groups: when it may follow, when the tables are ready for it, and how it changes them.
+-- A batch and the tables of all its groups: when it can be applied, what is reserved for it, and how it changes the
+-- tables.
 use Rattle.std.specs.Prelude.{◌≡◌, ℕ, ◌==◌, ◌||◌, ◌⊎◌, Bool, true, false, List, [], ◌∷◌, map}
 use Rattle.raft_log_record_base.specs.declared.errors.Error.{Error}
 use Rattle.raft_log_record_base.specs.declared.errors.Error.TheVariants as errors
@@ -15,58 +16,61 @@ use Rattle.raft_log_memtable.specs.Room.{Promise, kept, promised, IsForgotten, I
 use Rattle.raft_log_memtables.specs.declared.mem_tables.MemTables.{MemTables}
 use Rattle.raft_log_memtables.specs.Tables.{counts, shown_of, promise_of, has_table}
 
--- the items of each group may follow, one after another, if the tables show this
+-- in each group, the batch's items leave no hole and no index too high, if they are applied one after another
 abbrev pub MayFollowAll : {E V : Type 0} → (ℕ → Shown) → List (Tagged E V) → Type 0
 MayFollowAll v xs = (g : ℕ) → MayAllFollow (span (v g)) (of_group g xs)
 
--- each group of the items passes the test
+-- `test` is true for the group of each item
 abbrev pub GroupsPass : {E V : Type 0} → (ℕ → Bool) → List (Tagged E V) → Type 0
 GroupsPass test [] = Unit {0}
 GroupsPass test (x ∷ xs) = (test x.group ≡ true) × GroupsPass test xs
 
--- The items can be applied, and none of it can fail: each group has a table, which is ready for the items of the group
+-- The items can be applied, and this can't fail: each of their groups has a table, whose reservations suffice for the
+-- items of the group.
 pub record IsReadyFor {E V : Type 0} (m : MemTables) (xs : List (Tagged E V)) : Type 0 where
   pub tables : GroupsPass (has_table m) xs
   pub groups : (g : ℕ) → IsReady (shown_of m g) (promise_of m g) (of_group g xs)
 
--- the item may follow what its group promised; the group promised it too, and has a table
+-- The item was prepared. Its group has a table, where places and slots are now reserved for the item too. It leaves
+-- no hole and no index too high after what was prepared before. No other group got a table or another reservation.
 pub record IsPrepared {E V : Type 0} (old new : MemTables) (x : Tagged E V) : Type 0 where
   pub tables : (g : ℕ) → has_table new g ≡ (x.group == g) || has_table old g
   pub follows : MayFollow (promise_of old x.group).ends x.item
   pub promised : promise_of new x.group ≡ promised (promise_of old x.group) x.item
   pub others : (g : ℕ) → (x.group == g) ≡ false → promise_of new g ≡ promise_of old g
 
--- what is promised once all of these items were prepared too
+-- the reservation, extended for these items, one after another
 abbrev pub all_promised : {E V : Type 0} → Promise → List (Item E V) → Promise
 all_promised q [] = q
 all_promised q (x ∷ xs) = all_promised (promised q x) xs
 
--- whether an item of the group is among these
+-- whether one of these items is of group `g`
 abbrev pub speaks_of : {E V : Type 0} → ℕ → List (Tagged E V) → Bool
 speaks_of g [] = false
 speaks_of g (x ∷ xs) = (x.group == g) || speaks_of g xs
 
--- each group promised what its items need, in addition to all that it promised before; only the groups of the items got
--- a table, if they had none
+-- In each group, its items were prepared, in addition to what was reserved before. Groups of the items that had no
+-- table got one.
 pub record PromisesAll {E V : Type 0} (old new : MemTables) (xs : List (Tagged E V)) : Type 0 where
   pub tables : (g : ℕ) → has_table new g ≡ speaks_of g xs || has_table old g
   pub promises : (g : ℕ) → promise_of new g ≡ all_promised (promise_of old g) (of_group g xs)
 
--- what is promised once all of these items were applied
+-- the reservation that is left after these items were applied
 abbrev pub all_kept : {E V : Type 0} → Promise → List (Item E V) → Promise
 all_kept q [] = q
 all_kept q (x ∷ xs) = all_kept (kept q x) xs
 
--- what each group shows after the items, in file n of Append
+-- for each group, its table after the items were written to file `n` of Append
 abbrev pub all_shown : ℕ → (ℕ → Shown) → List (Tagged Place (List ℕ)) → ℕ → Shown
 all_shown n v xs g = all_stepped n (v g) (of_group g xs)
 
--- whether a group counts after the item: it does, unless the item cleans it
+-- whether a group counts after one item: it does, unless the item is a Clean
 abbrev pub counts_after : {E V : Type 0} → Bool → Item E V → Bool
 counts_after b Clean = false
 counts_after b x = true
 
--- the item, for which its group's table was ready, was applied in file n of Append
+-- The item was written to file `n` of Append, and applied to its group's table. The places that were reserved for it
+-- are used up. No other group changed.
 pub record IsApplied (n : ℕ) (old new : MemTables) (x : Tagged Place (List ℕ)) : Type 0 where
   pub tables : (g : ℕ) → has_table new g ≡ has_table old g
   pub shows : shown_of new x.group ≡ stepped n (shown_of old x.group) x.item
@@ -75,31 +79,33 @@ pub record IsApplied (n : ℕ) (old new : MemTables) (x : Tagged Place (List ℕ
   pub others : (g : ℕ) → (x.group == g) ≡ false
       → (shown_of new g ≡ shown_of old g) × (promise_of new g ≡ promise_of old g) × (counts new g ≡ counts old g)
 
--- whether a group counts after its items
+-- whether a group counts after these items, if `b` says whether it did before
 abbrev pub counts_at_end : {E V : Type 0} → Bool → List (Item E V) → Bool
 counts_at_end b [] = b
 counts_at_end b (x ∷ xs) = counts_at_end (counts_after b x) xs
 
--- whether an item of the group is among these
+-- whether one of these items is of group `g`
 abbrev pub mentions : ℕ → List LogItem → Bool
 mentions g [] = false
 mentions g (x ∷ xs) = (x.raft_group_id == g) || mentions g xs
 
--- nothing is promised to the groups of the items any more; the others have a table if they had one, and their promises
--- stay
+-- For the groups of the items, no places or moves are reserved any more. Other groups have the same reservations as
+-- before, and have a table if and only if they had one.
 pub record IsTakenBack (old new : MemTables) (items : List LogItem) : Type 0 where
   pub forgotten : (g : ℕ) → mentions g items ≡ true → IsForgotten (promise_of new g)
   pub others : (g : ℕ) → mentions g items ≡ false → promise_of new g ≡ promise_of old g
   pub tables : (g : ℕ) → mentions g items ≡ false → has_table new g ≡ has_table old g
 
--- why an item isn't applied to entries with these ends: its run leaves a hole, or memory ran out
+-- Why an item isn't applied to entries with the range `w`. The error is `Hole` if its run leaves a hole or an index
+-- too high. It may always be `Memory`.
 abbrev pub ItemRefused : {E V : Type 0} → Window → Item E V → Error → Type 0
 ItemRefused w x error = ((error ≡ errors.Hole) × (MayFollow w x → ⊥)) ⊎ (error ≡ errors.Memory)
 
--- why a batch isn't applied: a run leaves a hole, or memory ran out
+-- Why a batch isn't applied. The error is `Hole` if a run leaves a hole or an index too high. It may always be
+-- `Memory`.
 abbrev pub BatchRefused : {E V : Type 0} → (ℕ → Shown) → List (Tagged E V) → Error → Type 0
 BatchRefused v xs error = ((error ≡ errors.Hole) × (MayFollowAll v xs → ⊥)) ⊎ (error ≡ errors.Memory)
 
--- what items of places say, if these are the bytes at each place of Append
+-- the items with the entries that they write in Append, if `at` gives the bytes at each place
 abbrev pub all_written : {E : Type 0} → (Located → E) → List (Tagged Place (List ℕ)) → List (Tagged E (List ℕ))
 all_written at xs = map (renamed_tagged (λ p. at (in_queue true p))) xs

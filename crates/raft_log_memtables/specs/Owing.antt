@@ -17,34 +17,35 @@ use Rattle.raft_log_memtable.specs.Moves.{owed_compact}
 use Rattle.raft_log_memtables.specs.declared.mem_tables.MemTables.{MemTables}
 use Rattle.raft_log_memtables.specs.Tables.{shown_of}
 
--- the Compact of a group, if one is owed
+-- a Compact of group `g` at this index, if there is one
 abbrev pub compact_items : ℕ → Option ℕ → List LogItem
 compact_items g None = []
 compact_items g (Some index) = item_of g (contents.Command (commands.Compact index)) ∷ []
 
--- the Clean of a group, and the Compact, if they are owed
+-- the Clean and the Compact that group `g` owes, as items
 abbrev pub owed_commands : ℕ → Shown → List LogItem
 owed_commands g v =
     (if v.cleaned then item_of g (contents.Command commands.Clean) ∷ [] else [])
     ++ compact_items g (owed_compact v)
 
--- the Del of a group's key
+-- the item that deletes key `k` of group `g`
 abbrev pub delete_item : ℕ → List ℕ → LogItem
 delete_item g k = item_of g (contents.Kv (del_of k))
 
--- the tombstones that a group owes, as items: the Clean, the Compact, the Dels of these keys
+-- the tombstones that group `g` owes, as items: the Clean, the Compact, and a Del for each key in `ks`
 abbrev pub owed_items : ℕ → Shown → List (List ℕ) → List LogItem
 owed_items g v ks = owed_commands g v ++ map (delete_item g) ks
 
--- all tombstones that a group owes are appended to the old items
+-- all tombstones that group `g` owes were added to `old` as items, at the end
 abbrev pub AddsOwed : ℕ → Shown → List LogItem → List LogItem → Type 0
 AddsOwed g v old new = (ks : List (List ℕ)) × ListsMarked v.deleted ks × (new ≡ old ++ owed_items g v ks)
 
--- the items are the tombstones that a group owes, each of them once and none left out
+-- the items are exactly the tombstones that the table owes, each of them once
 abbrev pub AreOwedAt : Shown → List (Item EntryIndex (List ℕ)) → Type 0
 AreOwedAt v xs = (ks : List (List ℕ)) × ListsMarked v.deleted ks × (xs ≡ marks v ks)
 
--- the items are the tombstones that the groups owe, and no part of an atomic group
+-- in each group, the items are exactly the tombstones that its table owes, and the batch has no mark of an atomic
+-- group
 pub record AreOwed (m : MemTables) (items : List LogItem) : Type 0 where
   pub plain : marking_of_items items ≡ Unmarked
   pub owed : (g : ℕ) → AreOwedAt (shown_of m g) (of_group g (tagged_items (λ e. e) items))

@@ -1,4 +1,4 @@
--- Records that are replayed into the tables of all groups.
+-- How records are replayed into the tables of all groups.
 use Rattle.std.specs.Prelude.{◌≡◌, ℕ, ◌==◌, ◌⊎◌, Bool, true, false, List, [], ◌∷◌, ◌++◌}
 use Rattle.raft_log_record_base.specs.declared.errors.Error.{Error}
 use Rattle.raft_log_record_base.specs.declared.errors.Error.TheVariants as errors
@@ -12,44 +12,45 @@ use Rattle.raft_log_memtables.specs.declared.mem_tables.MemTables.{MemTables}
 use Rattle.raft_log_memtables.specs.Tables.{counts, promise_of, replayed_of, shown_of}
 use Rattle.raft_log_memtables.specs.Batch.{counts_after, counts_at_end, MayFollowAll}
 
--- what was read, after more items in file n of this queue: Append, or else Rewrite
+-- the result of the replay after these items were read in file `n`, of Append if `q` is true, else of Rewrite
 abbrev pub all_replayed : Bool → ℕ → Replayed → List (Item Place (List ℕ)) → Replayed
 all_replayed q n z [] = z
 all_replayed q n z (x ∷ xs) = all_replayed q n (replayed q n z x) xs
 
--- in Append the item may follow entries with these ends
+-- in Append, where `q` is true, the item leaves no hole and no index too high after entries with the range `w`
 abbrev pub MayBeRead : {E V : Type 0} → Bool → Window → Item E V → Type 0
 MayBeRead q w x = q ≡ true → MayFollow w x
 
--- why an item isn't applied to entries with these ends: its run leaves a hole in Append, or memory ran out
+-- Why an item isn't replayed onto entries with the range `w`. The error is `Hole` if this is Append, and the run
+-- leaves a hole or an index too high. It may always be `Memory`.
 abbrev pub ReadRefused : {E V : Type 0} → Bool → Window → Item E V → Error → Type 0
 ReadRefused q w x error =
     ((error ≡ errors.Hole) × (q ≡ true) × (MayFollow w x → ⊥)) ⊎ (error ≡ errors.Memory)
 
--- what was read of a group is unchanged, and whether it counts
+-- in group `g`, the result of the replay is unchanged, and so is whether the group counts
 abbrev pub StaysAt : MemTables → MemTables → ℕ → Type 0
 StaysAt old new g = (replayed_of new g ≡ replayed_of old g) × (counts new g ≡ counts old g)
 
--- nothing is prepared for a group: the promised ends are those of its entries
+-- nothing is reserved ahead in group `g`: the reserved range is that of its entries
 abbrev pub RestsAt : MemTables → ℕ → Type 0
 RestsAt m g = (promise_of m g).ends ≡ span (shown_of m g)
 
--- the item was read in file n of this queue, and applied to its group's table
+-- the item was read in file `n` and applied to its group's table, and no other group changed
 pub record ReadsOne (q : Bool) (n : ℕ) (old new : MemTables) (x : Tagged Place (List ℕ)) : Type 0 where
   pub fits : MayBeRead q (span (shown_of old x.group)) x.item
   pub read : replayed_of new x.group ≡ replayed q n (replayed_of old x.group) x.item
   pub counting : counts new x.group ≡ counts_after (counts old x.group) x.item
   pub others : (g : ℕ) → (x.group == g) ≡ false → StaysAt old new g
 
--- the items were read in file n of this queue, and applied to their groups' tables; in Append none of their runs leaves
--- a hole
+-- The items were read in file `n` and applied to their groups' tables. In Append, none of their runs leaves a hole or
+-- an index too high.
 pub record ReadsAll (q : Bool) (n : ℕ) (old new : MemTables) (xs : List (Tagged Place (List ℕ)))
     : Type 0 where
   pub fits : q ≡ true → MayFollowAll (shown_of old) xs
   pub read : (g : ℕ) → replayed_of new g ≡ all_replayed q n (replayed_of old g) (of_group g xs)
   pub counting : (g : ℕ) → counts new g ≡ counts_at_end (counts old g) (of_group g xs)
 
--- the first few items were applied, and the next one failed with this error
+-- the items before one of `xs` were applied, and that one failed with this error
 pub record ReadsUpTo (q : Bool) (n : ℕ) (old new : MemTables) (xs : List (Tagged Place (List ℕ)))
     (error : Error) : Type 0 where
   pub front : List (Tagged Place (List ℕ))

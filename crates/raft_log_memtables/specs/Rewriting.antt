@@ -1,4 +1,5 @@
--- How the tables of all groups apply what was written to Rewrite.
+-- How the tables of all groups change when copies are written to Rewrite. The gate of a purge is the last file of
+-- Append whose content it may copy. Without a gate, only content of Rewrite is copied.
 use Rattle.std.specs.Prelude.{◌≡◌, ℕ, ◌+◌, ◌≤◌, ◌==◌, ◌⊎◌, Bool, true, false, if◌then◌else◌, List, [], ◌∷◌, drop, length, map, Option, Some}
 use Rattle.raft_log_model_laws.specs.Item.{Item, Tagged}
 use Rattle.raft_log_model_laws.specs.Item.Item.{Run, Clean, Compact, Put, Del}
@@ -13,8 +14,9 @@ use Rattle.raft_log_memtable.specs.Room.{Promise, count_of, needs, with_moves, w
 use Rattle.raft_log_memtables.specs.declared.mem_tables.MemTables.{MemTables}
 use Rattle.raft_log_memtables.specs.Tables.{counts, has_table, promise_of, shown_of}
 
--- what is shown once the item was written to file n of Rewrite: entries and a value that are still there, and that the
--- gate lets move, are in that file; a Clean, a Compact and a Del are tombstones, which change nothing
+-- The table after this item was written to file `n` of Rewrite. Entries and a value that the table still has, and
+-- that the gate allows, are now in that file. A Clean, Compact or Del is a tombstone that was owed, and changes
+-- nothing.
 abbrev pub rewritten_item : Option ℕ → ℕ → Shown → Item Place (List ℕ) → Shown
 rewritten_item gate n v (Run f ps) = rewritten_by gate v (Run f ps)
 rewritten_item gate n v (Put k w) = key_rewritten gate v k n
@@ -22,41 +24,43 @@ rewritten_item gate n v Clean = v
 rewritten_item gate n v (Compact c) = v
 rewritten_item gate n v (Del k) = v
 
--- what is shown once more items were written
+-- the table after these items were written to file `n` of Rewrite
 abbrev pub all_rewritten : Option ℕ → ℕ → Shown → List (Item Place (List ℕ)) → Shown
 all_rewritten gate n v [] = v
 all_rewritten gate n v (x ∷ xs) = all_rewritten gate n (rewritten_item gate n v x) xs
 
--- the number of entries of a group that the items have
+-- how many entries of group `g` the items have
 abbrev pub entries_of : {E V : Type 0} → ℕ → List (Tagged E V) → ℕ
 entries_of g xs = needs (of_group g xs)
 
--- Moving the items into Rewrite can't fail: each group that has a table promised room for its entries to move
+-- Applying the items after a write to Rewrite can't fail: each group that has a table has reserved enough moves.
 abbrev pub MayMove : {E V : Type 0} → MemTables → List (Tagged E V) → Type 0
 MayMove m xs = (g : ℕ) → has_table m g ≡ true → entries_of g xs ≤ (promise_of m g).moves
 
--- what is promised if n more entries may move; without a table nothing is
+-- the reservation for `n` more moves, if the group has a table, else unchanged
 abbrev pub moving : Bool → Promise → ℕ → Promise
 moving b q n = if b then with_moves q n else q
 
--- the same groups have a table, and the same ones count
+-- the same groups have a table as before, and the same groups count
 pub record GroupsStay (old new : MemTables) : Type 0 where
   pub tables : (g : ℕ) → has_table new g ≡ has_table old g
   pub counts : (g : ℕ) → counts new g ≡ counts old g
 
--- each group's table promised that the group's entries of the items may move too
+-- each group that has a table has reserved a move for each of its entries in the items too
 pub record PromisesMoves {E V : Type 0} (old new : MemTables) (xs : List (Tagged E V)) : Type 0 where
   pub stay : GroupsStay old new
   pub moves : (g : ℕ) → promise_of new g ≡ moving (has_table old g) (promise_of old g) (entries_of g xs)
 
--- the item's group promised it, if it has a table
+-- The item's group, if it has a table, has reserved a move for each entry of the item too. The reservations of other
+-- groups are unchanged, and so are the groups that have a table or count.
 pub record PromisesMove {E V : Type 0} (old new : MemTables) (x : Tagged E V) : Type 0 where
   pub stay : GroupsStay old new
   pub move : promise_of new x.group
       ≡ moving (has_table old x.group) (promise_of old x.group) (count_of x.item)
   pub others : (g : ℕ) → (x.group == g) ≡ false → promise_of new g ≡ promise_of old g
 
--- the item was written to file n of Rewrite, and applied to its group's table
+-- The item was written to file `n` of Rewrite, and its group's table changed accordingly and used up its moves. No
+-- other group changed, and no range of indexes did.
 pub record RewritesOne (gate : Option ℕ) (n : ℕ) (old new : MemTables) (x : Tagged Place (List ℕ))
     : Type 0 where
   pub stay : GroupsStay old new
@@ -66,7 +70,8 @@ pub record RewritesOne (gate : Option ℕ) (n : ℕ) (old new : MemTables) (x : 
   pub others : (g : ℕ) → (x.group == g) ≡ false
       → (shown_of new g ≡ shown_of old g) × (promise_of new g ≡ promise_of old g)
 
--- the items were written to file n of Rewrite, and applied to their groups' tables, which had promised room for them
+-- The items were written to file `n` of Rewrite, and their groups' tables changed accordingly and used up their
+-- moves. No range of indexes changed.
 pub record TakesRewritten (gate : Option ℕ) (n : ℕ) (old new : MemTables) (xs : List (Tagged Place (List ℕ)))
     : Type 0 where
   pub stay : GroupsStay old new
@@ -74,9 +79,10 @@ pub record TakesRewritten (gate : Option ℕ) (n : ℕ) (old new : MemTables) (x
   pub ends : (g : ℕ) → span (shown_of new g) ≡ span (shown_of old g)
   pub promise : (g : ℕ) → promise_of new g ≡ without_moves (promise_of old g) (entries_of g xs)
 
--- The item is a copy that Rewrite may take and the gate lets move. A run is of what was read, begins at a rewritten
--- entry or the first appended one, and reaches to the last rewritten one; it passes that only if neither a Clean nor a
--- Compact is owed. A put has the key's value, and if that is in Append, neither a Clean nor the key's Del is owed
+-- The item is an allowed copy. A run has the bytes of the table's entries. It starts at an entry of Rewrite or right
+-- after them, and ends at or after the last. Past them, it has only entries that the gate allows, and only if the
+-- table owes neither a Clean nor a Compact. A put has the key's value, which the gate allows. If the value is in
+-- Append, the table owes neither a Clean nor the key's Del.
 abbrev pub IsCopy : {E : Type 0} → (Located → E) → Option ℕ → Shown → Item Place (List ℕ) → Type 0
 IsCopy at gate v (Run f ps) =
     (v.first ≤ f) × (f ≤ v.first + v.rewritten) × (v.first + v.rewritten ≤ f + length ps)
@@ -88,19 +94,19 @@ IsCopy at gate v (Put k w) =
     × (h.appended ≡ true → (v.cleaned ≡ false) × (v.deleted k ≡ false))
 IsCopy at gate v x = ⊥
 
--- the items are copies, one after another, in file n of Rewrite
+-- each item is an allowed copy after the items before it were written to file `n` of Rewrite
 abbrev pub AreCopies : {E : Type 0} → (Located → E) → Option ℕ → ℕ → Shown → List (Item Place (List ℕ))
     → Type 0
 AreCopies at gate n v [] = Unit {0}
 AreCopies at gate n v (x ∷ xs) = IsCopy at gate v x × AreCopies at gate n (rewritten_item gate n v x) xs
 
--- the copies in file n of Rewrite that the items are
+-- the copies into file `n` of Rewrite that these items make
 abbrev pub moves_of : ℕ → List (Item Place (List ℕ)) → List Move
 moves_of n [] = []
 moves_of n (Run f ps ∷ xs) = MoveRun f ps ∷ moves_of n xs
 moves_of n (Put k w ∷ xs) = MoveKey k n ∷ moves_of n xs
 moves_of n (x ∷ xs) = moves_of n xs
 
--- what the items say in Rewrite, if these are the bytes at each place
+-- the items with the entries that they write in Rewrite, if `at` gives the bytes at each place
 abbrev pub copied_items : {E : Type 0} → (Located → E) → List (Item Place (List ℕ)) → List (Item E (List ℕ))
 copied_items at xs = map (renamed (λ p. at (in_queue false p))) xs

@@ -1,4 +1,5 @@
--- What an engine knows from its groups' tables, as the view of the log's directory.
+-- What an engine knows from its groups' tables, in the form of the log model, which calls this a view. How the view
+-- changes with each batch, each copy and each owed tombstone that is written.
 use Rattle.std.specs.Prelude.{◌≡◌, ℕ, Bool, true, false, if◌then◌else◌, List, [], ◌∷◌, ◌++◌}
 use Rattle.raft_log_model_laws.specs.Item.{Record, Tagged, items_of}
 use Rattle.raft_log_model_laws.specs.Groups.{Map, of_group, taken}
@@ -13,8 +14,8 @@ use Rattle.raft_log_memtable_index.specs.Noted.{AreInFile, AreUpTo, IsLeastInRew
 use Rattle.raft_log_memtable_index.specs.Bridge.{AllOwed, CanAllMove, IsMeant, Located, Move, all_moved, items_of as copies_of, marks, unmarked, without}
 use Rattle.raft_log_memtables.specs.Batch.{MayFollowAll, all_shown, all_written}
 
--- The view of an engine whose tables show this for each group, and through which the map m is read. For each slot the
--- file that stores it is noted; in Rewrite, the file from which on it counts.
+-- The view of an engine with the tables `v` and the contents `m`. For each slot, it has the file where the slot's
+-- content is. For Rewrite, it also has the first file that must be kept to recover that content.
 abbrev pub view_of : {E : Type 0} → (ℕ → Shown) → Map E (List ℕ) → View E (List ℕ)
 view_of v m = record {
   whereabouts = λ g. whereabouts (v g);
@@ -23,42 +24,46 @@ view_of v m = record {
   map = m;
 }
 
--- what the tables show is in order, and its places mean the map m, if these are the bytes at each place
+-- The tables are well formed, and represent the contents `m`, if `at` gives the bytes at each place.
 pub record AreMeant {E : Type 0} (at : Located → E) (v : ℕ → Shown) (m : Map E (List ℕ)) : Type 0 where
   pub orderly : (g : ℕ) → IsOrderly (v g)
   pub meant : (g : ℕ) → IsMeant at (v g) (m g)
 
--- the entries of the items are in this file
+-- every entry of the items is in file `n`
 abbrev pub LieIn : ℕ → List (Tagged Place (List ℕ)) → Type 0
 LieIn n xs = (g : ℕ) → AreInFile n (of_group g xs)
 
--- the view changes with the record, which is appended to file n of Append, if these items are applied to the tables;
--- their places then mean the map after the record
+-- Applying `xs` to the tables changes the view as the record `y` does, appended to file `n` of Append. The tables
+-- then represent the contents after `y`.
 pub record ViewGrows {E : Type 0} (at : Located → E) (n : ℕ) (v : ℕ → Shown) (m : Map E (List ℕ))
     (xs : List (Tagged Place (List ℕ))) (y : Record E (List ℕ)) : Type 0 where
   pub grows : GrowsTo y n (view_of v m) (view_of (all_shown n v xs) (taken m (y ∷ [])))
   pub meant : AreMeant at (all_shown n v xs) (taken m (y ∷ []))
 
--- the view changes with a record that says of entries what the items say of their places, if they may follow
+-- Suppose the items `xs` leave no hole and no index too high, and their entries are in file `n`. Then applying them
+-- to the tables changes the view as the record with these items and their bytes does.
 abbrev pub BatchGrowsTheView : Type 0 → Type 0
 BatchGrowsTheView E = (at : Located → E) (n : ℕ) (v : ℕ → Shown) (m : Map E (List ℕ))
     (xs : List (Tagged Place (List ℕ))) (y : Record E (List ℕ)) → AreMeant at v m → MayFollowAll v xs
     → LieIn n xs → items_of y ≡ all_written at xs → ViewGrows at n v m xs y
 
--- the view changes with a record in file n of Rewrite, if the tables then show this; their places mean the same map
+-- Changing the tables from `v` to `u` changes the view as a record with the items `xs` in file `n` of Rewrite does.
+-- The new tables represent the same contents `m`.
 pub record ViewCarries {E : Type 0} (at : Located → E) (n : ℕ) (v u : ℕ → Shown) (m : Map E (List ℕ))
     (xs : List (Tagged E (List ℕ))) : Type 0 where
   pub carries : CarriesTo xs n (view_of v m) (view_of u m)
   pub meant : AreMeant at u m
 
--- the view changes with copies that may be made in each group, in files up to this one
+-- Suppose the copies are allowed in each group and go to files up to `n`. Then applying them to the tables changes
+-- the view as their record does.
 abbrev pub CopiesCarryTheView : Type 0 → Type 0
 CopiesCarryTheView E = (at : Located → E) (n : ℕ) (v : ℕ → Shown) (m : Map E (List ℕ)) (moves : ℕ → List Move)
     (xs : List (Tagged E (List ℕ))) → AreMeant at v m → ((g : ℕ) → CanAllMove at (v g) (moves g))
     → ((g : ℕ) → AreUpTo n (moves g)) → ((g : ℕ) → of_group g xs ≡ copies_of at (v g) (moves g))
     → ViewCarries at n v (λ g. all_moved (v g) (moves g)) m xs
 
--- the view changes with the tombstones that the groups owe, each of them once
+-- If `xs` are all tombstones that the tables owe, dropping them from the tables changes the view as their record
+-- does.
 abbrev pub MarksCarryTheView : Type 0 → Type 0
 MarksCarryTheView E = (at : Located → E) (n : ℕ) (v : ℕ → Shown) (m : Map E (List ℕ))
     (keys : ℕ → List (List ℕ)) (xs : List (Tagged E (List ℕ))) → AreMeant at v m
@@ -66,19 +71,21 @@ MarksCarryTheView E = (at : Located → E) (n : ℕ) (v : ℕ → Shown) (m : Ma
     → ((g : ℕ) (k : List ℕ) → without (v g).deleted (keys g) k ≡ false)
     → ((g : ℕ) → of_group g xs ≡ marks (v g) (keys g)) → ViewCarries at n v (λ g. unmarked (v g)) m xs
 
--- How an atomic group of Rewrite is applied to the tables at its end: its files, the groups that it is about, the
--- copies for each of them, and the file below which nothing of Rewrite is then in that group
+-- How the end of an atomic group of Rewrite changes the tables: the group's files, the raft groups that it changes,
+-- and the copies in each. `least` is a file below which the raft group then has nothing in Rewrite.
 pub record GroupEnd : Type 0 where
   pub files : GroupFiles
   pub about : ℕ → Bool
   pub moves : ℕ → List Move
   pub least : ℕ → ℕ
 
--- what is shown once it ended: the copies are made, and its files are noted
+-- the tables after the atomic group ended: the copies are made, and its files are recorded
 abbrev pub ended : GroupEnd → (ℕ → Shown) → ℕ → Shown
 ended e v g = if e.about g then with_note (all_moved (v g) (e.moves g)) (e.least g) e.files else v g
 
--- the copies may be made in a group that it is about: they are in its files, and its items may count as these
+-- In raft group `g`, the copies of the atomic group are allowed, and are in files up to its last one. After them, the
+-- raft group has nothing of Rewrite in a file below `least`. The items of all its records have the same effect as
+-- these copies.
 pub record MayEndIn {E : Type 0} (at : Located → E) (e : GroupEnd) (v : ℕ → Shown)
     (items : List (Tagged E (List ℕ))) (g : ℕ) : Type 0 where
   pub can : CanAllMove at (v g) (e.moves g)
@@ -86,21 +93,22 @@ pub record MayEndIn {E : Type 0} (at : Located → E) (e : GroupEnd) (v : ℕ �
   pub least : IsLeastInRewrite (all_moved (v g) (e.moves g)) (e.least g)
   pub taken_as : IsJoined (of_group g items) (copies_of at (v g) (e.moves g))
 
--- the copies may be made in each group that the end is about; it has no items of other groups
+-- the end is allowed in each raft group that it changes, and it has no items of other groups
 pub record MayEnd {E : Type 0} (at : Located → E) (e : GroupEnd) (v : ℕ → Shown)
     (items : List (Tagged E (List ℕ))) : Type 0 where
   pub about : (g : ℕ) → e.about g ≡ true → MayEndIn at e v items g
   pub others : (g : ℕ) → e.about g ≡ false → of_group g items ≡ []
 
--- the view changes with the end of an atomic group that began in file n
+-- Changing the tables from `v` to `u` changes the view as the end of an atomic group does that began in file `n`. The
+-- new tables represent the same contents `m`.
 pub record ViewEnds {E : Type 0} (at : Located → E) (n : ℕ) (v u : ℕ → Shown) (m : Map E (List ℕ))
     (first : List (Tagged E (List ℕ))) (more : List (List (Tagged E (List ℕ))))
     (xs : List (Tagged E (List ℕ))) : Type 0 where
   pub ends : EndsGroupTo first more xs n (view_of v m) (view_of u m)
   pub meant : AreMeant at u m
 
--- the view changes with the end of an atomic group of copies that begins in the first of its files and ends with these
--- items
+-- If the end of an atomic group is allowed, applying its copies to the tables changes the view as the end does. Here
+-- `first` and `more` are the items of the group's earlier records, and `xs` those of the last one.
 abbrev pub GroupEndsTheView : Type 0 → Type 0
 GroupEndsTheView E = (at : Located → E) (e : GroupEnd) (v : ℕ → Shown) (m : Map E (List ℕ))
     (first : List (Tagged E (List ℕ))) (more : List (List (Tagged E (List ℕ)))) (xs : List (Tagged E (List ℕ)))

@@ -1,4 +1,5 @@
--- What is wrong with bytes. An error may also be `Memory`, because its text takes memory.
+-- What can be wrong with bytes that are decoded. A decoder can also fail with `Memory`, because the text of an error
+-- is allocated.
 use Rattle.std.specs.Prelude.{◌≡◌, ◌⊎◌, ◌++◌, ℕ, List, Some, Result, Ok, Err, MatchResult}
 use Rattle.std.specs.String.{string_bytes}
 use Rattle.std.specs.Global.{Vec, Box}
@@ -10,66 +11,71 @@ use Rattle.raft_log_record_base.specs.Grammar.{Reader}
 use Rattle.raft_log_record_base.specs.declared.errors.Error.{Error}
 use Rattle.raft_log_record_base.specs.declared.errors.Error.TheVariants as errors
 
--- a number's fault, or a corruption with this text
+-- A fault in the bytes: a number doesn't decode, with the codec's error, or the record is corrupt, with this error
+-- text.
 pub data Fault : Type 0 where
   number : CodecError → Fault
   corrupt : List ℕ → Fault
 
--- a number's fault among the faults of a record
+-- the result of reading a number, with the codec's error as a fault of the record
 abbrev pub lifted : {X : Type 0} → Result X CodecError → Result X Fault
 lifted (Ok x) = Ok x
 lifted (Err e) = Err (number e)
 
--- reads a number, with its faults among those of a record
+-- reads a number with `read`, and returns a codec's error as a fault of the record
 abbrev pub lifted_at : {X : Type 0} → Reader X CodecError → Reader X Fault
 lifted_at read bytes = lifted (read bytes)
 
--- memory ran out, or this is the fault at which reading stops
+-- The error is `Memory`, or it is the fault with which `reading` fails: the same codec's error, or a corruption with
+-- the same text.
 abbrev pub FailsOrMemory : {Y : Type 0} → Error → Result Y Fault → Type 0
 FailsOrMemory errors.Memory reading = Unit {0}
 FailsOrMemory (errors.Codec c) reading = reading ≡ Err (number c)
 FailsOrMemory (errors.Corruption text) reading = reading ≡ Err (corrupt (string_bytes text))
 FailsOrMemory _ reading = ⊥
 
--- this error is kept, or memory ran out
+-- the second error is `Memory`, or wraps the first one as `Other`
 abbrev pub IsOtherOf : AnyhowError → Error → Type 0
 IsOtherOf error e =
     (e ≡ errors.Memory) ⊎ ((kept : Box AnyhowError) × (e ≡ errors.Other kept) × (kept.value ≡ error))
 
--- an invalid argument with this fault's text, or memory ran out
+-- The error is `Memory`, or it is `InvalidArgument` with the text of `fault`.
 abbrev pub IsInvalidSize : ParseSizeError → Error → Type 0
 IsInvalidSize fault errors.Memory = Unit {0}
 IsInvalidSize fault (errors.InvalidArgument text) = size_fault_text fault ≡ Some (string_bytes text)
 IsInvalidSize fault _ = ⊥
 
--- A decoder's result and the bytes it left are those of the reading, unless memory ran out. If it fails, it takes no
--- bytes.
+-- A decoder returned this result and left the bytes `new` of `old`, exactly as `reading` does, unless memory ran out.
+-- If the decoder fails, it consumes nothing.
 abbrev pub ReadsOrMemory :
     {X : Type 0} → Result X Error → List ℕ → List ℕ → Result (X × List ℕ) Fault → Type 0
 ReadsOrMemory (Ok x) old new reading = reading ≡ Ok (x, new)
 ReadsOrMemory (Err e) old new reading = FailsOrMemory e reading × (new ≡ old)
 
--- The result of a decoder of a whole slice is that of the reading, unless memory ran out.
+-- A decoder of a whole slice returned what `reading` returns, unless memory ran out.
 abbrev pub GivesOrMemory : {X : Type 0} → Result X Error → Result X Fault → Type 0
 GivesOrMemory (Ok x) reading = reading ≡ Ok x
 GivesOrMemory (Err e) reading = FailsOrMemory e reading
 
--- A decoder of this grammar. The bytes that it took spell what it returns. If a spelling is at the front, it takes just
--- that and returns its value, unless memory ran out. If it fails, it takes nothing.
+-- A decoder of the grammar `P` consumed the front of `old` and left `new`. The bytes it consumed spell the value that
+-- it returned. If a spelling is at the front of `old`, the decoder consumes exactly it and returns its value, unless
+-- memory ran out. If the decoder fails, it consumes nothing.
 pub record DecodesOrMemory {X : Type 0} (P : List ℕ → X → Type 0)
     (result : Result X Error) (old new : List ℕ) : Type 0 where
   pub found : MatchResult result (λ x. (text : List ℕ) × P text x × (old ≡ text ++ new)) (λ e. new ≡ old)
   pub only : (text rest : List ℕ) (x : X) → P text x → old ≡ text ++ rest
       → MatchResult result (λ y. (y ≡ x) × (new ≡ rest)) (λ e. e ≡ errors.Memory)
 
--- The result of a decoder that returns a vector, and the bytes it left, are those of the reading, unless memory ran
--- out. If it fails, it takes no bytes.
+-- A decoder of a vector returned the items of `reading` and left the bytes that `reading` leaves, unless memory ran
+-- out. If the decoder fails, it consumes nothing.
 abbrev pub ReadsItemsOrMemory :
     {X : Type 0} → Result (Vec X) Error → List ℕ → List ℕ → Result (List X × List ℕ) Fault → Type 0
 ReadsItemsOrMemory (Ok x) old new reading = reading ≡ Ok (x.items, new)
 ReadsItemsOrMemory (Err e) old new reading = FailsOrMemory e reading × (new ≡ old)
 
--- A decoder that returns a vector of items of this grammar.
+-- A decoder of a vector of items by the grammar `P`. The bytes it consumed spell the items that it returned. If a
+-- spelling is at the front of `old`, the decoder consumes exactly it, unless memory ran out. If the decoder fails, it
+-- consumes nothing.
 pub record DecodesItemsOrMemory {X : Type 0} (P : List ℕ → List X → Type 0)
     (result : Result (Vec X) Error) (old new : List ℕ) : Type 0 where
   pub found : MatchResult result

@@ -1,4 +1,4 @@
--- The order of queues and files.
+-- The order of log files, of both queues, and the signatures of their records.
 use Rattle.std.specs.Prelude.{◌≡◌, ◌↔◌, ℕ, ◌%◌, ◌^◌, Bool, true, false, Option, Some, None}
 use Rattle.std.specs.declared.cmp.Ordering.{Ordering}
 use Rattle.std.specs.declared.cmp.Ordering.TheVariants.{Equal, Greater}
@@ -11,16 +11,16 @@ use Rattle.raft_log_record_base.specs.declared.pipe_log.Version.TheVariants.{V1,
 use Rattle.raft_log_record_base.specs.declared.pipe_log.LogFileContext.{LogFileContext}
 use Rattle.raft_log_record_base.specs.declared.pipe_log.FileBlockHandle.{FileBlockHandle}
 
--- the number of a queue
+-- the number of a queue: 0 for Append, 1 for Rewrite
 abbrev pub queue_number : LogQueue → ℕ
 queue_number Append = 0
 queue_number Rewrite = 1
 
--- the greater queue number first, then the file number
+-- The order of files. All files of Append come after all files of Rewrite. Within a queue, the file number decides.
 abbrev pub file_cmp : FileId → FileId → Ordering
 file_cmp = then_cmp (flip_args (on (λ f. queue_number f.queue) nat_cmp)) (on (λ f. f.seq) nat_cmp)
 
--- each append file is above each rewrite file
+-- any file of Append is greater than any file of Rewrite
 abbrev pub AppendAboveRewrite : Type 0
 AppendAboveRewrite = (a b : FileId) → a.queue ≡ Append → b.queue ≡ Rewrite → file_cmp a b ≡ Greater
 
@@ -28,29 +28,30 @@ AppendAboveRewrite = (a b : FileId) → a.queue ≡ Append → b.queue ≡ Rewri
 abbrev pub NumberedInQueue : Type 0
 NumberedInQueue = (a b : FileId) → a.queue ≡ b.queue → file_cmp a b ≡ nat_cmp a.seq b.seq
 
--- two files compare as equal if and only if they are one file
+-- two file ids compare as `Equal` if and only if they are equal
 abbrev pub OrderAgreesWithEquality : Type 0
 OrderAgreesWithEquality = (a b : FileId) → (file_cmp a b ≡ Equal) ↔ (a ≡ b)
 
--- the number of a format's version
+-- the number of a format version
 abbrev pub version_number : Version → ℕ
 version_number V1 = 1
 version_number V2 = 2
 
--- what records are signed with in a file of this version and number: the low 32 bits of the number
+-- The signature of records in a file of this format version and file number. In V2 it is the low 32 bits of the file
+-- number; V1 has none. It is xored into each record's checksum.
 abbrev pub signature : Version → ℕ → Option ℕ
 signature V1 number = None
 signature V2 number = Some (number % 2 ^ 32)
 
--- what records are signed with in this file
+-- the signature of records in this file
 abbrev pub signature_of : LogFileContext → Option ℕ
 signature_of context = signature context.version context.id.seq
 
--- whether records of a file of this version are signed
+-- whether records in a file of this format version have a signature: only in V2
 abbrev pub is_signed : Version → Bool
 is_signed V1 = false
 is_signed V2 = true
 
--- the place of a block without bytes
+-- a handle with length 0: file 0 of Append, at offset 0
 abbrev pub no_block : FileBlockHandle
 no_block = record { id = record { queue = Append; seq = 0 }; offset = 0; len = 0 }

@@ -1,4 +1,4 @@
--- Sizes in bytes, as text.
+-- Sizes in bytes, as text: how they are printed and parsed.
 use Rattle.std.specs.Prelude.{◌≡◌, ℕ, ◌+◌, ◌-◌, ◌*◌, ◌/◌, ◌%◌, ◌^◌, ◌<◌, List, [], ◌∷◌, ◌++◌, Option, Some, None, Result, Ok, Err, Bool, false, MatchResult, nat_lt, ◌==◌, ◌&&◌, if◌then◌else◌, codes}
 use Rattle.std.specs.Char.{is_ascii_digit}
 use Rattle.std.specs.Fmt.{decimal}
@@ -9,7 +9,7 @@ use Rattle.raft_log_record_base.specs.declared.size.ParseSizeError.TheVariants.{
 
 -- Printing.
 
--- the greatest unit that divides the size, and how many of it there are
+-- The size as a whole number of the largest unit that divides it. 0 is printed as 0KiB.
 unfoldable pub size_text : ℕ → List ℕ
 size_text n =
     if n == 0 then codes "0KiB"
@@ -20,9 +20,10 @@ size_text n =
     else (if n % 2 ^ 10 == 0 then decimal (n / 2 ^ 10) ++ codes "KiB"
     else decimal n ++ codes "B")))))
 
--- Reading.
+-- Parsing.
 
--- the number that n and the digits at the front spell, and the text after them
+-- the number whose decimal digits are those of `n` and then the digits at the front of the text, and the text after
+-- these
 unfoldable pub number_in : ℕ → List ℕ → ℕ × List ℕ
 number_in n [] = (n, [])
 number_in n (c ∷ cs) = if is_ascii_digit c then number_in (n * 10 + (c - 48)) cs else (n, c ∷ cs)
@@ -32,7 +33,7 @@ abbrev pub starts_with_digit : List ℕ → Bool
 starts_with_digit [] = false
 starts_with_digit (c ∷ cs) = is_ascii_digit c
 
--- how many bytes the unit of K, M, G, T or P has
+-- the number of bytes in the unit with this letter, K, M, G, T or P; none for any other letter
 abbrev pub power_of : ℕ → Option ℕ
 power_of letter =
     if letter == 75 then Some (2 ^ 10)
@@ -42,7 +43,8 @@ power_of letter =
     else (if letter == 80 then Some (2 ^ 50)
     else None))))
 
--- Nothing or B is one byte. K, M, G, T or P comes alone, before B, or before iB.
+-- The number of bytes in the unit with this name. No name and B are one byte. K, M, G, T and P may be followed by
+-- nothing, B or iB.
 unfoldable pub unit_size : List ℕ → Option ℕ
 unit_size [] = Some 1
 unit_size (a ∷ []) = if a == 66 then Some 1 else power_of a
@@ -50,12 +52,13 @@ unit_size (a ∷ b ∷ []) = if b == 66 then power_of a else None
 unit_size (a ∷ b ∷ c ∷ []) = if b == 105 && c == 66 then power_of a else None
 unit_size (a ∷ b ∷ c ∷ d ∷ ds) = None
 
--- n of the unit, if the size fits
+-- `n` times the unit, if there is a unit and the product is below 2 ^ 64
 abbrev pub sized : ℕ → Option ℕ → Result ℕ ParseSizeError
 sized n None = Err UnknownUnit
 sized n (Some unit) = if nat_lt (n * unit) (2 ^ 64) then Ok (n * unit) else Err TooLarge
 
--- The first fault from the left is the result.
+-- The size that `text` spells, or the first fault from the left: no digit at the front, a number too large, then the
+-- unit.
 unfoldable pub size_in : List ℕ → Result ℕ ParseSizeError
 size_in text =
     if starts_with_digit text
@@ -63,11 +66,12 @@ size_in text =
     then sized (number_in 0 text).0 (unit_size (number_in 0 text).1) else Err TooLarge)
     else Err NoNumber
 
--- a size's reader returns this size, or fails with this fault
+-- a call returned the size in `size`, or failed with the fault in `size`
 abbrev pub GivesSize : Result ReadableSize ParseSizeError → Result ℕ ParseSizeError → Type 0
 GivesSize result size = MatchResult result (λ s. size ≡ Ok s.0) (λ e. size ≡ Err e)
 
--- White space before and after is dropped. A printed size is read as itself.
+-- Parses a size after white space was removed from both ends of `text`. The printed form of a size is parsed as the
+-- size.
 pub record ReadsSize (text : List ℕ) (result : Result ReadableSize ParseSizeError) : Type 0 where
   pub exact : GivesSize result (size_in (trim text))
   pub trimmed : IsTrim text (trim text)

@@ -5,14 +5,14 @@ use Rattle.raft_log_record_base.specs.declared.codec.error.Error.TheVariants.{Io
 use Rattle.raft_log_record_base.specs.declared.size.ParseSizeError.{ParseSizeError}
 use Rattle.raft_log_record_base.specs.declared.size.ParseSizeError.TheVariants.{NoNumber, UnknownUnit, TooLarge}
 
--- the text of a number's fault; contracts don't say how a kind is printed
+-- The text of a codec's error. For an I/O error there is none here, because no contract says how its kind is printed.
 abbrev pub codec_fault_text : Error → Option (List ℕ)
 codec_fault_text (Io kind) = None
 codec_fault_text KeyLength = Some (codes "wrong length of a key")
 codec_fault_text KeyPadding = Some (codes "wrong padding of a key")
 codec_fault_text KeyNotFound = Some (codes "key not found")
 
--- the text of a fault of a size
+-- the text of the error if a size can't be parsed; each has one
 abbrev pub size_fault_text : ParseSizeError → Option (List ℕ)
 size_fault_text NoNumber = Some (codes "a size begins with a whole number")
 size_fault_text UnknownUnit = Some (codes "the unit of a size is B, KiB, MiB, GiB, TiB or PiB")

@@ -1,4 +1,4 @@
--- Entries that are added to a batch with their indexes and their bytes.
+-- Entries that are added to a batch: their indexes and their bytes.
 use Rattle.std.specs.Prelude.{◌≡◌, ◌⊎◌, ℕ, ◌+◌, ◌≤◌, ◌<◌, ◌^◌, ◌==◌, if◌then◌else◌, codes, List, [], ◌∷◌, ◌++◌, length, map, sum_by, flat_map, Option, All}
 use Rattle.std.specs.Borrow.{Bor}
 use Rattle.std.specs.Fmt.{decimal}
@@ -13,27 +13,27 @@ use Rattle.raft_log_record_items.specs.Run.{unplaced_entry}
 use Rattle.raft_log_record_items.specs.Placed.{laid_run}
 use Rattle.raft_log_record_batches.specs.Batch.{Batch, Becomes, max_entries_len}
 
--- the indexes rise by one from this one on
+-- the indexes rise by one, starting at `i`
 abbrev pub RisesFrom : ℕ → List ℕ → Type 0
 RisesFrom i [] = Unit {0}
 RisesFrom i (x ∷ xs) = (x ≡ i) × RisesFrom (i + 1) xs
 
--- the indexes rise by one, and none is 2 ^ 64 - 1
+-- the indexes rise by one, and none is 2 ^ 64 - 1 or more
 abbrev pub IsIndexRun : List ℕ → Type 0
 IsIndexRun [] = Unit {0}
 IsIndexRun (x ∷ xs) = RisesFrom x (x ∷ xs) × (x + length (x ∷ xs) < 2 ^ 64)
 
--- there are as many indexes as entries, and the indexes are those of a run
+-- there are as many indexes as entries, and the indexes rise by one and are below 2 ^ 64 - 1
 abbrev pub IsRunWith : List ℕ → List (List ℕ) → Type 0
 IsRunWith indexes entries = (length indexes ≡ length entries) × IsIndexRun indexes
 
--- the entries with these indexes and bytes, which are in no file yet
+-- the entries with these indexes and the lengths of these bytes, which are not written to a file yet
 abbrev pub entries_of : List ℕ → List (List ℕ) → List EntryIndex
 entries_of [] bytes = []
 entries_of (i ∷ is) [] = []
 entries_of (i ∷ is) (b ∷ bs) = unplaced_entry i (length b) ∷ entries_of is bs
 
--- the item of these entries of a group, whose bytes begin at this offset of the batch's entry block
+-- the item with these entries of group `group`, whose bytes begin at `offset` in the batch's entry block
 abbrev pub entries_item : ℕ → ℕ → List ℕ → List (List ℕ) → LogItem
 entries_item group offset indexes entries =
     record {
@@ -45,12 +45,12 @@ entries_item group offset indexes entries =
 abbrev pub joined : List (List ℕ) → List ℕ
 joined entries = flat_map (λ e. e) entries
 
--- the items that these entries of a group add: one, or none if there are no entries
+-- the items that a batch gets for these entries of group `group`: one, or none if there are no entries
 abbrev pub entries_items : ℕ → ℕ → List ℕ → List (List ℕ) → List LogItem
 entries_items group offset indexes [] = []
 entries_items group offset indexes (x ∷ xs) = entries_item group offset indexes (x ∷ xs) ∷ []
 
--- the batch with these entries of a group
+-- the batch with these entries of group `group` added at the end
 abbrev pub with_entries : Batch → ℕ → List ℕ → List (List ℕ) → Batch
 with_entries b group indexes entries =
     record b {
@@ -58,40 +58,42 @@ with_entries b group indexes entries =
       entries = b.entries ++ joined entries;
     }
 
--- these entries of a group were added, and the capacity for items didn't shrink
+-- these entries of group `group` were added to the batch at the end; apart from capacities, nothing else changed
 abbrev pub AddsEntries : Batch → Batch → ℕ → List ℕ → List (List ℕ) → Type 0
 AddsEntries old new group indexes entries = Becomes (with_entries old group indexes entries) new
 
--- these were added to a group as entries, each with its index and the bytes that it writes
+-- These `entries` of group `group` were added to the batch: each with its `index` and the bytes that `spelling` gives
+-- for it.
 abbrev pub AddsRun : {E : Type 0} → (E → ℕ) → (E → List ℕ) → Batch → Batch → ℕ → List E → Type 0
 AddsRun index spelling old new group entries =
     AddsEntries old new group (map index entries) (map spelling entries)
 
--- the length of these entries in bytes
+-- the total length of these entries in bytes
 abbrev pub bytes_len : List (List ℕ) → ℕ
 bytes_len entries = sum_by (λ e. length e) entries
 
--- what is written for each of these messages is read as the message
+-- each of these messages is decoded from its own encoding
 abbrev pub AreReadBack : {M : Type 0} → (M → List ℕ) → (List ℕ → Option M) → List M → Type 0
 AreReadBack spelling reading messages = All (IsReadBack spelling reading) messages
 
--- the number of bytes that are written for these
+-- the total length in bytes of what `spelling` gives for these entries
 abbrev pub spelled_len : {E : Type 0} → (E → List ℕ) → List E → ℕ
 spelled_len spelling entries = bytes_len (map spelling entries)
 
--- the batch may have the bytes of these entries too
+-- adding the bytes of these entries to the batch stays within the limit on the bytes of entries
 abbrev pub MayHold : Batch → List (List ℕ) → Type 0
 MayHold b entries = length b.entries + bytes_len entries ≤ max_entries_len
 
--- the error's text if these many indexes, given for these many entries, are no run
+-- the error's text if indexes, as many as the first argument says, don't fit entries, as many as the second says
 abbrev pub run_refusal : ℕ → ℕ → List ℕ
 run_refusal indexes entries =
     if indexes == entries
     then codes "entry indexes that don't rise by one, or of which one is 18446744073709551615"
     else decimal indexes ++ codes " indexes for " ++ decimal entries ++ codes " entries"
 
--- why entries aren't added to a batch with `held` bytes of entries: they are no run, or else they have too many bytes,
--- or memory ran out
+-- Why adding these entries to a batch with `held` bytes of entries fails. The error is `InvalidArgument` if the
+-- indexes aren't a run with one for each entry. Otherwise it is `Full`, if the bytes would exceed the limit. It may
+-- always be `Memory`.
 abbrev pub IsEntriesRefusal : Error → ℕ → List ℕ → List (List ℕ) → Type 0
 IsEntriesRefusal errors.Memory held indexes entries = Unit {0}
 IsEntriesRefusal (errors.InvalidArgument text) held indexes entries =
@@ -100,16 +102,19 @@ IsEntriesRefusal errors.Full held indexes entries =
     IsRunWith indexes entries × (max_entries_len < held + bytes_len entries)
 IsEntriesRefusal _ held indexes entries = ⊥
 
--- why these, each with its index, aren't added as entries to a batch with `held` bytes of entries
+-- Why adding these `entries` to a batch with `held` bytes of entries fails. Their indexes aren't a run, the bytes
+-- exceed the limit, or memory ran out. Each entry has its `index` and the bytes that `spelling` gives for it.
 abbrev pub IsMessagesRefusal : {E : Type 0} → (E → ℕ) → (E → List ℕ) → Error → ℕ → List E → Type 0
 IsMessagesRefusal index spelling e held entries =
     IsEntriesRefusal e held (map index entries) (map spelling entries)
 
--- why these aren't added as entries to this batch
+-- why adding these `entries`, each with its `index` and its `spelling`, to the batch `b` fails: a bad run, too many
+-- bytes, or lack of memory
 abbrev pub FailsToAddEntries : {E : Type 0} → (E → ℕ) → (E → List ℕ) → Error → Batch → List E → Type 0
 FailsToAddEntries index spelling e b entries = IsMessagesRefusal index spelling e (length b.entries) entries
 
--- why indexes for `count` entries are rejected
+-- Why indexes for `count` entries are rejected: they are not `count` indexes that rise by one, below 2 ^ 64 - 1. The
+-- error may also be `Memory`.
 abbrev pub IsRunRefusal : Error → List ℕ → ℕ → Type 0
 IsRunRefusal errors.Memory indexes count = Unit {0}
 IsRunRefusal (errors.InvalidArgument text) indexes count =
@@ -117,11 +122,12 @@ IsRunRefusal (errors.InvalidArgument text) indexes count =
     × (string_bytes text ≡ run_refusal (length indexes) count)
 IsRunRefusal _ indexes count = ⊥
 
--- why bytes aren't added: memory ran out, or they would be more than `most`
+-- the error is `Memory`, or `Full` because `len` bytes are more than `most`
 abbrev pub IsRoomRefusal : Error → ℕ → ℕ → Type 0
 IsRoomRefusal e most len = (e ≡ errors.Memory) ⊎ ((e ≡ errors.Full) × (most < len))
 
--- why the bytes of these aren't appended to others: memory ran out, or there would be more than `most`
+-- Why the bytes of `messages` aren't appended to `old`: `Memory`, or `Full` because the sum would be more than `most`
+-- bytes.
 abbrev pub DoesNotFit : {M : Type 0} → (M → List ℕ) → Error → ℕ → List ℕ → List M → Type 0
 DoesNotFit spelling e most old messages = IsRoomRefusal e most (length old + spelled_len spelling messages)
 
@@ -129,32 +135,35 @@ DoesNotFit spelling e most old messages = IsRoomRefusal e most (length old + spe
 abbrev pub indexes_of : List EntryIndex → List ℕ
 indexes_of entries = map (λ e. e.index) entries
 
--- why two batches with these bytes of entries can't be merged: memory ran out, or the bytes would be too many
+-- Why two batches with these bytes of entries aren't merged: `Memory`, or `Full` because together the entries exceed
+-- the limit.
 abbrev pub IsMergeRefusal : Error → List ℕ → List ℕ → Type 0
 IsMergeRefusal e entries others = IsRoomRefusal e max_entries_len (length entries + length others)
 
--- the bytes of these slices
+-- the bytes of each of these slices
 abbrev pub slices_bytes : List (Bor (List ℕ)) → List (List ℕ)
 slices_bytes slices = map (λ s. s.now) slices
 
--- the run of entries with these indexes, whose bytes are these slices, laid out from this offset on
+-- the entries with these indexes and the lengths of these slices; their bytes follow one another in the block, from
+-- `offset` on
 abbrev pub laid_slices : ℕ → List EntryIndex → List (Bor (List ℕ)) → List EntryIndex
 laid_slices offset indexes slices = laid_run offset (entries_of (indexes_of indexes) (slices_bytes slices))
 
--- entries with these indexes, whose bytes are these slices, were added to a group
+-- entries of group `group` with these indexes, whose bytes are these slices, were added to the batch
 abbrev pub AddsSlices : Batch → Batch → ℕ → List EntryIndex → List (Bor (List ℕ)) → Type 0
 AddsSlices old new group indexes slices = AddsEntries old new group (indexes_of indexes) (slices_bytes slices)
 
--- why such entries aren't added to a batch
+-- Why adding entries with these indexes and slices to the batch `b` fails: `InvalidArgument`, `Full` or `Memory`.
 abbrev pub IsSlicesRefusal : Error → Batch → List EntryIndex → List (Bor (List ℕ)) → Type 0
 IsSlicesRefusal e b indexes slices =
     IsEntriesRefusal e (length b.entries) (indexes_of indexes) (slices_bytes slices)
 
--- the entries with these indexes, each as long as what is written for it
+-- the entries with these indexes, whose lengths are those of what `spelling` gives for `entries`
 abbrev pub sized : {E : Type 0} → (E → List ℕ) → List EntryIndex → List E → List EntryIndex
 sized spelling indexes entries = entries_of (indexes_of indexes) (map spelling entries)
 
--- the run of these, each with its index, laid out from this offset on
+-- The entries with the `index`, and the length of the `spelling`, of each of `entries`. Their bytes follow one
+-- another in the block, from `offset` on.
 abbrev pub laid_messages : {E : Type 0} → (E → ℕ) → (E → List ℕ) → ℕ → List E → List EntryIndex
 laid_messages index spelling offset entries =
     laid_run offset (entries_of (map index entries) (map spelling entries))

@@ -1,4 +1,4 @@
--- Why a key is rejected.
+-- Why a key, or a value that was read, is rejected.
 use Rattle.std.specs.Prelude.{◌≡◌, ℕ, List, IsTrue, codes}
 use Rattle.std.specs.String.{string_bytes}
 use Rattle.raft_log_record_base.specs.declared.errors.Error.{Error}
@@ -6,11 +6,11 @@ use Rattle.raft_log_record_base.specs.declared.errors.Error.TheVariants as error
 use Rattle.raft_log_record_frames.specs.Key.{is_internal}
 use Rattle.raft_log_record_frames.specs.Marking.{mark_key}
 
--- the error's text if a key is one of the log's own
+-- the error's text if a key begins with two underscores, and so is reserved for the log
 abbrev pub reserved_key : List ℕ
 reserved_key = codes "key prefix `__` reserved for internal usage"
 
--- why a key is rejected: it is one of the log's own, and this is the text, or memory ran out
+-- Why a key is rejected: `InvalidArgument` with the text above, because the key is reserved, or `Memory`.
 abbrev pub IsKeyRefusal : Error → List ℕ → Type 0
 IsKeyRefusal errors.Memory key = Unit {0}
 IsKeyRefusal (errors.InvalidArgument text) key = IsTrue (is_internal key) × (string_bytes text ≡ reserved_key)
@@ -20,7 +20,8 @@ IsKeyRefusal _ key = ⊥
 abbrev pub reserved_mark : List ℕ
 reserved_mark = codes "a mark of an atomic group is no value"
 
--- why a value that was read is rejected: it would be a mark of an atomic group, and this is the text, or memory ran out
+-- Why a value that was read is rejected: `InvalidArgument` with the text above, because it is under the key of marks
+-- in group 0, or `Memory`.
 abbrev pub IsMarkRefusal : Error → ℕ → List ℕ → Type 0
 IsMarkRefusal errors.Memory group key = Unit {0}
 IsMarkRefusal (errors.InvalidArgument text) group key =

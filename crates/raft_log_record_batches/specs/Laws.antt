@@ -1,5 +1,5 @@
--- Laws of the bound: no record is longer; each addition to a batch raises it by at most what is added; below 2 ^ 56 the
--- record is made.
+-- Laws of the upper bound for a record's length. No record is longer than its bound, and each addition to a batch
+-- raises the bound by at most the length of what is added. If the bound is below 2 ^ 56, the record is not too long.
 use Rattle.std.specs.Prelude.{◌≡◌, ◌≢◌, ℕ, ◌+◌, ◌*◌, ◌≤◌, ◌<◌, ◌^◌, List, [], ◌∷◌, length}
 use Rattle.raft_log_record_base.specs.declared.errors.Error.{Error}
 use Rattle.raft_log_record_base.specs.declared.errors.Error.TheVariants as errors
@@ -14,12 +14,13 @@ use Rattle.raft_log_record_batches.specs.Batch.{AddsItem, Batch, Becomes, Puts, 
 use Rattle.raft_log_record_batches.specs.Entries.{AddsEntries, IsEntriesRefusal, MayHold, bytes_len, entries_item}
 use Rattle.raft_log_record_batches.specs.Bounds.{batch_bound, record_bound}
 
--- no record is longer than its bound
+-- no record is longer than its upper bound
 abbrev pub NoRecordIsLonger : Type 0
 NoRecordIsLonger =
     (items : List LogItem) (entries : List ℕ) → record_len items entries ≤ record_bound items entries
 
--- Each addition to a batch raises its bound by at most this. The bound of an empty batch is 34.
+-- How much each addition raises the upper bound of a batch: for entries at most, otherwise exactly, by what is given
+-- here. The bound of an empty batch is 34.
 pub record AdditionsRaise : Type 0 where
   pub nothing : (capacity buffer : ℕ) → batch_bound (empty_batch capacity buffer) ≡ 34
   pub entries : (old new : Batch) (g : ℕ) (indexes : List ℕ) (entries : List (List ℕ))
@@ -34,22 +35,22 @@ pub record AdditionsRaise : Type 0 where
   pub batch : (old new other : Batch) → Becomes (with_batch old other) new
       → batch_bound new + 34 ≡ batch_bound old + batch_bound other
 
--- If a batch may have the bytes of these entries too, they don't fail with `Full`.
+-- If adding entries keeps a batch within the limit on the bytes of entries, the addition doesn't fail with `Full`.
 abbrev pub EntriesThatFitAreNotFull : Type 0
 EntriesThatFitAreNotFull = (b : Batch) (indexes : List ℕ) (entries : List (List ℕ)) (error : Error)
     → MayHold b entries → IsEntriesRefusal error (length b.entries) indexes entries → error ≢ errors.Full
 
--- If a batch's bound is below 2 ^ 56, its record fails only for lack of memory.
+-- If the bound of a batch is below 2 ^ 56, building its record fails only for lack of memory.
 abbrev pub BoundedRecordsAreMade : Type 0
 BoundedRecordsAreMade = (b : Batch) (error : Error) → batch_bound b < 2 ^ 56
     → IsMemoryOrFull error (record_len b.items b.entries) → error ≡ errors.Memory
 
--- the record of these items and entries has `len` bytes, and this is its bound
+-- the record of these items and entries has `len` bytes, and its upper bound is `bound`
 abbrev pub HasLenAndBound : List LogItem → List ℕ → ℕ → ℕ → Type 0
 HasLenAndBound items entries len bound = (record_len items entries ≡ len) × (record_bound items entries ≡ bound)
 
--- The record of `Clean` of group 1 has 24 bytes, and its bound is 66. The record of two entries of group 7, from index
--- 5 on, with two bytes and three, has 36 bytes, and its bound is 91.
+-- Two examples. The record of a `Clean` of group 1 has 24 bytes, and its bound is 66. The record of two entries of
+-- group 7, which have two and three bytes, has 36 bytes, and its bound is 91.
 pub record WorkedRecords : Type 0 where
   pub clean : HasLenAndBound (command_item 1 commands.Clean ∷ []) [] 24 66
   pub two : HasLenAndBound

@@ -10,11 +10,11 @@ use Rattle.raft_log_record_frames.specs.ItemBatch.{all_entries}
 use Rattle.raft_log_record_batches.specs.Batch.{Batch}
 use Rattle.raft_log_record_frames.specs.Meaning.{record_of}
 
--- the bytes of an entry in these bytes of its block
+-- the bytes of entry `e` in its block
 abbrev pub entry_bytes : List ℕ → EntryIndex → List ℕ
 entry_bytes block e = take e.entry_len (drop e.entry_offset block)
 
--- the bytes of each entry of these items in these bytes of their block
+-- the bytes of each entry of these items in their block
 abbrev pub bytes_of_each : List LogItem → List ℕ → List (List ℕ)
 bytes_of_each items block = map (entry_bytes block) (all_entries items)
 
@@ -22,25 +22,25 @@ bytes_of_each items block = map (entry_bytes block) (all_entries items)
 abbrev pub bytes_in : Batch → List (List ℕ)
 bytes_in b = bytes_of_each b.items b.entries
 
--- the batch has the bytes of each entry that it had, and then these
+-- the batch has the same entries' bytes as before, followed by `entries`
 abbrev pub AddsBytes : Batch → Batch → List (List ℕ) → Type 0
 AddsBytes old new entries = bytes_in new ≡ bytes_in old ++ entries
 
--- the block of the written batch has, at the places of its entries, the bytes that they had before
+-- in the entry block of `new`, the places of its entries have the bytes that the entries of `old` had
 abbrev pub HasBytesInBlock : Batch → Batch → Type 0
 HasBytesInBlock old new =
     bytes_of_each new.items (block_bytes new.entries) ≡ bytes_of_each old.items old.entries
 
--- The places that are read of a written batch have, in the block that was written, the bytes of each entry that was
--- added.
+-- Reading a written batch back gives places. In the block that was written, these have the bytes of the entries that
+-- were added.
 abbrev pub ReadHasWhatWasAdded : Type 0
 ReadHasWhatWasAdded =
     (items : List LogItem) (entries : List ℕ) (handle : FileBlockHandle) → laid_out 0 items ≡ items
     → entries_len items ≡ length entries
     → bytes_of_each (placed handle (map plain_item items)) (block_bytes entries) ≡ bytes_of_each items entries
 
--- What is read of a written batch means what was added to it, if an entry means its bytes: those at its place in the
--- block that was written, and those that were added.
+-- Reading a written batch back gives the same record as the batch that was added, if each entry is replaced by its
+-- bytes. The bytes that are read are those at its place in the written block.
 abbrev pub ReadMeansWhatWasAdded : Type 0
 ReadMeansWhatWasAdded =
     (items : List LogItem) (entries : List ℕ) (handle : FileBlockHandle) → laid_out 0 items ≡ items

@@ -1,12 +1,15 @@
--- Folding takes a byte out of the input; the bytes after it owe what it would leave in the register.
+-- Folding computes a CRC faster: it removes a byte from the input, and xors it into later bytes instead. Each byte is
+-- xored in at distances 145, 183, 211 and 300.
 use Rattle.std.specs.Prelude.{ℕ, ◌-◌, List, length, drop, bit_xor}
 use Rattle.raft_log_record_checksum.specs.Checksum.{crc_bits, crc_after}
 
--- the last n elements
+-- the last `n` elements of `xs`, or all of them if there are fewer
 abbrev pub ending : ℕ → List ℕ → List ℕ
 ending n xs = drop (length xs - n) xs
 
--- what is owed in a register 300 bytes on, if each byte counts 145, 183, 211 and 300 bytes later
+-- The part of the register, 300 bytes later, that the bytes `folded` so far still contribute. It is the xor of the
+-- registers of their last 145, 183, 211 and 300 bytes. The first three are shifted on by 155, 117 and 89 bytes, which
+-- makes 300.
 unfoldable pub owed : List ℕ → ℕ
 owed folded =
     bit_xor (bit_xor (crc_bits 1240 (crc_after 0 (ending 145 folded))) (crc_bits 936 (crc_after 0 (ending 183 folded))))

@@ -1,6 +1,6 @@
--- Laws of records. A frame is what a reader sees that reads the header and the footer alone; a record is a frame whose
--- entry block is read too. The records of a file follow one another without gaps. At each place there must therefore be
--- at most one record, and decoders must read back what a writer put there.
+-- Laws of records. A frame is what a reader sees that reads only the header and the footer. A record is a frame whose
+-- entry block is valid too. The records of a file follow one another without gaps. At most one record can therefore
+-- be at each offset, and decoders read back what a writer wrote there.
 use Rattle.std.specs.Prelude.{replicate, ◌⊎◌, ◌≡◌, ◌↔◌, ℕ, ◌+◌, ◌≤◌, List, ◌++◌, length, take, Option, Ok}
 use Rattle.raft_log_record_items.specs.declared.item.LogItem.{LogItem}
 use Rattle.raft_log_record_base.specs.declared.pipe_log.FileBlockHandle.{FileBlockHandle}
@@ -8,67 +8,71 @@ use Rattle.raft_log_record_base.specs.Grammar.{IsPrefixFree}
 use Rattle.raft_log_record_items.specs.Placed.{placed}
 use Rattle.raft_log_record_frames.specs.Record.{IsSoundHeader, IsBlock, IsFooter, IsFooterOf, IsFrame, IsRecord, Front, block_of, footer_of, placed_footer_of, frame_at, record_at}
 
--- At one place there is at most one record.
+-- At one offset there is at most one record.
 
--- No header begins another one, and none has two meanings.
+-- No header is a proper prefix of another one, and no bytes are two headers with different contents.
 abbrev pub OneHeaderAtAPlace : Type 0
 OneHeaderAtAPlace = IsPrefixFree IsSoundHeader
 
--- If two footers of any files begin at one place, they have the same bytes and the same items.
+-- If two footers, of any files, begin at the same offset, they have the same bytes and the same items.
 abbrev pub OneFooterAtAPlace : Type 0
 OneFooterAtAPlace =
     (s t : Option ℕ) (a b x y : List ℕ) (items others : List LogItem) → IsFooter s a items
     → IsFooter t b others
     → a ++ x ≡ b ++ y → (a ≡ b) × (items ≡ others)
 
--- If two blocks of one length begin at one place, they have the same bytes and the same entries. Once its length is
--- known, a block has one content.
+-- If two blocks of the same length begin at the same offset, they have the same bytes and the same entries.
 abbrev pub OneBlockOfALength : Type 0
 OneBlockOfALength =
     (a b x y entries others : List ℕ) → IsBlock a entries → IsBlock b others → length a ≡ length b
     → a ++ x ≡ b ++ y → (a ≡ b) × (entries ≡ others)
 
--- If two frames begin at one place, they have the same bytes, items and block: no frame begins another.
+-- If two frames begin at the same offset, they have the same bytes, items and block. So no frame is a proper prefix
+-- of another.
 abbrev pub OneFrameAtAPlace : Type 0
 OneFrameAtAPlace =
     (s t : Option ℕ) (a b x y block other : List ℕ) (items others : List LogItem) → IsFrame s a items block
     → IsFrame t b others other
     → a ++ x ≡ b ++ y → (a ≡ b) × (items ≡ others) × (block ≡ other)
 
--- If two records begin at one place, they have the same bytes, items and entries: no record begins another.
+-- If two records begin at the same offset, they have the same bytes, items and entries. So no record is a proper
+-- prefix of another.
 abbrev pub OneRecordAtAPlace : Type 0
 OneRecordAtAPlace =
     (s t : Option ℕ) (a b x y entries more : List ℕ) (items others : List LogItem)
     → IsRecord s a items entries → IsRecord t b others more
     → a ++ x ≡ b ++ y → (a ≡ b) × (items ≡ others) × (entries ≡ more)
 
--- A record is a frame whose block is read, and such a frame is a record.
+-- Bytes are a record if and only if they are a frame whose block is a valid entry block with these entries.
 abbrev pub RecordIsFrameAndBlock : Type 0
 RecordIsFrameAndBlock =
     (signature : Option ℕ) (bytes entries : List ℕ) (items : List LogItem)
     → (IsRecord signature bytes items entries
     ↔ ((block : List ℕ) × IsFrame signature bytes items block × IsBlock block entries))
 
--- Each frame takes its block and at least 21 bytes more, so a reader that moves from record to record reaches the end.
+-- Each frame is at least 21 bytes longer than its block, so a reader that moves from record to record reaches the
+-- end.
 abbrev pub FramesTakeBytes : Type 0
 FramesTakeBytes =
     (signature : Option ℕ) (bytes block : List ℕ) (items : List LogItem)
     → IsFrame signature bytes items block → 21 + length block ≤ length bytes
 
--- What is read is what is there.
+-- Readers accept exactly what the grammars allow.
 
--- Bytes are read as an entry block if and only if they are one, and its entries' bytes are what is read.
+-- Reading `bytes` as an entry block succeeds with `entries` if and only if `bytes` is a block of these entries'
+-- bytes.
 abbrev pub BlockIsRead : Type 0
 BlockIsRead = (bytes entries : List ℕ) → ((block_of bytes ≡ Ok entries) ↔ IsBlock bytes entries)
 
--- Bytes are read as a footer if and only if they are one whose entries fill the block, and its items are what is read.
+-- Reading `bytes` as a footer succeeds with `items` exactly if it is a footer of these whose entries fill a block of
+-- `len` bytes.
 abbrev pub FooterIsRead : Type 0
 FooterIsRead =
     (signature : Option ℕ) (len : ℕ) (bytes : List ℕ) (items : List LogItem)
     → ((footer_of signature len bytes ≡ Ok items) ↔ IsFooterOf signature len bytes items)
 
--- Bytes are read as a footer with its places if and only if they are a footer whose entries fill the block. Its items
--- with their places are what is read.
+-- Reading `bytes` as a footer with places succeeds exactly if it is a footer whose entries fill the block. The result
+-- is its items, with their places in the block.
 abbrev pub PlacedFooterIsRead : Type 0
 PlacedFooterIsRead =
     (signature : Option ℕ) (block : FileBlockHandle) (bytes : List ℕ) (there : List LogItem)
@@ -77,42 +81,43 @@ PlacedFooterIsRead =
 
 -- What begins at the front of any bytes.
 
--- A frame begins at the front if and only if it is read there, and the reading returns all of it.
+-- Reading a frame from `input` succeeds with `front` exactly if the first `front.len` bytes are a frame with its
+-- items and block.
 abbrev pub FrameIsRead : Type 0
 FrameIsRead =
     (signature : Option ℕ) (input : List ℕ) (front : Front)
     → ((frame_at signature input ≡ Ok front)
     ↔ ((front.len ≤ length input) × IsFrame signature (take front.len input) front.items front.bytes))
 
--- A record begins at the front if and only if it is read there, and the reading returns all of it, with its entries'
--- bytes.
+-- Reading a record from `input` succeeds with `front` exactly if the first `front.len` bytes are a record with its
+-- items and entries.
 abbrev pub RecordIsRead : Type 0
 RecordIsRead =
     (signature : Option ℕ) (input : List ℕ) (front : Front)
     → ((record_at signature input ≡ Ok front)
     ↔ ((front.len ≤ length input) × IsRecord signature (take front.len input) front.items front.bytes))
 
--- A frame is read, whatever follows it.
+-- A frame is read back, with its length, items and block, whatever bytes follow it.
 abbrev pub FramesAreReadBack : Type 0
 FramesAreReadBack =
     (signature : Option ℕ) (bytes block rest : List ℕ) (items : List LogItem)
     → IsFrame signature bytes items block
     → frame_at signature (bytes ++ rest) ≡ Ok (record { len = length bytes; items = items; bytes = block })
 
--- A record is read with its entries' bytes, whatever follows it.
+-- A record is read back, with its length, items and entries, whatever bytes follow it.
 abbrev pub RecordsAreReadBack : Type 0
 RecordsAreReadBack =
     (signature : Option ℕ) (bytes entries rest : List ℕ) (items : List LogItem)
     → IsRecord signature bytes items entries
     → record_at signature (bytes ++ rest) ≡ Ok (record { len = length bytes; items = items; bytes = entries })
 
--- a record of a file with this signature is at the front of these bytes
+-- some first bytes of `input` are a record of a file with this signature
 abbrev pub BeginsRecord : Option ℕ → List ℕ → Type 0
 BeginsRecord signature input =
     (front : Front) × (front.len ≤ length input)
     × IsRecord signature (take front.len input) front.items front.bytes
 
--- For any bytes it can be decided whether a record is at their front.
+-- For any bytes, it is decidable whether they begin with a record.
 abbrev pub RecordIsTold : Type 0
 RecordIsTold =
     (signature : Option ℕ) (input : List ℕ)

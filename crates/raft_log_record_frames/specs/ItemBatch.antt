@@ -1,5 +1,5 @@
--- Lists of items: what callers see of one, its approximate length in bytes, its entries, and its items as a footer
--- gives them with their places.
+-- The list of items in a log batch: what callers see of it, its approximate size, and its items with the places of
+-- their entries after a footer is decoded.
 use Rattle.std.specs.Prelude.{◌≡◌, ℕ, ◌+◌, ◌-◌, ◌*◌, ◌≤◌, List, [], ◌∷◌, ◌++◌, length, take, drop, map, flat_map, sum_by, All, Option, Some, None, Result, Ok, Err, IfOk, MatchResult}
 use Rattle.raft_log_record_base.specs.declared.errors.Error.{Error}
 use Rattle.raft_log_record_base.specs.declared.errors.Error.TheVariants as errors
@@ -15,88 +15,89 @@ use Rattle.raft_log_record_items.specs.Placed.{laid_out, placed}
 use Rattle.raft_log_record_items.specs.Writing.{items_bytes, plain_item, value_of}
 use Rattle.raft_log_record_frames.specs.Record.{IsFooter, IsFooterOf, AddsUp, placed_footer_of}
 
--- the items, and how many fit before memory is asked for
+-- the items, and the capacity: how many items fit without an allocation
 pub record ItemBatch : Type 0 where
   pub items : List LogItem
   pub capacity : ℕ
 
--- no items, and this capacity
+-- a list without items, with this capacity
 abbrev pub no_items : ℕ → ItemBatch
 no_items capacity = record { items = []; capacity = capacity }
 
--- these items were added, and the capacity didn't shrink
+-- `items` were added at the end, and the capacity didn't shrink
 abbrev pub AddsItems : ItemBatch → ItemBatch → List LogItem → Type 0
 AddsItems old new items = (new.items ≡ old.items ++ items) × (old.capacity ≤ new.capacity)
 
--- a put of a group's key was added, and the capacity didn't shrink
+-- a put of `value` under `key` in group `group` was added at the end, and the capacity didn't shrink
 abbrev pub AddsPut : ItemBatch → ItemBatch → ℕ → List ℕ → List ℕ → Type 0
 AddsPut old new group key value = AddsItems old new (put_item group key value ∷ [])
 
--- this many more items need no memory
+-- `count` more items fit without an allocation
 abbrev pub HasItemRoom : ItemBatch → ℕ → Type 0
 HasItemRoom b count = length b.items + count ≤ b.capacity
 
--- the items of the other batch were added, and it is empty now
+-- The items of `other` were added at the end of `old`. `emptied`, which was `other`, now has no items and the same
+-- capacity.
 abbrev pub TakesItems : ItemBatch → ItemBatch → ItemBatch → ItemBatch → Type 0
 TakesItems old new other emptied = AddsItems old new other.items × (emptied ≡ no_items other.capacity)
 
--- the item of these entries of a group
+-- the item with these entries of group `group`
 abbrev pub run_item : ℕ → List EntryIndex → LogItem
 run_item group entries = record { raft_group_id = group; content = contents.EntryIndexes entries }
 
--- the item of a command of a group
+-- the item with this command of group `group`
 abbrev pub command_item : ℕ → Command → LogItem
 command_item group command = record { raft_group_id = group; content = contents.Command command }
 
--- about how many bytes a content has, if each number has eight
+-- the approximate size of a content in bytes: each number counts eight
 abbrev pub content_size : LogItemContent → ℕ
 content_size (contents.EntryIndexes es) = 16 + 8 * length es
 content_size (contents.Command c) = 8
 content_size (contents.Kv kv) = 16 + length kv.key + length (value_of kv)
 
--- about how many bytes an item has
+-- the approximate size of an item in bytes
 abbrev pub item_size : LogItem → ℕ
 item_size x = 8 + content_size x.content
 
--- about how many bytes these items have
+-- the approximate size of these items in bytes
 abbrev pub items_size : List LogItem → ℕ
 items_size xs = sum_by item_size xs
 
--- what is written for these items spells them without their places
+-- the bytes that are written for `items` decode to the items without their places
 abbrev pub IsSpelling : List LogItem → Type 0
 IsSpelling items = AreItems (items_bytes items) (map plain_item items)
 
--- Whichever block the entries of these items fill, the bytes are read in a file without signatures as the items, placed
--- in that block.
+-- `bytes` is a footer without a signature. Decoding it with any block that the entries of `items` fill returns the
+-- items, with their places in that block.
 abbrev pub AreRead : List ℕ → List LogItem → Type 0
 AreRead bytes items =
     (block : FileBlockHandle) → AddsUp items block.len
     → placed_footer_of None block bytes ≡ Ok (placed block (map plain_item items))
 
--- the items, laid out from `first` on, from this offset in their block on
+-- the items, in which entries from item number `first` on have offsets set one after another, from `offset` on
 abbrev pub laid_from : ℕ → ℕ → List LogItem → List LogItem
 laid_from first offset items = take first items ++ laid_out offset (drop first items)
 
--- the entries of a content
+-- the entries of a content; none for a command or a key
 abbrev pub content_entries : LogItemContent → List EntryIndex
 content_entries (contents.EntryIndexes es) = es
 content_entries (contents.Command c) = []
 content_entries (contents.Kv kv) = []
 
--- the entries of these items, one after another
+-- the entries of all these items, one after another
 abbrev pub all_entries : List LogItem → List EntryIndex
 all_entries xs = flat_map (λ x. content_entries x.content) xs
 
--- the entry is in this block, before its checksum
+-- the entry's place is in the block at `block`, before the four bytes of the block's checksum
 abbrev pub IsEntryInBlock : FileBlockHandle → EntryIndex → Type 0
 IsEntryInBlock block e = (e.entries ≡ Some block) × (e.entry_offset + e.entry_len ≤ block.len - 4)
 
--- each entry of these items is in this block
+-- each entry of these items has its place in the block at `block`, before the checksum
 abbrev pub AllLieIn : FileBlockHandle → List LogItem → Type 0
 AllLieIn block items = All (IsEntryInBlock block) (all_entries items)
 
--- the bytes are a footer with this signature, its entries fill the block at this place, and these are its items with
--- their places
+-- `bytes` is a footer with this signature, whose entries fill the block at `handle`. `batch` is its items, with their
+-- places in that block.
 pub record IsPlacedFooter
     (signature : Option ℕ) (handle : FileBlockHandle) (bytes : List ℕ) (batch : List LogItem) : Type 0 where
   pub items : List LogItem
@@ -104,18 +105,20 @@ pub record IsPlacedFooter
   pub adds_up : AddsUp items handle.len
   pub places : batch ≡ placed handle items
 
--- if the call succeeds, it returns the items of such a footer
+-- If the call succeeds, `bytes` is a footer whose entries fill the block, and the call returns its items with their
+-- places.
 abbrev pub FindsPlaced : Result ItemBatch Error → Option ℕ → FileBlockHandle → List ℕ → Type 0
 FindsPlaced result signature handle bytes =
     IfOk result (λ batch. IsPlacedFooter signature handle bytes batch.items)
 
--- if the bytes are such a footer of some items, the call returns these with their places, or memory ran out
+-- If `bytes` is a footer of items that fill the block, the call returns these with their places, or fails with
+-- `Memory`.
 abbrev pub OnlyPlaced : Result ItemBatch Error → Option ℕ → FileBlockHandle → List ℕ → Type 0
 OnlyPlaced result signature handle bytes =
     (items : List LogItem) → IsFooterOf signature handle.len bytes items
     → MatchResult result (λ batch. batch.items ≡ placed handle items) (λ e. e ≡ errors.Memory)
 
--- the result is what the footer says, unless memory ran out
+-- the call returned what `reading` does, with the same error if it fails, or failed with `Memory`
 abbrev pub GivesPlaced : Result ItemBatch Error → Result (List LogItem) Fault → Type 0
 GivesPlaced (Ok batch) reading = reading ≡ Ok batch.items
 GivesPlaced (Err e) reading = FailsOrMemory e reading

@@ -1,4 +1,4 @@
--- Keys that are the log's own.
+-- Keys that are reserved for the log itself.
 use Rattle.std.specs.Prelude.{ℕ, Bool, false, List, [], ◌∷◌, ◌==◌, ◌&&◌}
 
 -- the key begins with two underscores

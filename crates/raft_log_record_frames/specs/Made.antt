@@ -1,4 +1,4 @@
--- A record that is made in a buffer.
+-- A record that was built in a buffer.
 use Rattle.std.specs.Prelude.{◌≡◌, ◌⊎◌, ℕ, ◌≤◌, ◌<◌, ◌^◌, List, ◌++◌, take, drop, map, Option, None, unwrap_or}
 use Rattle.raft_log_record_checksum.specs.Checksum.{crc32_of}
 use Rattle.raft_log_record_base.specs.declared.errors.Error.{Error}
@@ -8,7 +8,9 @@ use Rattle.raft_log_record_items.specs.Items.{AreItems}
 use Rattle.raft_log_record_items.specs.Writing.{items_bytes, plain_item}
 use Rattle.raft_log_record_frames.specs.Record.{IsFooter, block_bytes, record_bytes, record_len}
 
--- the buffer holds the record, whose length fits, and this is the checksum of its items before it is signed
+-- `buffer` is the record of these items and entries, with this signature. `checksum` is the CRC of the items' bytes,
+-- without the signature. These bytes decode to the items. The signature is below 2 ^ 32, and the record's length
+-- below 2 ^ 56.
 pub record HoldsRecordBytes (signature : Option ℕ) (buffer : List ℕ) (checksum : ℕ) (items : List LogItem)
     (entries : List ℕ) : Type 0 where
   pub bytes : buffer ≡ record_bytes signature items entries
@@ -17,19 +19,20 @@ pub record HoldsRecordBytes (signature : Option ℕ) (buffer : List ℕ) (checks
   pub signs : unwrap_or signature 0 < 2 ^ 32
   pub short : record_len items entries < 2 ^ 56
 
--- the bytes are a footer of these items without their places, in a file without signatures
+-- `bytes` is a footer without a signature, of `items` without their places
 abbrev pub IsPlainFooter : List ℕ → List LogItem → Type 0
 IsPlainFooter bytes items = IsFooter None bytes (map plain_item items)
 
--- the buffer with the block of the entries' bytes, which follow room for a header
+-- The buffer begins with 16 bytes for the header, and then has the entries' bytes. These become an entry block; the
+-- header is unchanged.
 abbrev pub with_block : List ℕ → List ℕ
 with_block buffer = take 16 buffer ++ block_bytes (drop 16 buffer)
 
--- memory ran out, or the record's length needs more than 56 bits
+-- the error is `Memory`, or `Full` and `len`, the record's length, is 2 ^ 56 or more
 abbrev pub IsMemoryOrFull : Error → ℕ → Type 0
 IsMemoryOrFull e len = (e ≡ errors.Memory) ⊎ ((e ≡ errors.Full) × (2 ^ 56 ≤ len))
 
--- the buffer, which held the entries' bytes after room for a header, now holds the unsigned record of them and of these
--- items
+-- `old` had 16 bytes for the header and then the entries' bytes. `new` is the record of these entries and of `items`,
+-- without a signature, and `checksum` is the CRC of its items.
 abbrev pub MakesRecord : List ℕ → List ℕ → ℕ → List LogItem → Type 0
 MakesRecord old new checksum items = HoldsRecordBytes None new checksum items (drop 16 old)

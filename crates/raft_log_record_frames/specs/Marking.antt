@@ -1,5 +1,5 @@
--- Marks of atomic groups: items of the log's own. A mark makes a batch a part of several that count together or not at
--- all.
+-- Marks of atomic groups. A mark is an item that the log adds to a batch. It makes the batch one part of an atomic
+-- group, whose parts take effect together or not at all.
 use Rattle.std.specs.Prelude.{◌≡◌, ◌↔◌, ℕ, Bool, true, false, ◌&&◌, ◌==◌, if◌then◌else◌, List, [], ◌∷◌, ◌++◌, length, take, drop, Option, Some, None, nat_lt, bytes_eq, option_map, option_and_then}
 use Rattle.std.specs.Int.{w64, from_be_bytes}
 use Rattle.raft_log_record_base.specs.Number.{IsU64, u64_bytes}
@@ -16,18 +16,18 @@ use Rattle.raft_log_record_frames.specs.declared.marking.Marking.TheVariants.{Un
 use Rattle.raft_log_record_items.specs.Items.{put_item}
 use Rattle.raft_log_record_frames.specs.Key.{is_internal}
 
--- the key of a mark: two underscores and a 1
+-- the key of every mark: two underscores and the byte 1
 abbrev pub mark_key : List ℕ
 mark_key = 95 ∷ 95 ∷ 1 ∷ []
 
--- the byte of a status
+-- the byte that encodes a status
 abbrev pub status_number : AtomicGroupStatus → ℕ
 status_number Begin = 0
 status_number Middle = 1
 status_number End = 2
 
--- A mark: an item of group 0 that puts a value under the key of marks. The value is the number of the atomic group,
--- eight bytes with the highest first, and the byte of the status.
+-- `item` is the mark of atomic group number `id` with this status. It is a put in group 0 under the key of marks. The
+-- value is `id` as eight bytes, big-endian, then the byte of the status.
 pub record IsMark (item : LogItem) (id : ℕ) (status : AtomicGroupStatus) : Type 0 where
   pub group : item.raft_group_id ≡ 0
   pub key_value : KeyValue
@@ -40,91 +40,93 @@ pub record IsMark (item : LogItem) (id : ℕ) (status : AtomicGroupStatus) : Typ
 
 -- Writing.
 
--- the value of a mark
+-- the value of a mark: `id` as eight bytes, big-endian, then the byte of the status
 unfoldable pub mark_value : ℕ → AtomicGroupStatus → List ℕ
 mark_value id status = u64_bytes id ++ status_number status ∷ []
 
--- the mark that is written
+-- the mark that is written for this status of atomic group number `id`
 abbrev pub mark_item : ℕ → AtomicGroupStatus → LogItem
 mark_item id status = put_item 0 mark_key (mark_value id status)
 
 -- Reading.
 
--- the status of this byte, if there is one
+-- the status that the byte `n` encodes, if any
 abbrev pub status_of : ℕ → Option AtomicGroupStatus
 status_of n =
     if n == 0 then Some Begin
     else (if n == 1 then Some Middle else (if n == 2 then Some End else None))
 
--- the status, if it is all of the bytes
+-- the status that these bytes encode, if they are one byte
 abbrev pub status_at : List ℕ → Option AtomicGroupStatus
 status_at [] = None
 status_at (b ∷ []) = status_of b
 status_at (b ∷ c ∷ bs) = None
 
--- what the value of a mark says
+-- the atomic group's number and the status that the value of a mark encodes, if it is valid
 unfoldable pub mark_in : List ℕ → Option (ℕ × AtomicGroupStatus)
 mark_in bytes =
     if nat_lt (length bytes) 8 then None
     else option_map (λ status. (from_be_bytes w64 (take 8 bytes), status)) (status_at (drop 8 bytes))
 
--- what a key says as a mark
+-- the atomic group's number and the status, if this is a put under the key of marks with a valid value
 abbrev pub mark_of_value : OpType → List ℕ → Option (List ℕ) → Option (ℕ × AtomicGroupStatus)
 mark_of_value Put key value = if bytes_eq key mark_key then option_and_then mark_in value else None
 mark_of_value Del key value = None
 
--- what a content says as a mark, if its group is that of marks
+-- the atomic group's number and the status, if the content is a put under the key of marks with a valid value
 abbrev pub mark_of_content : LogItemContent → Option (ℕ × AtomicGroupStatus)
 mark_of_content (contents.EntryIndexes es) = None
 mark_of_content (contents.Command c) = None
 mark_of_content (contents.Kv kv) = mark_of_value kv.op_type kv.key kv.value
 
--- the number of the atomic group and the status, if the item is a mark
+-- the atomic group's number and the status, if the item is a valid mark
 unfoldable pub mark_of : LogItem → Option (ℕ × AtomicGroupStatus)
 mark_of item = if item.raft_group_id == 0 then mark_of_content item.content else None
 
--- whether a key is that of marks, and gets a value
+-- whether the operation is a put under the key of marks
 abbrev pub puts_mark_key : OpType → List ℕ → Bool
 puts_mark_key Put key = bytes_eq key mark_key
 puts_mark_key Del key = false
 
--- whether a content gives the key of marks a value
+-- whether the content is a put under the key of marks
 abbrev pub content_has_mark_key : LogItemContent → Bool
 content_has_mark_key (contents.EntryIndexes es) = false
 content_has_mark_key (contents.Command c) = false
 content_has_mark_key (contents.Kv kv) = puts_mark_key kv.op_type kv.key
 
--- whether the item says that it is a mark: it puts the key of marks in group 0
+-- whether the item is a put under the key of marks in group 0, with a valid value or not
 unfoldable pub has_mark_key : LogItem → Bool
 has_mark_key item = (item.raft_group_id == 0) && content_has_mark_key item.content
 
--- this part of this group, or a broken mark if there is none
+-- the part of an atomic group that a mark names, or `Broken` if there is none
 abbrev pub part_or_broken : Option (ℕ × AtomicGroupStatus) → Marking
 part_or_broken None = Broken
 part_or_broken (Some m) = Part m.0 m.1
 
--- what an item says as a mark: it is no mark, it is a part of a group, or it is a broken mark
+-- `Unmarked` if the item is no mark, `Part` if it is a valid mark, and `Broken` if its value is invalid
 unfoldable pub marking_of : LogItem → Marking
 marking_of item = if has_mark_key item then part_or_broken (mark_of item) else Unmarked
 
--- what two parts of a batch say together: only one of them may have a mark
+-- The marking of a batch, from the markings of its first items and of the rest. At most one of the two may be marked,
+-- else the batch is `Broken`.
 abbrev pub joined_marking : Marking → Marking → Marking
 joined_marking Unmarked marking = marking
 joined_marking (Part id status) Unmarked = Part id status
 joined_marking _ _ = Broken
 
--- what the items of a batch say: broken, if there are two marks
+-- the marking of a batch with these items: `Broken` if one mark is invalid or there are two marks
 abbrev pub marking_of_items : List LogItem → Marking
 marking_of_items [] = Unmarked
 marking_of_items (x ∷ xs) = joined_marking (marking_of x) (marking_of_items xs)
 
--- an item is read as a part of a group if and only if it is that mark
+-- an item is read as part `status` of atomic group `id` if and only if it is the mark for them
 abbrev pub MarksAreTold : Type 0
 MarksAreTold =
     (item : LogItem) (id : ℕ) (status : AtomicGroupStatus)
     → ((marking_of item ≡ Part id status) ↔ IsMark item id status)
 
--- marks are no user's items: their key begins with two underscores
+-- A mark has an internal key, which begins with two underscores. Users can't add such keys, so no item of a user is a
+-- mark.
 abbrev pub UserItemsAreNoMarks : Type 0
 UserItemsAreNoMarks =
     (item : LogItem) (id : ℕ) (status : AtomicGroupStatus) → IsMark item id status

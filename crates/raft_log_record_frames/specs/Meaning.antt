@@ -1,4 +1,4 @@
--- What a batch means, as plain data: what it says about each group, and which part of an atomic group it is.
+-- The content of a batch as plain data: what it changes in each group, and which part of an atomic group it is.
 use Rattle.std.specs.Prelude.{◌≡◌, ℕ, Bool, true, false, List, [], ◌∷◌, ◌++◌, map, Option, Some, None, All}
 use Rattle.raft_log_model_laws.specs.Item.{Item, Tagged, Mark, Record}
 use Rattle.raft_log_model_laws.specs.Item.Item.{Run, Clean, Compact, Put, Del}
@@ -19,12 +19,13 @@ use Rattle.raft_log_record_frames.specs.declared.marking.Marking.{Marking}
 use Rattle.raft_log_record_frames.specs.declared.marking.Marking.TheVariants as markings
 use Rattle.raft_log_record_frames.specs.Marking.{has_mark_key, marking_of_items}
 
--- what is said about a key
+-- the change of one key: a put of `value`, or a deletion
 abbrev pub key_meaning : {E : Type 0} → OpType → List ℕ → List ℕ → Item E (List ℕ)
 key_meaning ops.Put key value = Put key value
 key_meaning ops.Del key value = Del key
 
--- what is said about a group, if `entry` is the meaning of an entry; a put without a value puts the empty one
+-- The change that an item's content makes in its group, with `entry` applied to each of its entries. A put without a
+-- value puts the empty one.
 abbrev pub meaning : {E : Type 0} → (EntryIndex → E) → LogItemContent → Item E (List ℕ)
 meaning entry (contents.EntryIndexes []) = Run 0 []
 meaning entry (contents.EntryIndexes (e ∷ es)) = Run e.index (map entry (e ∷ es))
@@ -32,62 +33,62 @@ meaning entry (contents.Command commands.Clean) = Clean
 meaning entry (contents.Command (commands.Compact index)) = Compact index
 meaning entry (contents.Kv kv) = key_meaning kv.op_type kv.key (value_of kv)
 
--- what an item says, with its group
+-- the change that an item makes, with its group
 abbrev pub tagged : {E : Type 0} → (EntryIndex → E) → LogItem → Tagged E (List ℕ)
 tagged entry x = record { group = x.raft_group_id; item = meaning entry x.content }
 
--- the item before these, if it is no mark
+-- `x` before `xs` if the flag, which says whether `x` is a mark, is false; else `xs` alone
 abbrev pub unless_mark : {X : Type 0} → Bool → X → List X → List X
 unless_mark false x xs = x ∷ xs
 unless_mark true x xs = xs
 
--- what the items say about their groups; a mark, even a broken one, says nothing
+-- the changes that the items make, with their groups; marks, even broken ones, are left out
 abbrev pub tagged_items : {E : Type 0} → (EntryIndex → E) → List LogItem → List (Tagged E (List ℕ))
 tagged_items entry [] = []
 tagged_items entry (x ∷ xs) = unless_mark (has_mark_key x) (tagged entry x) (tagged_items entry xs)
 
--- the part of the atomic group of this number
+-- the mark of the atomic group `id` with this status
 abbrev pub part_of : ℕ → AtomicGroupStatus → Mark
 part_of id statuses.Begin = Begin id
 part_of id statuses.Middle = Middle id
 part_of id statuses.End = End id
 
--- the record of these items with this mark; a broken mark makes no record
+-- The record with these changes and this marking. A broken marking makes no record.
 abbrev pub marked : {E : Type 0} → Marking → List (Tagged E (List ℕ)) → Option (Record E (List ℕ))
 marked markings.Unmarked xs = Some (Plain xs)
 marked (markings.Part id status) xs = Some (Part (part_of id status) xs)
 marked markings.Broken xs = None
 
--- what the items of one batch mean. One mark among them makes them a part of an atomic group. Two marks or a broken one
--- make the record broken.
+-- The record that the items of one batch encode. With one mark, it is a part of an atomic group. With two marks or a
+-- broken one, there is none.
 abbrev pub record_of : {E : Type 0} → (EntryIndex → E) → List LogItem → Option (Record E (List ℕ))
 record_of entry xs = marked (marking_of_items xs) (tagged_items entry xs)
 
--- the new items say the same as the old ones, as this part of an atomic group
+-- the items `new` encode the changes of `old`, as part `status` of atomic group `id`
 abbrev pub BecomesPart : List LogItem → List LogItem → ℕ → AtomicGroupStatus → Type 0
 BecomesPart old new id status =
     record_of (λ e. e) new ≡ Some (Part (part_of id status) (tagged_items (λ e. e) old))
 
--- The items that are read of a written batch mean the same as the batch, if an entry means its length. The entries'
--- places follow from where the batch is.
+-- Items that are written and read back encode the same record as before, if of each entry only its length counts. The
+-- place of an entry depends on where the batch is in the file.
 abbrev pub ReadMeansWritten : Type 0
 ReadMeansWritten =
     (items : List LogItem)
     → record_of (λ e. e.entry_len) (map plain_item items) ≡ record_of (λ e. e.entry_len) items
 
--- what users may add: a key doesn't begin with two underscores
+-- whether users may add this content: a key must not begin with two underscores
 abbrev pub IsUsers : LogItemContent → Type 0
 IsUsers (contents.EntryIndexes es) = Unit {0}
 IsUsers (contents.Command c) = Unit {0}
 IsUsers (contents.Kv kv) = is_internal kv.key ≡ false
 
--- a batch of what users added is a plain one, which says what each of its items says
+-- Items that users may add encode a record outside of atomic groups, with the change of each item.
 abbrev pub UserBatchesArePlain : Type 0
 UserBatchesArePlain =
     (items : List LogItem) → All (λ x. IsUsers x.content) items
     → record_of (λ e. e) items ≡ Some (Plain (map (tagged (λ e. e)) items))
 
--- what a user adds to a batch doesn't change its mark
+-- adding an item that users may add doesn't change the marking of a batch
 abbrev pub UserItemsKeepTheMark : Type 0
 UserItemsKeepTheMark =
     (items : List LogItem) (item : LogItem) → IsUsers item.content

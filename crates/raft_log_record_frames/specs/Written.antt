@@ -1,4 +1,4 @@
--- What is written is a record.
+-- The bytes that are written for a batch are a record.
 use Rattle.std.specs.Prelude.{◌≡◌, ℕ, ◌<◌, ◌^◌, List, [], ◌∷◌, length, map, Option, unwrap_or}
 use Rattle.raft_log_record_items.specs.declared.item.LogItem.{LogItem}
 use Rattle.raft_log_record_items.specs.Items.{AreItems}
@@ -6,13 +6,14 @@ use Rattle.raft_log_record_items.specs.Placed.{entries_len}
 use Rattle.raft_log_record_items.specs.Writing.{items_bytes, plain_item}
 use Rattle.raft_log_record_frames.specs.Record.{IsRecord, record_bytes, record_len}
 
--- each number is one byte
+-- each number is below 256
 abbrev pub AreBytes : List ℕ → Type 0
 AreBytes [] = Unit {0}
 AreBytes (b ∷ bs) = (b < 256) × AreBytes bs
 
--- what is written for items that have a spelling, and for their entries' bytes, is a record of them in a file with this
--- signature
+-- The bytes that are written for `items` and `entries` are a record of them in a file with this signature. The bytes
+-- written for the items must encode them, and the lengths of their entries must add up to that of `entries`. All
+-- lengths, bytes and the signature must be in range.
 abbrev pub WrittenIsRecord : Type 0
 WrittenIsRecord =
     (signature : Option ℕ) (items : List LogItem) (entries : List ℕ) → unwrap_or signature 0 < 2 ^ 32

@@ -1,4 +1,5 @@
--- How items are spelled, and the functions that read them from the front of a list. A number is a var_u64.
+-- How the items of a log batch are encoded, and the functions that read them from the front of a list. Numbers are
+-- varints of at most 64 bits.
 use Rattle.std.specs.Prelude.{◌≡◌, ℕ, zero, suc, ◌+◌, ◌^◌, Bool, List, [], ◌∷◌, length, Option, Some, None, Ok, Err, nat_lt, ◌==◌, if◌then◌else◌, IsTrue}
 use Rattle.raft_log_record_base.specs.Grammar.{Reader, IsKnown, Then, Times, Choice, ◌>>=◌}
 use Rattle.raft_log_record_base.specs.Number.{IsVarU64, IsByte, var_u64_at, byte_at_front}
@@ -15,130 +16,131 @@ use Rattle.raft_log_record_items.specs.Run.{unplaced_entry}
 use Rattle.raft_log_record_base.specs.Fault.{Fault, lifted_at}
 use Rattle.raft_log_record_base.specs.Fault.Fault.{corrupt}
 
--- Rules.
+-- Rules for grammars.
 
--- no bytes at all
+-- a grammar without spellings: no bytes spell anything
 abbrev pub Never : {A : Type 0} → List ℕ → A → Type 0
 Never bytes x = ⊥
 
--- rejects all bytes, with this text
+-- fails on any bytes, with this error text
 abbrev pub never_at : {A : Type 0} → List ℕ → Reader A Fault
 never_at text bytes = Err (corrupt text)
 
--- only the spellings whose value passes the test
+-- the spellings of `P` whose value passes `test`
 abbrev pub Passing : {A : Type 0} → (A → Bool) → (List ℕ → A → Type 0) → List ℕ → A → Type 0
 Passing test P bytes x = P bytes x × IsTrue (test x)
 
--- reads a value; if it fails the test, the error has this text
+-- reads a value with `read`; if the value fails `test`, this is the error text
 abbrev pub passing_at : {A : Type 0} → (A → Bool) → List ℕ → Reader A Fault → Reader A Fault
 passing_at test text read bytes = read bytes >>= λ r. if test r.0 then Ok r else Err (corrupt text)
 
 -- Numbers and bytes.
 
--- a number
+-- reads a varint
 abbrev pub number_at : Reader ℕ Fault
 number_at = lifted_at var_u64_at
 
--- one byte
+-- reads one byte
 abbrev pub kind_at : Reader ℕ Fault
 kind_at = lifted_at byte_at_front
 
--- n bytes
+-- the `n` bytes themselves are the value
 abbrev pub IsBytesOf : ℕ → List ℕ → List ℕ → Type 0
 IsBytesOf n bytes xs = (length bytes ≡ n) × (xs ≡ bytes)
 
--- a length, and that many bytes
+-- a varint, then as many bytes, which are the value
 abbrev pub IsBytes : List ℕ → List ℕ → Type 0
 IsBytes = Then IsVarU64 IsBytesOf
 
--- Entries: their count, if it isn't 0 the first index, then the length of each.
+-- Entries: their count, then the first index if the count isn't 0, then the length of each entry.
 
--- a length has 32 bits
+-- whether the length of an entry is below 2 ^ 32
 abbrev pub is_entry_len : ℕ → Bool
 is_entry_len n = nat_lt n (2 ^ 32)
 
--- the length of an entry
+-- a varint below 2 ^ 32: the length of an entry
 abbrev pub IsEntryLen : List ℕ → ℕ → Type 0
 IsEntryLen = Passing is_entry_len IsVarU64
 
--- n entries, from this index on
+-- the lengths of `n` entries, whose indexes rise by one from `index`
 unfoldable pub AreEntriesFrom : ℕ → ℕ → List ℕ → List EntryIndex → Type 0
 AreEntriesFrom index zero = IsKnown []
 AreEntriesFrom index (suc n) = Then IsEntryLen (λ len.
     Then (AreEntriesFrom (index + 1) n) (λ es. IsKnown (unplaced_entry index len ∷ es)))
 
--- the `count` indexes from this one on are all below 2 ^ 64 - 1
+-- whether `first` + `count` is below 2 ^ 64, so that none of `count` indexes from `first` on is 2 ^ 64 - 1
 abbrev pub is_first_of : ℕ → ℕ → Bool
 is_first_of count first = nat_lt (first + count) (2 ^ 64)
 
--- `count` entries: the first index, if there are any, and their lengths
+-- the first index of `count` entries and their lengths; nothing if `count` is 0
 abbrev pub IsEntriesOf : ℕ → List ℕ → List EntryIndex → Type 0
 IsEntriesOf count = Choice (count == 0) (IsKnown [])
     (Then (Passing (is_first_of count) IsVarU64) (λ first. AreEntriesFrom first count))
 
--- the entries of an item
+-- a list of entries: the count, the first index if there are entries, and their lengths
 abbrev pub IsEntries : List ℕ → List EntryIndex → Type 0
 IsEntries = Then IsVarU64 IsEntriesOf
 
--- Commands: 1 clean; 2 compact, and the index.
+-- Commands: a byte for the kind, 1 for `Clean` and 2 for `Compact`, then the index of a `Compact`.
 
--- the command of this kind
+-- what follows the byte `kind` in a command; any kind but 1 and 2 is invalid
 abbrev pub IsCommandOf : ℕ → List ℕ → Command → Type 0
 IsCommandOf kind = Choice (kind == 1) (IsKnown commands.Clean)
     (Choice (kind == 2) (Then IsVarU64 (λ index. IsKnown (commands.Compact index))) Never)
 
--- a command
+-- a command: the byte for its kind, then the index of a `Compact`
 abbrev pub IsCommand : List ℕ → Command → Type 0
 IsCommand = Then IsByte IsCommandOf
 
--- Keys: 1 put, the key, the value; 2 delete, the key.
+-- Keys: a byte for the operation, 1 for a put and 2 for a deletion, then the key, then the value of a put.
 
--- a key in no file yet
+-- an operation on a key, without the file that it is written to
 abbrev pub new_key : OpType → List ℕ → Option (List ℕ) → KeyValue
 new_key op key value = record { op_type = op; key = key; value = value; file_id = None }
 
--- a group's item
+-- the item of group `group` with this content
 abbrev pub item_of : ℕ → LogItemContent → LogItem
 item_of group content = record { raft_group_id = group; content = content }
 
--- a put of a key, in no file yet
+-- a put of `value` under `key`, without the file that it is written to
 abbrev pub put_of : List ℕ → List ℕ → KeyValue
 put_of key value = record { op_type = ops.Put; key = key; value = Some value; file_id = None }
 
--- a deletion of a key, in no file yet
+-- a deletion of `key`, without the file that it is written to
 abbrev pub del_of : List ℕ → KeyValue
 del_of key = record { op_type = ops.Del; key = key; value = None; file_id = None }
 
--- a put of a group, in no file yet
+-- the item in which a group puts `value` under `key`, without the file that it is written to
 abbrev pub put_item : ℕ → List ℕ → List ℕ → LogItem
 put_item group key value = record { raft_group_id = group; content = contents.Kv (put_of key value) }
 
--- a deletion of a group, in no file yet
+-- the item in which a group deletes `key`, without the file that it is written to
 abbrev pub del_item : ℕ → List ℕ → LogItem
 del_item group key = record { raft_group_id = group; content = contents.Kv (del_of key) }
 
--- the key of this operation, and the value of a put
+-- what follows the byte `op` in an operation on a key: the key, and the value of a put; any other `op` is invalid
 abbrev pub IsKeyValueOf : ℕ → List ℕ → KeyValue → Type 0
 IsKeyValueOf op = Choice (op == 1) (Then IsBytes (λ key. Then IsBytes (λ value. IsKnown (put_of key value))))
     (Choice (op == 2) (Then IsBytes (λ key. IsKnown (del_of key))) Never)
 
--- a key that is put or deleted
+-- an operation on a key: its byte, the key, and the value of a put
 abbrev pub IsKeyValue : List ℕ → KeyValue → Type 0
 IsKeyValue = Then IsByte IsKeyValueOf
 
--- Items: the group, 1 entries, 2 command, 3 key, and the content.
+-- Items: the group, a byte for the kind of content, and the content. The kinds are 1 for entries, 2 for a command, 3
+-- for a key.
 
--- the content of this kind
+-- the content after the byte `kind`; any kind but 1, 2 and 3 is invalid
 abbrev pub IsContentOf : ℕ → List ℕ → LogItemContent → Type 0
 IsContentOf kind = Choice (kind == 1) (Then IsEntries (λ es. IsKnown (contents.EntryIndexes es)))
     (Choice (kind == 2) (Then IsCommand (λ c. IsKnown (contents.Command c)))
     (Choice (kind == 3) (Then IsKeyValue (λ kv. IsKnown (contents.Kv kv))) Never))
 
--- an item
+-- an item: its group, the byte for the kind, and the content
 abbrev pub IsItem : List ℕ → LogItem → Type 0
 IsItem = Then IsVarU64 (λ group. Then IsByte (λ kind.
     Then (IsContentOf kind) (λ content. IsKnown (record { raft_group_id = group; content = content }))))
 
--- a list of items: the count, and then each item
+-- a list of items: their count, then each item
 abbrev pub AreItems : List ℕ → List LogItem → Type 0
 AreItems = Then IsVarU64 (Times IsItem)

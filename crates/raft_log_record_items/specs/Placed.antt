@@ -1,4 +1,5 @@
--- The lengths of items' entries, and the place of each in its entry block.
+-- The lengths of the entries of items, and where each entry is stored. The entries of a record are stored in one
+-- block, and an entry's place is the handle of that block and an offset in it.
 use Rattle.std.specs.Prelude.{◌≡◌, ℕ, ◌+◌, ◌-◌, ◌<◌, ◌^◌, List, [], ◌∷◌, Some, map, min, sum_by, Result, Ok, Err}
 use Rattle.std.specs.Global.{Vec}
 use Rattle.raft_log_record_base.specs.declared.errors.Error.{Error}
@@ -9,71 +10,77 @@ use Rattle.raft_log_record_items.specs.declared.item.LogItemContent.{LogItemCont
 use Rattle.raft_log_record_items.specs.declared.item.LogItemContent.TheVariants as contents
 use Rattle.raft_log_record_items.specs.declared.item.LogItem.{LogItem}
 
--- the length of these entries in bytes
+-- the total length of these entries in bytes
 abbrev pub run_len : List EntryIndex → ℕ
 run_len es = sum_by (λ e. e.entry_len) es
 
--- the length of this content's entries in bytes
+-- the total length of this content's entries in bytes; 0 if it has none
 abbrev pub content_len : LogItemContent → ℕ
 content_len (contents.EntryIndexes es) = run_len es
 content_len (contents.Command c) = 0
 content_len (contents.Kv kv) = 0
 
--- the length of these items' entries in bytes
+-- the total length in bytes of the entries of these items
 abbrev pub entries_len : List LogItem → ℕ
 entries_len xs = sum_by (λ x. content_len x.content) xs
 
--- the entries, laid out one after another in their block from this offset on
+-- the entries with offsets in a block set: one after another without gaps, from `offset` on
 abbrev pub laid_run : ℕ → List EntryIndex → List EntryIndex
 laid_run offset [] = []
 laid_run offset (e ∷ es) = record e { entry_offset = offset } ∷ laid_run (offset + e.entry_len) es
 
--- the content, with its entries laid out one after another from this offset on
+-- the content, with the offsets of its entries set one after another from `offset` on
 abbrev pub laid_content : ℕ → LogItemContent → LogItemContent
 laid_content offset (contents.EntryIndexes es) = contents.EntryIndexes (laid_run offset es)
 laid_content offset (contents.Command c) = contents.Command c
 laid_content offset (contents.Kv kv) = contents.Kv kv
 
--- the items, with their entries laid out one after another from this offset on
+-- the items, with the offsets of all their entries set one after another from `offset` on
 abbrev pub laid_out : ℕ → List LogItem → List LogItem
 laid_out offset [] = []
 laid_out offset (x ∷ xs) =
     record x { content = laid_content offset x.content } ∷ laid_out (offset + content_len x.content) xs
 
--- the entry once its block is written at this place
+-- the entry, with `handle` as the handle of its block
 abbrev pub written_entry : FileBlockHandle → EntryIndex → EntryIndex
 written_entry handle e = record e { entries = Some handle }
 
--- the content once its entry block is written at this place
+-- the content of a record whose entry block is at `handle`: entries get that handle, an operation on a key the file
+-- of the block
 abbrev pub written_content : FileBlockHandle → LogItemContent → LogItemContent
 written_content handle (contents.EntryIndexes es) = contents.EntryIndexes (map (written_entry handle) es)
 written_content handle (contents.Command c) = contents.Command c
 written_content handle (contents.Kv kv) = contents.Kv (record kv { file_id = Some handle.id })
 
--- the item once its entry block is written at this place
+-- the item of a record whose entry block is at `handle`: entries get that handle, an operation on a key the file of
+-- the block
 abbrev pub written_item : FileBlockHandle → LogItem → LogItem
 written_item handle x = record x { content = written_content handle x.content }
 
--- the items once their entry block is written at this place
+-- the items of a record whose entry block is at `handle`: entries get that handle, operations on keys the file of the
+-- block
 abbrev pub written : FileBlockHandle → List LogItem → List LogItem
 written handle xs = map (written_item handle) xs
 
--- the items with their places: their entries are one after another in the block at this place
+-- The items of a record whose entry block is at `handle`. Entries get that handle and an offset in the block, the
+-- first 0. Operations on keys get the file of the block.
 abbrev pub placed : FileBlockHandle → List LogItem → List LogItem
 placed handle items = written handle (laid_out 0 items)
 
--- the item with its places: its entries are in the block at this place, from this offset on
+-- The item of a record whose entry block is at `handle`. Its entries get that handle and an offset in the block, the
+-- first `offset`. An operation on a key gets the file of the block.
 abbrev pub placed_item : FileBlockHandle → ℕ → LogItem → LogItem
 placed_item handle offset x = written_item handle (record x { content = laid_content offset x.content })
 
--- The items with their places, and the length of their entries in bytes, or 2 ^ 64 - 1 if they are longer. If the
--- entries are too long for a block, nothing is said of their places.
+-- `len` is the total length of the entries of `plain`, or 2 ^ 64 - 1 if that is less. If the total is below 2 ^ 32,
+-- `items` is `plain` with the places in the block at `handle`. Otherwise nothing is claimed about `items`.
 pub record ArePlaced (handle : FileBlockHandle) (plain items : List LogItem) (len : ℕ) : Type 0 where
   pub sum : len ≡ min (entries_len plain) (2 ^ 64 - 1)
   pub places : entries_len plain < 2 ^ 32 → items ≡ placed handle plain
 
--- A decoder's result, with the items' places, and the bytes it left are those of the reading, unless memory ran out. If
--- it fails, it takes no bytes.
+-- A decoder returned the items that `reading` reads, with their places in the block at `handle` and the length of
+-- their entries. It left the bytes that `reading` leaves. It may also fail for lack of memory. If it fails, it
+-- consumes nothing.
 abbrev pub ReadsPlaced :
     FileBlockHandle → Result (Vec LogItem × ℕ) Error → List ℕ → List ℕ
     → Result (List LogItem × List ℕ) Fault → Type 0

@@ -1,4 +1,5 @@
--- The one spelling of an item that is written, each number in its shortest form.
+-- The bytes that a writer writes for an item. A grammar allows longer spellings too; the writer uses the shortest
+-- form of each number.
 use Rattle.std.specs.Prelude.{◌≡◌, ℕ, List, [], ◌∷◌, ◌++◌, length, take, flat_map, map, unwrap_or}
 use Rattle.raft_log_record_base.specs.Number.{var_u64_bytes}
 use Rattle.raft_log_record_items.specs.declared.entry.EntryIndex.{EntryIndex}
@@ -15,94 +16,94 @@ use Rattle.raft_log_record_base.specs.Grammar.{Then, Times}
 use Rattle.raft_log_record_base.specs.Number.{IsByte}
 use Rattle.raft_log_record_items.specs.Items.{put_of, del_of, IsContentOf, IsKeyValue, IsItem}
 
--- a length, and that many bytes
+-- the length of `xs` as a varint, then `xs`
 unfoldable pub bytes_bytes : List ℕ → List ℕ
 bytes_bytes xs = var_u64_bytes (length xs) ++ xs
 
--- the lengths of the entries
+-- the lengths of the entries, as varints
 abbrev pub lengths_bytes : List EntryIndex → List ℕ
 lengths_bytes es = flat_map (λ e. var_u64_bytes e.entry_len) es
 
--- the count, the first index if there is one, and the lengths
+-- the count of the entries, the first index if there are any, and their lengths
 unfoldable pub entries_bytes : List EntryIndex → List ℕ
 entries_bytes [] = var_u64_bytes 0
 entries_bytes (e ∷ es) = var_u64_bytes (length (e ∷ es)) ++ var_u64_bytes e.index ++ lengths_bytes (e ∷ es)
 
--- the kind of a command, and the index of a `Compact`
+-- the byte for the command's kind, and the index of a `Compact`
 unfoldable pub command_bytes : Command → List ℕ
 command_bytes Clean = 1 ∷ []
 command_bytes (Compact index) = 2 ∷ var_u64_bytes index
 
--- the byte of an operation
+-- the byte of an operation on a key
 abbrev pub operation_number : OpType → ℕ
 operation_number Put = 1
 operation_number Del = 2
 
--- what is written for a key: the operation, the key, and the value of a put
+-- the byte of the operation, the key, and the value of a put
 unfoldable pub operation_bytes : OpType → List ℕ → List ℕ → List ℕ
 operation_bytes Put key value = (1 ∷ bytes_bytes key) ++ bytes_bytes value
 operation_bytes Del key value = 2 ∷ bytes_bytes key
 
--- a put without a value has the empty one
+-- the value of an operation on a key; empty if it has none
 abbrev pub value_of : KeyValue → List ℕ
 value_of kv = unwrap_or kv.value []
 
--- what is written for a key that is put or deleted
+-- the byte of the operation, the key, and the value of a put, which is empty if there is none
 unfoldable pub key_value_bytes : KeyValue → List ℕ
 key_value_bytes kv = operation_bytes kv.op_type kv.key (value_of kv)
 
--- the kind of a content, and the content
+-- the byte for the kind of content, and the content
 unfoldable pub content_bytes : LogItemContent → List ℕ
 content_bytes (contents.EntryIndexes es) = 1 ∷ entries_bytes es
 content_bytes (contents.Command c) = 2 ∷ command_bytes c
 content_bytes (contents.Kv kv) = 3 ∷ key_value_bytes kv
 
--- the group, the kind and the content
+-- the group, the byte for the kind, and the content
 unfoldable pub item_bytes : LogItem → List ℕ
 item_bytes item = var_u64_bytes item.raft_group_id ++ content_bytes item.content
 
--- the count, and each item
+-- the count of the items, then each item
 unfoldable pub items_bytes : List LogItem → List ℕ
 items_bytes items = var_u64_bytes (length items) ++ flat_map item_bytes items
 
--- What is written of an item and read back: all but its places.
+-- What is read back of an item that was written: all but the places where it is stored.
 
--- a key of which only the operation, the key and the value are known
+-- a put of `value` under `key`, or a deletion of `key`, without a file
 abbrev pub plain_operation : OpType → List ℕ → List ℕ → KeyValue
 plain_operation Put key value = put_of key value
 plain_operation Del key value = del_of key
 
--- the key without its file
+-- the operation on a key without its file; the value of a put is empty if there was none
 abbrev pub plain_key_value : KeyValue → KeyValue
 plain_key_value kv = plain_operation kv.op_type kv.key (value_of kv)
 
--- the content without its places
+-- the content without the places of entries or the file of a key
 abbrev pub plain_content : LogItemContent → LogItemContent
 plain_content (contents.EntryIndexes es) = contents.EntryIndexes (map unplaced es)
 plain_content (contents.Command c) = contents.Command c
 plain_content (contents.Kv kv) = contents.Kv (plain_key_value kv)
 
--- the item without its places
+-- the item without the places of its entries or the file of its key
 abbrev pub plain_item : LogItem → LogItem
 plain_item item = record { raft_group_id = item.raft_group_id; content = plain_content item.content }
 
--- the kind byte, and the content of that kind
+-- the bytes that are written for `content`, with the byte for its kind, spell the content without its places
 abbrev pub IsSpelledContent : LogItemContent → Type 0
 IsSpelledContent content =
     Then IsByte (λ kind. IsContentOf kind) (content_bytes content) (plain_content content)
 
--- what is written for a key by its operation spells it
+-- the bytes that are written for this operation on a key spell the operation
 abbrev pub IsSpelledOperation : OpType → List ℕ → List ℕ → Type 0
 IsSpelledOperation op key value = IsKeyValue (operation_bytes op key value) (plain_operation op key value)
 
--- what is written for a key that is put or deleted spells it
+-- the bytes that are written for `kv` spell `kv` without its file
 abbrev pub IsSpelledKeyValue : KeyValue → Type 0
 IsSpelledKeyValue kv = IsKeyValue (key_value_bytes kv) (plain_key_value kv)
 
--- what is written for these items, one after another, spells them without their places
+-- the bytes that are written for `items`, one after another, spell the items without their places
 abbrev pub AreSpelled : List LogItem → Type 0
 AreSpelled items = Times IsItem (length items) (flat_map item_bytes items) (map plain_item items)
 
--- the buffer still begins with its old bytes
+-- `new` begins with all of `old`
 abbrev pub KeepsFront : List ℕ → List ℕ → Type 0
 KeepsFront old new = take (length old) new ≡ old

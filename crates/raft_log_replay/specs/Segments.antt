@@ -1,4 +1,5 @@
--- The result of reading the segments of a queue.
+-- The result of reading the segments of a queue, possibly by several workers. A segment here is several consecutive
+-- files, or one.
 use Rattle.std.specs.Prelude.{◌≡◌, ℕ, zero, suc, ◌+◌, ◌*◌, ◌<◌, ◌≤◌, min, List, [], ◌∷◌, ◌++◌, length, Result, Ok, Err}
 use Rattle.std.specs.List.{flat_map}
 use Rattle.raft_log_record_base.specs.declared.errors.Error.{Error}
@@ -7,12 +8,12 @@ use Rattle.raft_log_replay.specs.Machines.{Batch}
 use Rattle.raft_log_replay.specs.Sources.{HoldEach}
 use Rattle.raft_log_replay.specs.declared.segments.ReadSegments.{ReadSegments}
 
--- the batches of segments, one after the other
+-- the batches of these segments, one after the other
 abbrev pub all_batches : List (List Batch) → List Batch
 all_batches bss = flat_map (λ bs. bs) bss
 
--- The machine has read the batches of the segments from one number up to another, all in order, and these are the
--- endings of the segments.
+-- The machine has read the batches of the segments from number `first` on, below `last`, all in order. `endings` has
+-- the ending of each segment, which says how reading it ended.
 pub record HasReadSegments {M E : Type 0} (holds : ℕ → List Batch → E → Type 0)
     (reads : List Batch → M → Type 0) (first last : ℕ) (machine : M) (endings : List E) : Type 0 where
   pub batches : List (List Batch)
@@ -20,8 +21,11 @@ pub record HasReadSegments {M E : Type 0} (holds : ℕ → List Batch → E → 
   pub all : first + length batches ≡ last
   pub read : reads (all_batches batches) machine
 
--- Why reading the segments from one number up to another fails. All segments before the one that failed, or that the
--- error is for, were read.
+-- Why reading the segments from number `first` on, below `last`, fails. All segments before the failure were read.
+-- - Memory ran out.
+-- - A segment can't be read.
+-- - A machine fails at the first batches of a segment, after some batches before it.
+-- - Two machines aren't merged, because of batches that they have read.
 pub data IsRefusedIn {E : Type 0} (holds : ℕ → List Batch → E → Type 0) (begins : ℕ → List Batch → Type 0)
     (refuses : ℕ → Error → Type 0) (declines : List Batch → Error → Type 0) (first last : ℕ) (error : Error)
     : Type 0 where
@@ -37,12 +41,12 @@ pub data IsRefusedIn {E : Type 0} (holds : ℕ → List Batch → E → Type 0) 
       → first + length bss ≤ last → (front read : List Batch) → front ++ read ≡ all_batches bss
       → declines read error → IsRefusedIn holds begins refuses declines first last error
 
--- how many of the segments are read by these workers: none without a worker, else all
+-- how many of `count` segments are read: none without workers, else all
 abbrev pub read_by : ℕ → ℕ → ℕ
 read_by zero count = zero
 read_by (suc workers) count = count
 
--- a chunk of the segments from one number up to another: it was read, or reading it failed
+-- the result for a chunk, which is several consecutive segments: all of them were read, or reading failed
 abbrev pub IsChunk : {M E : Type 0} → (ℕ → List Batch → E → Type 0) → (List Batch → M → Type 0)
     → (ℕ → List Batch → Type 0) → (ℕ → Error → Type 0) → (List Batch → Error → Type 0) → ℕ → ℕ
     → Result (ReadSegments M E) Error → Type 0
@@ -51,21 +55,22 @@ IsChunk holds reads begins refuses declines first last (Ok done) =
 IsChunk holds reads begins refuses declines first last (Err error) =
     IsRefusedIn holds begins refuses declines first last error
 
--- where the chunk with this number begins, if each has `size` segments
+-- the number of the first segment in chunk `index`, if each has `size` segments; at most `count`
 abbrev pub chunk_start : ℕ → ℕ → ℕ → ℕ
 chunk_start size count index = min (index * size) count
 
--- these follow one another, each from where the one before ends, from one number up to another
+-- each element covers a range of numbers that begins where the range before ends; together they cover `first` up to
+-- `last`
 abbrev pub Follow : {A : Type 0} → (ℕ → ℕ → A → Type 0) → ℕ → ℕ → List A → Type 0
 Follow between first last [] = first ≡ last
 Follow between first last (x ∷ xs) =
     (next : ℕ) × (first ≤ next) × (next ≤ last) × between first next x × Follow between next last xs
 
--- each segment holds one list of batches, and has one ending
+-- for each segment number, only one list of batches and one ending are possible
 abbrev pub HoldsOne : {E : Type 0} → (ℕ → List Batch → E → Type 0) → Type 0
 HoldsOne {E} holds =
     (k : ℕ) (xs ys : List Batch) (e f : E) → holds k xs e → holds k ys f → (xs ≡ ys) × (e ≡ f)
 
--- both machines have read the same batches, and the segments' endings are the same
+-- both machines have read the same batches, and the endings of their segments are equal
 abbrev pub HaveReadSame : {M E : Type 0} → (List Batch → M → Type 0) → M → List E → M → List E → Type 0
 HaveReadSame reads m es n fs = ((batches : List Batch) × reads batches m × reads batches n) × (es ≡ fs)

@@ -1,30 +1,31 @@
--- Segments of a queue, and machines that read them.
+-- Replaying one segment of a queue with a machine.
 use Rattle.std.specs.Prelude.{◌≡◌, ℕ, suc, ◌⊎◌, List, [], ◌∷◌, ◌++◌}
 use Rattle.raft_log_record_base.specs.declared.errors.Error.{Error}
 use Rattle.raft_log_record_base.specs.declared.errors.Error.TheVariants.{Memory}
 use Rattle.raft_log_replay.specs.Machines.{Batch}
 
--- a machine read the batches that a segment holds, after those that it had read, and this is the segment's ending
+-- the machine read the batches of a segment, after those that it had read before; `ending` says how reading the
+-- segment ended
 pub record ReplaysSegment {M E : Type 0} (holds : List Batch → E → Type 0) (reads : List Batch → M → Type 0)
     (old new : M) (ending : E) : Type 0 where
   pub batches : List Batch
   pub held : holds batches ending
   pub takes : (before : List Batch) → reads before old → reads (before ++ batches) new
 
--- a segment begins with batches at which the machine fails, after those that it has read
+-- the segment begins with some batches at which the machine fails, after those that it had read before
 pub record StopsIn {M : Type 0} (begins : List Batch → Type 0) (reads : List Batch → M → Type 0)
     (declines : List Batch → Error → Type 0) (machine : M) (error : Error) : Type 0 where
   pub batches : List Batch
   pub begun : begins batches
   pub declined : (before : List Batch) → reads before machine → declines (before ++ batches) error
 
--- why a segment isn't replayed: it can't be read, the machine fails at its first batches, or memory ran out
+-- Why a segment isn't replayed: reading it fails, the machine fails at its first batches, or memory ran out.
 abbrev pub SegmentRefused : {M : Type 0} → (Error → Type 0) → (List Batch → Type 0)
     → (List Batch → M → Type 0) → (List Batch → Error → Type 0) → M → Error → Type 0
 SegmentRefused refuses begins reads declines machine error =
     refuses error ⊎ StopsIn begins reads declines machine error ⊎ (error ≡ Memory)
 
--- these are the batches of segments from a number on, segment by segment, and the ending of each
+-- `holds` is true for each segment, from number `k` on, with its list of batches and its ending
 abbrev pub HoldEach : {E : Type 0} → (ℕ → List Batch → E → Type 0) → ℕ → List (List Batch) → List E → Type 0
 HoldEach holds k [] [] = Unit {0}
 HoldEach holds k [] (e ∷ es) = ⊥

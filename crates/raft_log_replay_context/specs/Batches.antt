@@ -1,4 +1,4 @@
--- The batches of a queue as a context reads them, and why reading some fails.
+-- The batches of a queue that a replay context reads, and why reading some of them fails.
 use Rattle.std.specs.Prelude.{◌≡◌, ◌-◌, ◌^◌, ℕ, min, List, [], ◌∷◌, ◌++◌, Option, Some, None}
 use Rattle.std.specs.List.{AllZip}
 use Rattle.std.specs.String.{string_bytes}
@@ -19,67 +19,72 @@ use Rattle.raft_log_replay_context.specs.Pieces.{invalid_mark}
 use Rattle.raft_log_replay_context.specs.Context.{tables_of, written_to, HasRead}
 use Rattle.raft_log_replay_context.specs.Written.{written_by}
 
--- no record touches the raft group of an open atomic group, and what counts of the records is healthy
+-- The records are in order. Between the begin and the end of an atomic group, nothing takes effect for its raft
+-- groups. In each raft group, what takes effect of the records leaves no hole and no index too high.
 pub record AreOrderly (rs : List ReadRecord) : Type 0 where
   pub tidy : Tidy (records_of rs)
   pub healthy : (g : ℕ) → AreHealthy (counted g rs)
 
--- with one more record, these records aren't in order
+-- there is one more record, and with it the records are not in order
 abbrev pub IsDisorder : List ReadRecord → Option ReadRecord → Type 0
 IsDisorder rs None = ⊥
 IsDisorder rs (Some r) = AreOrderly (rs ++ r ∷ []) → ⊥
 
--- why a batch of Rewrite isn't read: it has a broken mark or two marks, and this is the text; or memory ran out
+-- Why a batch of Rewrite isn't read: it has a broken mark or two marks, and the error is `Corruption` with this text.
+-- The error may always be `Memory`.
 abbrev pub RewriteIsUnread : Option ReadRecord → Error → Type 0
 RewriteIsUnread r (errors.Corruption text) = (r ≡ None) × (string_bytes text ≡ invalid_mark)
 RewriteIsUnread r errors.Memory = Unit {0}
 RewriteIsUnread r _ = ⊥
 
--- Why a batch isn't read after these records: it leaves a hole, or else disorder; it has a broken mark or two marks,
--- and this is the text; or memory ran out
+-- Why a batch isn't read after the records `rs`. The error is `Hole` if the batch is a record, and the records with
+-- it are not in order. It is `Corruption` with this text if the batch has a broken mark or two marks. It may always
+-- be `Memory`.
 abbrev pub IsBatchDeclined : List ReadRecord → Option ReadRecord → Error → Type 0
 IsBatchDeclined rs r errors.Hole = IsDisorder rs r
 IsBatchDeclined rs r (errors.Corruption text) = (r ≡ None) × (string_bytes text ≡ invalid_mark)
 IsBatchDeclined rs r errors.Memory = Unit {0}
 IsBatchDeclined rs r _ = ⊥
 
--- why a context doesn't read a batch
+-- why the context `old` doesn't read a batch with these items in this file, whatever records it has read
 abbrev pub ReplayDeclined : FileId → List LogItem → MemTableRecoverContext → Error → Type 0
 ReplayDeclined file items old error =
     (rs : List ReadRecord) → HasRead file.queue rs old
     → IsBatchDeclined rs (record_read file.queue file.seq items) error
 
--- why the records of two segments aren't joined: they aren't in order, or memory ran out
+-- Why the records of two segments aren't joined. The error is `Hole` if the records of both are not in order. It may
+-- always be `Memory`.
 abbrev pub StayApart : List ReadRecord → Error → Type 0
 StayApart rs errors.Hole = AreOrderly rs → ⊥
 StayApart rs errors.Memory = Unit {0}
 StayApart rs _ = ⊥
 
--- why a context isn't merged with the next one
+-- why the context `old` isn't merged with `later`, whatever records the two have read, one after the other
 abbrev pub MergeDeclined : LogQueue → MemTableRecoverContext → MemTableRecoverContext → Error → Type 0
 MergeDeclined queue old later error =
     (xs ys : List ReadRecord) → HasRead queue xs old → HasRead queue ys later → StayApart (xs ++ ys) error
 
--- these are the records of a queue's batches, one for each
+-- `rs` has one record for each batch of `bs`: the one that reading the batch gives
 abbrev pub AreRecordsRead : LogQueue → List Batch → List ReadRecord → Type 0
 AreRecordsRead queue bs rs = AllZip (λ b r. record_read queue b.file b.items ≡ Some r) bs rs
 
--- The context has read these batches of a queue: each is a record, and it has read the records. It has counted their
--- entries and values, up to 2 ^ 64 - 1
+-- The context has read these batches of a queue. Each of them is a record, and the context represents these records.
+-- It has counted their entries and values, up to 2 ^ 64 - 1.
 pub record HasReadBatches (queue : LogQueue) (bs : List Batch) (c : MemTableRecoverContext) : Type 0 where
   pub records : List ReadRecord
   pub told : AreRecordsRead queue bs records
   pub read : HasRead queue records c
   pub written : written_to c ≡ min (written_by bs) (2 ^ 64 - 1)
 
--- the batches are records, which aren't in order
+-- each of the batches is a record, and the records are not in order
 pub record AreDisorderly (queue : LogQueue) (bs : List Batch) : Type 0 where
   pub records : List ReadRecord
   pub told : AreRecordsRead queue bs records
   pub disorder : AreOrderly records → ⊥
 
--- why a context fails at batches of a queue: they aren't in order, for example because a run leaves a hole; a mark of
--- one is broken, and this is the text; or memory ran out
+-- Why a context fails at batches of a queue. The error is `Hole` if their records are not in order, for example
+-- because a run leaves a hole. It is `Corruption` with this text if some batch has a broken mark or two marks. It may
+-- always be `Memory`.
 abbrev pub Declines : LogQueue → List Batch → Error → Type 0
 Declines queue bs errors.Hole = AreDisorderly queue bs
 Declines queue bs (errors.Corruption text) =
@@ -87,8 +92,8 @@ Declines queue bs (errors.Corruption text) =
 Declines queue bs errors.Memory = Unit {0}
 Declines queue bs _ = ⊥
 
--- Two contexts have read the same records of a queue. If these are in order, their tables hold the same entries and
--- values of each group, in the same places and files, and the same groups count
+-- Two contexts have read the same records of a queue. If these are in order, both have the same entries and values in
+-- each group, at the same places and in the same files. The same groups count, too.
 pub record HaveReadAlike (queue : LogQueue) (m n : MemTableRecoverContext) : Type 0 where
   pub records : List ReadRecord
   pub first : HasRead queue records m

@@ -1,4 +1,5 @@
--- The files that tables note for the atomic groups of Rewrite, and what counts from them on.
+-- The files that the tables record for the atomic groups of Rewrite, and what takes effect if a replay starts at
+-- these.
 use Rattle.std.specs.Prelude.{◌≡◌, ℕ, ◌==◌, ◌||◌, ◌≤◌, ◌⊎◌, Bool, true, false, List, [], ◌∷◌, ◌++◌, Option, Some, None}
 use Rattle.std.specs.Global.{Vec}
 use Rattle.raft_log_model_laws.specs.Item.{Item, items_of}
@@ -30,86 +31,87 @@ ReadsParts (p ∷ ps) old new =
     (next : MemTables) × ReadsAll false p.file old next (tagged_items place_of p.items.items)
     × ReadsParts ps next new
 
--- the files of these records, after those so far: from the first one's to the last one's
+-- the range of files after `so_far` was extended by the files of these records, one after another
 abbrev pub files_after : Option GroupFiles → List GroupPart → Option GroupFiles
 files_after so_far [] = so_far
 files_after so_far (p ∷ ps) = files_after (Some (with_file so_far p.file)) ps
 
--- the files of an atomic group with these records
+-- the range of the files of these records of an atomic group
 abbrev pub files_of : List GroupPart → Option GroupFiles
 files_of ps = files_after None ps
 
--- whether an item of the records is of this raft group
+-- whether one of the records has an item of raft group `g`
 abbrev pub parts_mention : ℕ → List GroupPart → Bool
 parts_mention g [] = false
 parts_mention g (p ∷ ps) = mentions g p.items.items || parts_mention g ps
 
--- whether the raft group is among these
+-- whether raft group `g` is in the list
 abbrev pub is_listed : ℕ → List ℕ → Bool
 is_listed g [] = false
 is_listed g (h ∷ hs) = (h == g) || is_listed g hs
 
--- the files are noted for a raft group, with those that were noted before; if nothing was read of it, nothing is noted
+-- The files were recorded for a raft group, in addition to those from before. If nothing was read of the group,
+-- nothing was recorded.
 abbrev pub NotesAt : GroupFiles → Replayed → Replayed → Type 0
 NotesAt files old new =
     (new ≡ with_read_group old files) ⊎ ((old ≡ nothing_replayed) × (new ≡ nothing_replayed))
 
--- the files, if there are any, are noted for each raft group that passes the test, and for no other
+-- If there are files, they were recorded for each raft group for which `test` is true, and for no other.
 abbrev pub NotesAll : Option GroupFiles → (ℕ → Bool) → (ℕ → Replayed) → (ℕ → Replayed) → Type 0
 NotesAll None test old new = (g : ℕ) → new g ≡ old g
 NotesAll (Some files) test old new =
     (g : ℕ) → (test g ≡ true → NotesAt files (old g) (new g)) × (test g ≡ false → new g ≡ old g)
 
--- The atomic group of these records counts: the records are applied to the tables, which note its files for each of its
--- raft groups. Noting doesn't change which groups count
+-- The atomic group with these records took effect. The records were applied to the tables, and its files were
+-- recorded for each of its raft groups. Recording the files doesn't change which groups count.
 pub record SettlesGroup (ps : List GroupPart) (old new : MemTables) : Type 0 where
   pub between : MemTables
   pub reads : ReadsParts ps old between
   pub notes : NotesAll (files_of ps) (λ g. parts_mention g ps) (replayed_of between) (replayed_of new)
   pub counting : (g : ℕ) → counts new g ≡ counts between g
 
--- the atomic groups count, one after another
+-- these atomic groups took effect, one after another
 abbrev pub SettlesAll : List (Vec GroupPart) → MemTables → MemTables → Type 0
 SettlesAll [] old new = new ≡ old
 SettlesAll (ps ∷ pss) old new = (next : MemTables) × SettlesGroup ps.items old next × SettlesAll pss next new
 
--- the atomic group counts, if there is one
+-- the atomic group took effect, if there is one
 abbrev pub SettlesWhole : Option (Vec GroupPart) → MemTables → MemTables → Type 0
 SettlesWhole None old new = new ≡ old
 SettlesWhole (Some ps) old new = SettlesGroup ps.items old new
 
--- all of the places are in this file
+-- every place is in file `n`
 abbrev pub AllLieInFile : ℕ → List Located → Type 0
 AllLieInFile n [] = Unit {0}
 AllLieInFile n (p ∷ ps) = (p.place.file ≡ n) × AllLieInFile n ps
 
--- the entries and values of the item are in this file
+-- every entry or value of the item is in file `n`
 abbrev pub ItemLiesIn : ℕ → Item Located KeyValue → Type 0
 ItemLiesIn n (Run f ps) = AllLieInFile n ps
 ItemLiesIn n (Put k v) = v.file ≡ n
 ItemLiesIn n x = Unit {0}
 
--- the entries and values of the items are in this file
+-- every entry and value of the items is in file `n`
 abbrev pub ItemsLieIn : ℕ → List ReadItem → Type 0
 ItemsLieIn n [] = Unit {0}
 ItemsLieIn n (x ∷ xs) = ItemLiesIn n x.item × ItemsLieIn n xs
 
--- the entries and values of each record are in the file that it was read in
+-- each record has its entries and values in the file that it was read from
 abbrev pub AreWhereRead : List ReadRecord → Type 0
 AreWhereRead [] = Unit {0}
 AreWhereRead (r ∷ rs) = ItemsLieIn r.file (items_of r.taken) × AreWhereRead rs
 
--- the records were read in files up to this one
+-- every record was read from a file up to number `n`
 abbrev pub AllReadTo : ℕ → List ReadRecord → Type 0
 AllReadTo n [] = Unit {0}
 AllReadTo n (r ∷ rs) = (r.file ≤ n) × AllReadTo n rs
 
--- the noted files of atomic groups end at or before this file
+-- the recorded files of atomic groups end at or before file `n`
 abbrev pub IsNotedTo : ℕ → Option GroupFiles → Type 0
 IsNotedTo n None = Unit {0}
 IsNotedTo n (Some files) = files.to ≤ n
 
--- for no raft group a file is noted past those that these records were read in
+-- for no raft group is a file recorded that is past all those from which the records were read
 abbrev pub AreNotedTo : List ReadRecord → (ℕ → Replayed) → Type 0
 AreNotedTo rs z = (n : ℕ) → AllReadTo n rs → (g : ℕ) → IsNotedTo n (z g).table.noted
 
@@ -118,7 +120,8 @@ abbrev pub file_in : Content Located KeyValue → ℕ
 file_in (Entry p) = p.place.file
 file_in (Value v) = v.file
 
--- what counts from some record on, which is in this file or a later one, says something of the slot
+-- Some suffix of `rs` begins with a record in file `n` or a later one. Of the items that take effect if only the
+-- suffix is read, one touches slot `s` of group `g`.
 pub record CountsFrom (rs : List ReadRecord) (g n : ℕ) (s : Slot) : Type 0 where
   pub front : List ReadRecord
   pub first : ReadRecord
@@ -127,14 +130,16 @@ pub record CountsFrom (rs : List ReadRecord) (g n : ℕ) (s : Slot) : Type 0 whe
   pub from : n ≤ first.file
   pub spoken : IsSpoken (says s (counted g (first ∷ back)))
 
--- For a raft group, each slot that holds something by the records counts from the file on that the noted groups give
--- for its own file
+-- Suppose a slot of raft group `g` has content. A suffix of the records has an item that takes effect and touches the
+-- slot. The suffix begins in a certain file or later: the content's own or, if an atomic group may reach into that,
+-- the first recorded one.
 abbrev pub NotesCover : List ReadRecord → ℕ → Option GroupFiles → Type 0
 NotesCover rs g noted =
     (s : Slot) (c : Content Located KeyValue) → says s (counted g rs) ≡ Some (Some c)
     → CountsFrom rs g (start_of (file_in c) noted) s
 
--- for each raft group whose records are in order, the noted groups cover what it holds by the records
+-- Suppose each record has its content in the file that it was read from, and the records are in order. Then the
+-- recorded files of each raft group cover its content, as the definition above says.
 abbrev pub AreNotedRead : List ReadRecord → (ℕ → Replayed) → Type 0
 AreNotedRead rs z =
     AreWhereRead rs → Tidy (records_of rs) → (g : ℕ) → AreHealthy (counted g rs)

@@ -1,4 +1,4 @@
--- The files of a directory that were read, and the tables that were built from them.
+-- The files of a log directory that were read, and the tables that were built from them.
 use Rattle.std.specs.Prelude.{◌≡◌, ℕ, List, [], ◌∷◌, ◌++◌, map}
 use Rattle.raft_log_model_laws.specs.Item.{Record, Tagged}
 use Rattle.raft_log_model_laws.specs.Item.Record.{Plain, Part}
@@ -16,32 +16,35 @@ use Rattle.raft_log_replay_context.specs.Records.{counted, records_of, AreHealth
 use Rattle.raft_log_replay_context.specs.Noting.{AreWhereRead}
 use Rattle.raft_log_replay_context.specs.Context.{ArePlain, ComesOver}
 
--- the item with the bytes at its places, and its value
+-- the item with its entries as bytes, if `at` gives the bytes at each place, and with its value
 abbrev pub told_tagged : {E : Type 0} → (Located → E) → Tagged Located KeyValue → Tagged E (List ℕ)
 told_tagged at x = record { group = x.group; item = told at x.item }
 
--- the record with the bytes at its places, and its values
+-- the record with its entries as bytes, if `at` gives the bytes at each place, and with its values
 abbrev pub told_record : {E : Type 0} → (Located → E) → Record Located KeyValue → Record E (List ℕ)
 told_record at (Plain xs) = Plain (map (told_tagged at) xs)
 told_record at (Part m xs) = Part m (map (told_tagged at) xs)
 
--- the records that were read, with the bytes at their places, and without their files
+-- the records with their entries as bytes, if `at` gives the bytes at each place, without the files that they were
+-- read from
 abbrev pub told_records : {E : Type 0} → (Located → E) → List ReadRecord → List (Record E (List ℕ))
 told_records at rs = map (told_record at) (records_of rs)
 
--- the records were read in this file
+-- every record was read from file `n`
 abbrev pub AllReadIn : ℕ → List ReadRecord → Type 0
 AllReadIn n [] = Unit {0}
 AllReadIn n (r ∷ rs) = (r.file ≡ n) × AllReadIn n rs
 
--- the files hold the records that were read, each in its own file
+-- `rs` are the records of these files, in order, each read from the file that has it
 abbrev pub FilesHold : {E : Type 0} → (Located → E) → List ReadRecord → List (LogFile E (List ℕ)) → Type 0
 FilesHold at rs [] = rs ≡ []
 FilesHold at rs (f ∷ fs) =
     (here rest : List ReadRecord) × (rs ≡ here ++ rest) × AllReadIn f.number here
     × (f.records ≡ told_records at here) × FilesHold at rest fs
 
--- these records were read of a queue: they are those of its live range, and their entries and values are in their files
+-- `rs` are the records of the files `fs`, whose numbers rise. Their entries and values are in the files that they
+-- were read from. Between the begin and the end of an atomic group, nothing takes effect for its raft groups. In each
+-- raft group, what takes effect leaves no hole and no index too high.
 pub record IsWhatWasRead {E : Type 0} (at : Located → E) (rs : List ReadRecord)
     (fs : List (LogFile E (List ℕ))) : Type 0 where
   pub files : FilesHold at rs fs
@@ -50,12 +53,12 @@ pub record IsWhatWasRead {E : Type 0} (at : Located → E) (rs : List ReadRecord
   pub tidy : Tidy (records_of rs)
   pub healthy : (g : ℕ) → AreHealthy (counted g rs)
 
--- the map of the records that were read
+-- the contents of the log, if the queues have these records and `at` gives the bytes at each place
 abbrev pub map_read : {E : Type 0} → (Located → E) → List ReadRecord → List ReadRecord → Map E (List ℕ)
 map_read at rewrite append = directory_meaning (told_records at rewrite) (told_records at append)
 
--- The tables are those of a directory that was read: its files hold the records, those of Append count at once, and the
--- entries of each group are one run
+-- The tables are those of the log files `f`, after these records were read from both queues. The records of Append
+-- take effect at once, and in each group the entries have consecutive indexes below 2 ^ 64 - 1.
 pub record AreTablesOf {E : Type 0} (at : Located → E) (rewrite append : List ReadRecord) (m : MemTables)
     (f : Files E (List ℕ)) : Type 0 where
   pub over : ComesOver rewrite append m

@@ -1,4 +1,4 @@
--- What is read of a queue: records, each in its file, with places as entries.
+-- The records that are read from a queue: each with its file, and with places instead of entries' bytes.
 use Rattle.std.specs.Prelude.{ℕ, Bool, true, false, List, [], ◌∷◌, ◌++◌, map, Option, Some, None, option_map}
 use Rattle.raft_log_record_base.specs.declared.pipe_log.LogQueue.{LogQueue}
 use Rattle.raft_log_record_base.specs.declared.pipe_log.LogQueue.TheVariants.{Append, Rewrite}
@@ -19,70 +19,74 @@ use Rattle.raft_log_memtable_index.specs.Shown.{KeyValue}
 use Rattle.raft_log_memtable_index.specs.Bridge.{Located}
 use Rattle.raft_log_memtable_index.specs.Replayed.{placed, IsReplayed, Replayed}
 
--- an item that was read, with its group: the places of its entries, and the file of its value
+-- an item that was read, with its group: places for its entries, and for a value its file
 abbrev pub ReadItem : Type 0
 ReadItem = Tagged Located KeyValue
 
--- a record of a queue, and the file that it was read in
+-- a record, and the file that it was read from
 pub record ReadRecord : Type 0 where
   pub file : ℕ
   pub taken : Record Located KeyValue
 
--- the records without their files
+-- the records without the files that they were read from
 abbrev pub records_of : List ReadRecord → List (Record Located KeyValue)
 records_of rs = map (λ r. r.taken) rs
 
--- the item as it was read in file n of this queue
+-- the item as it was read in file `n`, of Append if `q` is true, else of Rewrite
 abbrev pub placed_tagged : Bool → ℕ → Tagged Place (List ℕ) → ReadItem
 placed_tagged q n x = record { group = x.group; item = placed q n x.item }
 
--- what these items say, read in file n of this queue; a mark says nothing
+-- the items as they were read in file `n`, of Append if `q` is true, else of Rewrite; marks of atomic groups are left
+-- out
 abbrev pub said_in : Bool → ℕ → List LogItem → List ReadItem
 said_in q n items = map (placed_tagged q n) (tagged_items place_of items)
 
--- the record of these items with this mark; a broken mark makes no record
+-- the record with these items and this marking; a broken marking makes no record
 abbrev pub taken_as : Marking → List ReadItem → Option (Record Located KeyValue)
 taken_as markings.Unmarked xs = Some (Plain xs)
 taken_as (markings.Part id status) xs = Some (Part (part_of id status) xs)
 taken_as markings.Broken xs = None
 
--- the record in this file
+-- the record, read from file `n`
 abbrev pub in_file : ℕ → Record Located KeyValue → ReadRecord
 in_file n r = record { file = n; taken = r }
 
--- The record of a batch that was read in file n of a queue. In Append all counts at once, and a mark says nothing. In
--- Rewrite one mark makes it a part of an atomic group; with two marks or a broken one it is no record
+-- The record of a batch that was read in file `n` of a queue. In Append, every record takes effect at once, and marks
+-- are ignored. In Rewrite, a batch with one mark is part of an atomic group, and one with two marks or a broken one
+-- is no record.
 abbrev pub record_read : LogQueue → ℕ → List LogItem → Option ReadRecord
 record_read Append n items = Some (in_file n (Plain (said_in true n items)))
 record_read Rewrite n items =
     option_map (in_file n) (taken_as (marking_of_items items) (said_in false n items))
 
--- what counts of the records for one group
+-- the items of group `g` that take effect, if these are all records: those of incomplete atomic groups don't
 abbrev pub counted : ℕ → List ReadRecord → List (Item Located KeyValue)
 counted g rs = rewritten g (records_of rs)
 
--- each run of the items ends at or below 2^64 - 1
+-- each run of the items ends at or below 2 ^ 64 - 1
 abbrev pub RunsFit : {E V : Type 0} → List (Item E V) → Type 0
 RunsFit [] = Unit {0}
 RunsFit (x ∷ xs) = Fits x × RunsFit xs
 
--- no run of the items leaves a hole, and none ends past 2^64 - 1
+-- no run of the items leaves a hole, and each ends at or below 2 ^ 64 - 1
 abbrev pub AreHealthy : {E V : Type 0} → List (Item E V) → Type 0
 AreHealthy xs = NoHole nothing xs × RunsFit xs
 
--- What was read of each group is what counts of the records. That needs that no other record touches the raft group of
--- an open atomic group, and that what counts is healthy
+-- The result of the replay in each raft group is that of the items that take effect. This is claimed under two
+-- conditions. Between the begin and the end of an atomic group, nothing takes effect for its raft groups. In the raft
+-- group, what takes effect leaves no hole and no index too high.
 abbrev pub AreReplayed : Bool → List ReadRecord → (ℕ → Replayed) → Type 0
 AreReplayed q rs z =
     Tidy (records_of rs) → (g : ℕ) → AreHealthy (counted g rs) → IsReplayed q (counted g rs) (z g)
 
--- these items were applied to tables: they were read after what was read of each group before, if both are healthy
+-- Applying the items `xs` to the tables has, in each raft group, the result of replaying them after what was read
+-- before. This is claimed only if all items together leave no hole and no index too high.
 abbrev pub TablesTake : Bool → List ReadItem → (ℕ → Replayed) → (ℕ → Replayed) → Type 0
 TablesTake q xs old new =
     (g : ℕ) (before : List (Item Located KeyValue)) → AreHealthy (before ++ of_group g xs)
     → IsReplayed q before (old g) → IsReplayed q (before ++ of_group g xs) (new g)
 
--- what was read of each group is unchanged, whatever was noted of its files
+-- in each raft group, whatever items `old` is the result of, `new` is too; only recorded files may differ
 abbrev pub KeepsRead : (ℕ → Replayed) → (ℕ → Replayed) → Type 0
 KeepsRead old new =
     (g : ℕ) (q : Bool) (xs : List (Item Located KeyValue)) → IsReplayed q xs (old g) → IsReplayed q xs (new g)

@@ -1,4 +1,4 @@
--- What follows from the definitions: laws, each the contract of an empty function.
+-- Laws that follow from the definitions. Each is the contract of an empty function.
 use Rattle.std.specs.Prelude.{◌≡◌, ◌↔◌, ℕ, [], ◌∷◌, List}
 use Rattle.raft_log_model_laws.specs.Meaning.{Slot}
 use Rattle.raft_log_model_laws.specs.Groups.{taken}
@@ -14,47 +14,49 @@ use Rattle.raft_voter_records.specs.Voters.{Group, Groups, HoldsVoter, IsForeign
 use Rattle.raft_voter_records.specs.MeaningChanges.{change_items, change_record, decided_items}
 use Rattle.raft_voter_records.specs.Readings.{HasForeign, IsReadAs, read_voter}
 
--- A request's record leads from the voters before the request to those after it, whatever the request is.
+-- If the contents represent the voters `W`, then after the record of any request they represent the voters after that
+-- request.
 abbrev pub RecordsLead : Type 0
 RecordsLead = (m : Groups) (W : World) (q : ℕ × Request) → Means m W
     → Means (taken m (change_record W q ∷ [])) (after_one W q)
 
--- What is written for a change is what an outline decided, the same for each voter with that outline.
+-- Suppose `c` is the change for every voter with the outline `o`. Then its items are those found by comparing such a
+-- voter before and after the request, and are the same for each of them.
 abbrev pub DecisionsAreWritten : Type 0
 DecisionsAreWritten = (o : State) (q : Request) (c : Change) → ChangesEach o q c
     → (v : State) → without_bytes v ≡ o → change_items v q ≡ decided_items c q
 
--- A group has one voter at most.
+-- A group's contents represent at most one voter.
 abbrev pub OneVoter : Type 0
 OneVoter = (grp : Group) (v w : State) → IsVoter grp v → IsVoter grp w → v ≡ w
 
--- A map means one world at most.
+-- Contents represent at most one world, that is, at most one voter for each group.
 abbrev pub OneWorld : Type 0
 OneWorld = (m : Groups) (V W : World) → Means m V → Means m W → V ≡ W
 
--- A group is foreign if and only if it holds something, and no voter.
+-- A group is foreign if and only if it isn't empty, and holds no voter.
 abbrev pub ForeignExactly : Type 0
 ForeignExactly = (grp : Group)
     → (IsForeign grp ↔ ((IsVoid grp → ⊥) × ((v : State) → ¬ HoldsVoter grp v)))
 
--- An empty map means fresh voters.
+-- If every group is empty, the contents represent fresh voters.
 abbrev pub EmptyMapsAreFresh : Type 0
 EmptyMapsAreFresh = (m : Groups) → ((g : ℕ) → IsVoid (m g)) → Means m fresh_world
 
--- Two maps with the same content mean the same voters, so a purge changes none.
+-- If two contents are equal in every slot, they represent the same voters.
 abbrev pub SameMapsMeanTheSame : Type 0
 SameMapsMeanTheSame = (m n : Groups) → ((g : ℕ) (s : Slot) → m g s ≡ n g s)
     → (W : World) → Means m W → Means n W
 
--- A group that is read this way holds that voter.
+-- If reading a group finds the state `s` and the entries `es`, the group holds the voter with them.
 abbrev pub ReadGroupsHoldVoters : Type 0
 ReadGroupsHoldVoters = (grp : Group) (s : VoterState) (es : List VoterEntry) → IsReadAs grp s es
     → HoldsVoter grp (read_voter s es)
 
--- A group that holds a voter is read as its state and its entries.
+-- If a group holds a voter, reading the group finds the voter's state and entries.
 abbrev pub VotersAreRead : Type 0
 VotersAreRead = (grp : Group) (v : State) → HoldsVoter grp v → IsReadAs grp (stored_state v) (log_entries v)
 
--- A group that has any of this is foreign.
+-- A group with any of the flaws of `HasForeign` is foreign: no voter has its contents.
 abbrev pub ForeignGroupsAreForeign : Type 0
 ForeignGroupsAreForeign = (grp : Group) → HasForeign grp → IsForeign grp

@@ -1,4 +1,4 @@
--- What must be read of a group, and with which result, to know that it holds a voter or is foreign.
+-- What must be read of a group to know that it holds a voter, or that no voter has its contents.
 use Rattle.std.specs.Prelude.{◌≡◌, ◌≢◌, ℕ, ◌+◌, ◌-◌, ◌^◌, ◌<◌, ◌≤◌, nat_le, if◌then◌else◌, List, length, map, slice_get, Option, Some, None, option_map}
 use Rattle.raft_log_model_laws.specs.Meaning.{Slot, Content}
 use Rattle.raft_log_model_laws.specs.Meaning.Slot.{Index, Key}
@@ -13,12 +13,13 @@ use Rattle.raft_voter_outline.specs.State.{State}
 use Rattle.raft_voter.specs.Laws.{AreReadAs}
 use Rattle.raft_voter_records.specs.Voters.{Group, voter_key}
 
--- what is at an index, if these are the bytes of a group's entries and the first is at `first`
+-- the content at index `i`, if `texts` are the bytes of a group's entries and the first has the index `first`
 abbrev pub run_content : ℕ → List (List ℕ) → ℕ → Option (Content (List ℕ) (List ℕ))
 run_content first texts i = if nat_le first i then option_map Entry (slice_get texts (i - first)) else None
 
--- A group is read: it has one key and no other, whose bytes are a state. Its entries follow the base of that state one
--- by one. Each is read at its index, and the last one is in range.
+-- Reading the group finds the state `s` and the entries `es`. The voter's key is its only key, and its value encodes
+-- `s`. Its entries have consecutive indexes right after the base of `s`, and encode `es`. The last index is below
+-- 2 ^ 63.
 pub record IsReadAs (grp : Group) (s : VoterState) (es : List VoterEntry) : Type 0 where
   pub bytes : List ℕ
   pub head : grp (Key voter_key) ≡ Some (Value bytes)
@@ -29,13 +30,13 @@ pub record IsReadAs (grp : Group) (s : VoterState) (es : List VoterEntry) : Type
   pub read : AreReadAs (s.base_index + 1) texts es
   pub small : s.base_index + length es < 2 ^ 63
 
--- the voter that is read
+-- the voter with the state `s` and the entries `es`
 abbrev pub read_voter : VoterState → List VoterEntry → State
 read_voter s es = with_log s (map (λ e. (e.term, e.bytes)) es)
 
--- Why a group is foreign: it has another key; it has something, but not the one key; the bytes under the key are no
--- state; an entry is at or below the base of that state, or after an index without one; the bytes of an entry are none;
--- or its index isn't in range.
+-- The flaws by which a group is foreign. It has another key than the voter's. It has something, but not the voter's
+-- key. The value there encodes no state. An entry has an index up to the base of the state. An entry comes after an
+-- index without one. The bytes of an entry encode none. An index is 2 ^ 63 or more.
 pub data HasForeign (grp : Group) : Type 0 where
   other_key : (k : List ℕ) → (voter_key ≡ k → ⊥) → (grp (Key k) ≡ None → ⊥) → HasForeign grp
   no_state : (s : Slot) → (grp s ≡ None → ⊥) → grp (Key voter_key) ≡ None → HasForeign grp

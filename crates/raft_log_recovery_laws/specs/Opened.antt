@@ -43,8 +43,8 @@ abbrev pub HoldsFresh : LogDirectories → LogPipes → MemTables → LogMap →
 HoldsFresh home v tables m =
     (cache : BlockCache) → cache.place ≡ None → Represents home (shows v tables cache) m []
 
--- If a log with the contents `m` and nothing pending was opened as these pipes and tables, an engine of them has a log
--- with the contents `m`.
+-- If a log with the contents `m` and nothing pending was opened as these pipes and tables, the engine has these
+-- contents.
 abbrev pub OpenedEnginesHold : Type 0
 OpenedEnginesHold = (home : LogDirectories) (was : State) (m : LogMap) (v : LogPipes) (tables : MemTables)
     → IsLog (Ties (log_in home) was) m [] → IsOpenedOver home was v tables → HoldsFresh home v tables m

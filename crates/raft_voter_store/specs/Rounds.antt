@@ -28,7 +28,7 @@ pub record TurnsDown (qs : List (ℕ × Request)) (told : List Reply) (q : ℕ �
   pub turned : TurnedDown q error mid next outlines
   pub later : IsLater next.pipes.disk t.pipes.disk
 
--- Each reply `Refused` has a reason. Either the group of its request is out of range; or the request was rejected,
+-- Each reply `Refused` has a reason. Either its request is out of range; or the request was rejected with an error,
 -- after the requests before it were served.
 abbrev pub AreExcused : List (ℕ × Request) → List Reply → EngineState → EngineState → (ℕ → State) → Type 0
 AreExcused qs told s t os = (place : ℕ) (q : ℕ × Request) → slice_get told place ≡ Some Refused

@@ -71,7 +71,7 @@ abbrev pub refused_text : List ℕ
 refused_text = codes "arguments refused\n"
 
 -- What the program may write, and the status. If it was given arguments, this says that they are rejected, with status
--- 2, and no input is read. Otherwise it is what its session may write.
+-- 2, whatever the input is. Otherwise it is what its session may write.
 abbrev pub ProgramMayWrite : (SessionContent → List ℕ → ℕ → Type 0) → Bool → List ℕ → List ℕ → ℕ → Type 0
 ProgramMayWrite Writes true input text status = (text ≡ refused_text) × (status ≡ 2)
 ProgramMayWrite Writes false input text status = MayWrite Writes input text status

@@ -59,8 +59,8 @@ abbrev pub IsNeither : Option (List ℕ) → Option (List ℕ) → Type 0
 IsNeither first second = (first ≡ None) × (second ≡ None)
 
 -- Two changes were written in one batch, the power went, and both keys were read. Suppose that there was no log at
--- first, both settings name the same directories, and there is no CRC collision. Then both keys were changed, or
--- neither was. If the write succeeded, both were.
+-- first, both settings name the same directories, and there is no CRC collision. Then both keys have the values of the
+-- changes, or neither has a value. If the write succeeded, both have them.
 pub record WritesBothOrNeither {F : Type 0} (disk : F → Disk) (tells : F → List ℕ → ℕ → Type 0) (config : Config)
     (one other : KeyChange) (again : Config) (old : F) (answered : Bool) (first second : Option (List ℕ))
     : Type 0 where

@@ -14,8 +14,8 @@ use Rattle.raft_log_recovery_laws.specs.Running.{LeavesNoChance, active_header, 
 use Rattle.raft_crash_examples.specs.declared.ending.Ending.{Ending}
 use Rattle.raft_crash_examples.specs.declared.ending.Ending.TheVariants.{Close, Crash}
 
--- The disk that the next open finds: after a crash, an image of the engine's disk; after a close, what the close left,
--- unless the engine has failed.
+-- The disk that the next open finds. After a crash it is an image of the engine's disk. After a close of an engine that
+-- hasn't failed, it is what the close left. If the engine had failed, nothing is claimed of a close.
 abbrev pub Ends : {C : Type 0} → Ending C → EngineState → Disk → Type 0
 Ends (Crash what) e d = IsImage e.pipes.disk d
 Ends Close e d = has_failed e ≡ false → ClosesLog e.pipes d

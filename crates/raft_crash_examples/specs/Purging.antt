@@ -15,8 +15,8 @@ use Rattle.raft_crash_examples.specs.Lives.{OpensAndChanges}
 use Rattle.raft_crash_examples.specs.Saving.{Loads}
 use Rattle.raft_crash_examples.specs.Standing.{CrashesWithoutChance, RunsOrIsLeft}
 
--- If the log had the contents `m`, with nothing pending, it still has, or its files can be opened with them. This holds
--- whether the engine runs or has failed.
+-- If the log of `s` has the contents `m`, with nothing pending, so has the log of `t`. Each of the engines runs; or it
+-- has failed, and its files can be opened.
 abbrev pub KeepsTheMap : EngineState → EngineState → Type 0
 KeepsTheMap s t = (home : LogDirectories) (m : LogMap) → RunsOrIsLeft home s m [] → RunsOrIsLeft home t m []
 

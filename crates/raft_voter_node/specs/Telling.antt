@@ -14,7 +14,8 @@ pub record TellsReplies {S : Type 0} (service : Service S) (number : ℕ) (reque
   pub told : lines ≡ round_text number (record { requests = requests; refused = []; outcome = Answered replies })
   pub answers : AnswersRound service requests replies old new
 
--- `lines` are those of round `number`, which was cut off for some cause. The positions in `refused` weren't taken.
+-- `lines` are those of round `number`, which was cut off for `cause`; the requests at the positions `refused` were
+-- refused.
 pub record TellsCut {S : Type 0} (service : Service S) (number : ℕ) (requests : List (ℕ × Request))
     (lines : List ℕ) (old new : S) : Type 0 where
   pub cause : Cause

@@ -32,23 +32,24 @@ abbrev pub GoesOn : {S : Type 0} → Service S → S → S → Type 0
 GoesOn v old new =
     (cut : CutRound) → ∥ v.leaves old cut ∥₁ → ∥ ((X : World) × MayFollow cut X × IsOpenAt v new X) ∥₁
 
--- The next opened store serves the voters that took the journal's rounds, and of the round in which the store failed
--- just the requests before the session's cut.
+-- Which voters the next opened store serves. They took the journal's rounds before the one in which the store failed.
+-- Of this round, they took the requests before the session's cut.
 abbrev pub ShowsPlace : {S : Type 0} → Service S → Sharing S → S → Type 0
 ShowsPlace v x next = (W X : World) → IsOpenAt v x.opened W → IsOpenAt v next X
     → TookUpTo (behind W x.session) X x.session.place
 
--- if no open follows, the session's cut is any position in the round in which the store failed, for example 0
+-- if no open follows, the session's cut may be any position in the round in which the store failed; it is 0 if there is
+-- no such round
 abbrev pub HasPlace : {S : Type 0} → Service S → Sharing S → Type 0
 HasPlace v x = (W : World) → IsOpenAt v x.opened W → x.session.place ≤ length (behind W x.session).requests
 
--- the next opening continues after the opening `x`, and serves the voters up to its cut; if there is none, the cut may
--- be any
+-- What follows the opening `x`. The next opening finds voters that are possible after `x`, those up to the cut of `x`.
+-- If there is no next opening, the cut may be any position.
 abbrev pub IsFollowedBy : {S : Type 0} → Service S → Sharing S → List (Sharing S) → Type 0
 IsFollowedBy v x [] = HasPlace v x
 IsFollowedBy v x (y ∷ ys) = GoesOn v x.settled y.opened × ShowsPlace v x y.opened
 
--- each opening was settled, and is followed by the next one
+-- each store was settled, and the next opening continues from what it left
 abbrev pub AreJoined : {S : Type 0} → Service S → List (Sharing S) → Type 0
 AreJoined v [] = Unit {0}
 AreJoined v (x ∷ xs) = Settles v x × IsFollowedBy v x xs × AreJoined v xs

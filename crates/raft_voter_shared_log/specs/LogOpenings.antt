@@ -58,13 +58,13 @@ pub record ComesNext {F : Type 0} (disk : F → Disk) (x next : LogSharing F) : 
   pub spares : (cut : CutRound) (left : IsLeftAmong (home_behind x) (disk x.closed) (MayFollow cut))
       → IsLeftNext disk (home_behind x) cut x.closed next.found left
 
--- the next opening opens what the opening `x` left, and serves the voters up to its cut; if there is none, the cut may
--- be any
+-- What follows the opening `x`. The next opening opens what `x` left, and finds voters up to the cut of `x`. If there
+-- is no next opening, the cut may be any position.
 abbrev pub IsFollowedInLog : {F : Type 0} → (F → Disk) → (LogStore F → EngineState) → LogSharing F → List (LogSharing F) → Type 0
 IsFollowedInLog disk shows x [] = HasPlace (log_service shows) x.shared
 IsFollowedInLog disk shows x (y ∷ ys) = ComesNext disk x y × ShowsPlace (log_service shows) x.shared y.shared.opened
 
--- each opening of the log was opened, settled and closed, and is followed by the next one
+-- in each opening the store was opened, settled and closed; the next opening continues from the files that it left
 abbrev pub AreLogOpenings :
     {F : Type 0} → (F → Disk) → (F → List ℕ → ℕ → Type 0) → (LogStore F → EngineState) → List (LogSharing F) → Type 0
 AreLogOpenings disk tells shows [] = Unit {0}

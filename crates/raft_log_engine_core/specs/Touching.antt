@@ -1,4 +1,4 @@
--- What a write does to the files of a log, and that most calls leave the thresholds and counts of the purge unchanged.
+-- What a write does to the files of a log; and calls that leave the purge's thresholds and counts unchanged.
 use Rattle.std.specs.Prelude.{◌≡◌, ◌⊎◌, ℕ, Bool, true, false, List, []}
 use Rattle.raft_log_record_base.specs.declared.errors.Error.{Error}
 use Rattle.raft_log_record_base.specs.declared.errors.Error.TheVariants as errors
@@ -38,8 +38,8 @@ abbrev pub PipeRefuses : (LogFileContext → List ℕ) → Error → LogPipes �
 PipeRefuses signed error v w = ((SaysTryAgain error → ⊥) × PipeFailsToAppend InAppend signed error v w)
     ⊎ ((mid : LogPipes) × FindsNoSpace signed v mid × PipeFailsToAppend InAppend signed error mid w)
 
--- The record of batch `b` was appended to Append, at the first try or the second. The pipe may have rotated before
--- either try. Nothing else was done to the files.
+-- The record of batch `b` was written to the queue Append, at the first try or the second. The pipe may have rotated
+-- before either try. Nothing else was done to the files.
 abbrev pub WritesRecord : Batch → LogPipes → LogPipes → Type 0
 WritesRecord b v w =
     (block : FileBlockHandle) × WritesAt (signed_for b) block v w × PipeTakes (signed_for b) block v w

@@ -1,5 +1,5 @@
--- Opening a log that is at rest on a disk, in the steps in which an engine does it: scan, recover, ready files for
--- recycling, sync, open.
+-- Opening a log that is at rest on a disk (no engine has it open, and all of it is synced). These are the steps in
+-- which an engine does it: scan, recover, prepare files for recycling, sync, open.
 use Rattle.std.specs.Prelude.{◌≡◌, ℕ, List}
 use Rattle.raft_log_record_base.specs.declared.pipe_log.LogQueue.{LogQueue}
 use Rattle.raft_log_record_base.specs.declared.pipe_log.LogQueue.TheVariants.{Append, Rewrite}
@@ -34,7 +34,7 @@ home_of config = record { append = paths_of config; rewrite = paths_of config }
 abbrev pub ForAllNaming : LogDirectories → (Config → Type 0) → Type 0
 ForAllNaming home P = (config : Config) → home_of config ≡ home → P config
 
--- `HasReadBatches`, with its arguments as the recovery of both queues takes them
+-- reading `batches` from the files of `queue` gave the recovery context `context`
 abbrev pub reads : LogQueue → List Batch → MemTableRecoverContext → Type 0
 reads queue batches context = HasReadBatches queue batches context
 

@@ -1,4 +1,5 @@
--- The files of a queue at rest: as a scan finds them, and after they were read and truncated.
+-- The files of a queue at rest: as a scan finds them, and after they were read and truncated. The ending of a file is
+-- what reading it found: its format, the end of its last whole record, and whether the file is damaged.
 use Rattle.std.specs.Prelude.{◌≡◌, ℕ, false, Some, List, [], ◌∷◌, ◌++◌, length, suc}
 use Rattle.raft_log_fs.specs.Disk.{Disk}
 use Rattle.raft_log_file_writer.specs.LogQueue.{IsAbsent}

@@ -1,4 +1,5 @@
--- What recovery read from a queue's files at rest, and the queue as it continues after recovery.
+-- What recovery read from a queue's files at rest, and the queue as it continues after recovery. The ending of a file
+-- is what reading it found: its format, the end of its last whole record, and whether the file is damaged.
 use Rattle.std.specs.Prelude.{◌≡◌, ℕ, ◌<◌, Some, false, List, [], ◌∷◌, ◌++◌, length}
 use Rattle.raft_log_record_base.specs.declared.pipe_log.LogQueue.{LogQueue}
 use Rattle.raft_log_fs.specs.Disk.{Disk}

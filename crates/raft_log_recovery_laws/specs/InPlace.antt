@@ -1,5 +1,6 @@
 -- Opening a log in place, after its engine failed or was closed. No crash came in between. So the active files may have
--- bytes that aren't synced, and the open reads these as they are.
+-- bytes that aren't synced, and the open reads these as they are. A batch is pending if it was written but not synced
+-- yet.
 use Rattle.std.specs.Prelude.{◌≡◌, ℕ, ◌<◌, ◌⊎◌, List, [], length}
 use Rattle.std.specs.declared.io.ErrorKind.{ErrorKind}
 use Rattle.raft_log_record_base.specs.declared.errors.Error.{Error}

@@ -1,4 +1,5 @@
--- What an engine left on its disk: after a crash, and after an open that fails.
+-- What an engine left on its disk: after a crash, and after an open that fails. A batch is pending if it was written
+-- but not synced yet.
 use Rattle.std.specs.Prelude.{ℕ, ◌<◌, ◌≤◌, List, [], length, take}
 use Rattle.raft_log_model_laws.specs.Groups.{taken}
 use Rattle.raft_log_fs.specs.Disk.{Disk}
@@ -27,7 +28,7 @@ CrashedLogsRest = (home : LogDirectories) → 0 < length home.append → 0 < len
     → (k : ℕ) × (k ≤ length pending) × IsDurableAs (log_in home) image (taken m (take k pending))
 
 -- Disk `d` has a log at rest, with the contents `m` after the first few pending batches. `P` holds for these contents.
--- The number of these batches is fixed by the files, whatever the settings of an open are.
+-- Their number is chosen before `P`. So if `P` is about all settings, the number is the same for all of them.
 abbrev pub RestsAfterSome : LogDirectories → Disk → LogMap → List LogRecordValue → (LogMap → Type 0) → Type 0
 RestsAfterSome home d m pending P = (k : ℕ) × (k ≤ length pending)
     × IsDurableAs (log_in home) d (taken m (take k pending)) × P (taken m (take k pending))

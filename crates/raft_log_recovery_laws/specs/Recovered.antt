@@ -1,4 +1,5 @@
--- A log at rest on a disk, what was read from its files, and the engine that is made of both.
+-- A log at rest on a disk: no engine has it open, and all of it is synced. What was read from its files, and the engine
+-- that is made of both.
 use Rattle.std.specs.Prelude.{◌≡◌, ℕ, ◌<◌, ◌≤◌, List, [], ◌∷◌, ◌++◌, length, take}
 use Rattle.raft_log_model_laws.specs.Groups.{taken}
 use Rattle.raft_log_record_base.specs.declared.pipe_log.LogQueue.TheVariants.{Append, Rewrite}

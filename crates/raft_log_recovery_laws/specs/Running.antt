@@ -1,5 +1,5 @@
 -- A crash of a running engine. Whether the crash image has a CRC collision depends only on the engine's pipes and the
--- bytes on the disk.
+-- bytes on the disk. A batch is pending if it was written but not synced yet.
 use Rattle.std.specs.Prelude.{◌≡◌, ◌⊎◌, ℕ, Some, List, length, take, drop}
 use Rattle.raft_log_fs.specs.Disk.{Disk, File}
 use Rattle.raft_log_fs.specs.Image.{IsImage, IsSound}

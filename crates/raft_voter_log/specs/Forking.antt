@@ -1,4 +1,5 @@
--- Copying the log of a store, and opening a store over the copy: laws, each the contract of an empty function.
+-- Copying the log of a store, and opening a store over the copy: laws, each the contract of an empty function. Voters
+-- are possible after a cut-off round if they took its requests before some position, without the refused ones.
 use Rattle.std.specs.Prelude.{◌≡◌, ◌<◌, ℕ, List, length}
 use Rattle.raft_log_fs.specs.Disk.{Disk}
 use Rattle.raft_log_fs.specs.Image.{IsSound}

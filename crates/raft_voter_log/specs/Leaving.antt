@@ -1,5 +1,6 @@
 -- Which voters a log's files have while no store has them open, and what the premise on CRC collisions says of these
--- files.
+-- files. Voters are possible after a cut-off round if they took its requests before some position, without the refused
+-- ones.
 use Rattle.std.specs.Prelude.{◌≡◌}
 use Rattle.raft_log_fs.specs.Disk.{Disk}
 use Rattle.raft_log_fs.specs.Image.{IsImage}

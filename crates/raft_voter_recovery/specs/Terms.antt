@@ -81,8 +81,8 @@ pub record AddsTerms (e : EngineState) (g first end count : ℕ) (o p : State) :
   pub number : count ≡ length terms
   pub now : p ≡ record o { log = o.log ++ alone terms }
 
--- The terms of all entries of group `g` below index `next` were read. `o` is the outline of a voter with the state `s`
--- and these entries.
+-- The terms of all entries of group `g` after the base of `s` and below index `next` were read. `o` is the outline of a
+-- voter with the state `s` and these entries.
 pub record KnowsTerms (e : EngineState) (g : ℕ) (s : VoterState) (next : ℕ) (o : State) : Type 0 where
   pub terms : List ℕ
   pub have : Tells e (λ m. HaveTerms (m g) (s.base_index + 1) terms)

@@ -1,4 +1,5 @@
--- A store that threads shared is closed, and its log is opened again, after a crash or without one.
+-- A store that threads shared is closed, and its log is opened again, after a crash or without one. Voters are possible
+-- after a cut-off round if they took its requests before some position, without the refused ones.
 use Rattle.std.specs.Prelude.{◌≡◌, ℕ, List}
 use Rattle.raft_log_fs.specs.Disk.{Disk}
 use Rattle.raft_log_fs.specs.Image.{IsSound}

@@ -1,4 +1,4 @@
--- How opening a store over its log ends.
+-- How opening a store over its log ends. A store keeps the outline of each voter: the voter without its entries' data.
 use Rattle.std.specs.Prelude.{◌≡◌, ℕ, false, List, None}
 use Rattle.raft_log_fs.specs.Disk.{Disk}
 use Rattle.raft_log_record_base.specs.declared.errors.Error.{Error}

@@ -51,7 +51,8 @@ abbrev pub ZerosBeginNoRecord : Type 0
 ZerosBeginNoRecord = (queue : LogQueue) (directories : List (List ℕ)) (files : PipeFiles) (room : ℕ)
     → Refuses (IsOwnFrame (log_format queue directories) files) (zeros room)
 
--- what the image has of the pipe's active file is as `IsTorn` or `IsWhole` says: the crash only lost writes
+-- if the pipe's active file is on both disks, what `image` has of it is as `IsTorn` or `IsWhole` says: the crash only
+-- lost writes
 abbrev pub LosesOwn : Format LogRecord → PipeFiles → Disk → Disk → Type 0
 LosesOwn F files d image = (file after : File) → d.files files.writer.handle.file ≡ Some file
     → image.files files.writer.handle.file ≡ Some after

@@ -25,7 +25,8 @@ StandingFilesOnlyLose = (which : Which) (home : LogDirectories) (e : EngineState
     → (image : Disk) → KeepsOwn (one_at which e.pipes).files e.pipes.disk image
     → LosesOwn (layout_at which (log_in home)).format (one_at which e.pipes).files e.pipes.disk image
 
--- the pipe's next rotation creates a file; or it recycles one that had another number
+-- the pipe's next rotation creates a file; or it recycles a file of the queue whose records are signed, and whose old
+-- and new numbers differ in their low 32 bits
 pub data NextIsKnown (F : Format LogRecord) (format : LogFileFormat) (files : PipeFiles) (d : Disk) : Type 0 where
   made : files.recycled.items ≡ [] → NextIsKnown F format files d
   used : NextIsUsed F format files d → NextIsKnown F format files d

@@ -36,7 +36,8 @@ GoesOnInPlace disk tells home closed cut left =
     × ForAllNaming home (λ config. FindsVoters disk tells config closed W (MayFollow cut))
 
 -- A store, which runs or has failed, left voters that are possible after the round `cut`, and was closed. Then its
--- files can be opened with such voters, and opens find such voters, both after a crash and in place.
+-- files can be opened with such voters. Opens find such voters both after a crash and in place, unless there is a CRC
+-- collision.
 abbrev pub ClosedStoresGoOn : {F : Type 0} → (F → Disk) → (F → List ℕ → ℕ → Type 0) → Type 0
 ClosedStoresGoOn {F} disk tells = (config : Config) (s : EngineState) (closed : F) (cut : CutRound)
     → LeavesAt (home_of config) s cut → ClosesStore s (disk closed)

@@ -7,7 +7,8 @@ use Rattle.raft_voter_shared.specs.Journal.{IsLegal}
 use Rattle.raft_voter_shared.specs.Openings.{Session, TookUpTo, all_cuts, all_rounds}
 use Rattle.raft_voter_shared.specs.Standing.{is_last, standing}
 
--- One opening: the store as it was opened, the journal that settling it returned, and the store as it was settled.
+-- One opening: the store as it was opened, what settling it returned, and the store as it was settled. Settling returns
+-- a journal of the rounds, how the store failed, and the cut of the round in which it failed.
 pub record Sharing (S : Type 0) : Type 0 where
   pub opened : S
   pub session : Session
@@ -33,7 +34,7 @@ GoesOn v old new =
     (cut : CutRound) → ∥ v.leaves old cut ∥₁ → ∥ ((X : World) × MayFollow cut X × IsOpenAt v new X) ∥₁
 
 -- Which voters the next opened store serves. They took the journal's rounds before the one in which the store failed.
--- Of this round, they took the requests before the session's cut.
+-- Of this round, they took the requests before the session's cut, without the refused ones.
 abbrev pub ShowsPlace : {S : Type 0} → Service S → Sharing S → S → Type 0
 ShowsPlace v x next = (W X : World) → IsOpenAt v x.opened W → IsOpenAt v next X
     → TookUpTo (behind W x.session) X x.session.place

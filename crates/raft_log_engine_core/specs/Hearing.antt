@@ -40,7 +40,8 @@ HearsBatch b sync hears v w old new = (mid : LogPipes) × HearsTaken b hears v m
 
 -- What listeners hear if a write of batch `b` fails.
 -- - If the record wasn't appended: each file to which Append rotated, and nothing else.
--- - If the requested sync failed, with error `Failed`: the events of the record, which was appended before.
+-- - If the requested sync failed, with error `Failed`: the events of the record that was appended before, or nothing
+--   for an empty batch.
 abbrev pub HearsRefused : {L : Type 0} → Batch → Bool → (Told → L → L → Type 0) → Error → LogPipes → LogPipes
     → L → L → Type 0
 HearsRefused b sync hears error v w old new =

@@ -31,7 +31,7 @@ BeginsBehindGap queue directories d first =
     ⊎ IsTwice (kind_of queue) directories d first
 
 -- The files of a queue that a scan returns begin after a gap, or at a number that two files have. In the second case
--- the scan drops the files before this number.
+-- the scan may have dropped files with lower numbers.
 abbrev pub ScannedFilesBegin : Type 0
 ScannedFilesBegin = (queue : LogQueue) (directories : List (List ℕ)) (mode : RecoveryMode) (d : Disk)
     (earlier : List Listed) (last : Listed)

@@ -19,7 +19,7 @@ WritesLeaving v u d s (Some files) session text status =
     (run : WritesRun v u d s session text status) × (run.report.files ≡ files)
 
 -- What may be written for these lines, and which files remain. If the lines are a session, it is what may be written
--- for the session. If line `line` is the first unreadable one, it is that, and no files remain.
+-- for the session. If line `line` is the first unreadable one, the text says so, with status 2, and no files remain.
 abbrev pub TellsLinesLeaving :
     {F : Type 0} → (Option F → SessionContent → List ℕ → ℕ → Type 0)
     → Option F → Result SessionContent ℕ → List ℕ → ℕ → Type 0

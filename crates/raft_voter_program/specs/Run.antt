@@ -57,7 +57,7 @@ WritesSession v u d s session text status =
     ⊎ WritesRun v u d s session text status
 
 -- What may be written for lines, and the status. If they are a session, it is what may be written for the session. If
--- line `line` is the first unreadable one, it is that, with status 2.
+-- line `line` is the first unreadable one, the text says so, with status 2.
 abbrev pub TellsLines : (SessionContent → List ℕ → ℕ → Type 0) → Result SessionContent ℕ → List ℕ → ℕ → Type 0
 TellsLines Writes (Ok session) text status = Writes session text status
 TellsLines Writes (Err line) text status = (text ≡ unreadable_text line) × (status ≡ 2)

@@ -40,7 +40,8 @@ pub record Passes (qs : List (ℕ × Request)) (told : List Reply) (wrote : Bool
   pub went : Went qs told wrote s t os us
   pub excused : AreExcused qs told s t os
 
--- The first requests of the round `qs` got the replies `told`, and the engine failed at the next one.
+-- The first requests of the round `qs` got the replies `told`, each `Refused` for a reason. The engine failed at the
+-- next request.
 pub record StopsAt (qs : List (ℕ × Request)) (told : List Reply) (s t : EngineState) (os : ℕ → State) : Type 0 where
   pub wrote : Bool
   pub mid : EngineState
@@ -66,7 +67,8 @@ pub record CutsRoundOff (qs : List (ℕ × Request)) (refused : List ℕ) (s t :
   pub left : (home : LogDirectories) (V : World) → Keeps home s V → AreOutlines os V
       → GaveUp home V qs told s t ⊎ Unsynced home V qs told s t
 
--- If a round got as far as the request `q`, with the replies `told`, it gets past `q`, with the replies `now`.
+-- If a round got as far as the request `q`, with the replies `told`, it gets past `q`, with the replies `now`. `wrote`
+-- is false only if the round wrote no record before `q`; `more` is false only if it wrote none up to and with `q`.
 abbrev pub GoesOn : ℕ × Request → Bool → Bool → List Reply → List Reply → EngineState → EngineState → (ℕ → State) → (ℕ → State) → Type 0
 GoesOn q wrote more told now t u us ws = (qs : List (ℕ × Request)) (s : EngineState) (os : ℕ → State)
     → Passes qs told wrote s t os us → slice_get qs (length told) ≡ Some q → Passes qs now more s u os ws

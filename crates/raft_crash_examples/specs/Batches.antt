@@ -1,4 +1,4 @@
--- Writing two changes in one batch, and losing power.
+-- Writing two changes in one batch, and then losing power.
 use Rattle.std.specs.Prelude.{◌≡◌, ◌⊎◌, ℕ, List, [], ◌∷◌, ◌++◌, Bool, true, Option, None}
 use Rattle.raft_log_machine_laws.specs.Fresh.{nothing_stands}
 use Rattle.raft_log_engine.specs.raft_log_model_laws.specs.Groups.{taken}
@@ -19,12 +19,13 @@ use Rattle.raft_crash_examples.specs.Keys.{value_behind}
 use Rattle.raft_crash_examples.specs.Saving.{Loads}
 use Rattle.raft_crash_examples.specs.Standing.{CrashesWithoutChance, RunsOrIsLeft}
 
--- the record of a batch that makes both changes
+-- the record of a batch that makes the two changes, in this order
 abbrev pub said_by_both : KeyChange → KeyChange → LogRecordValue
 said_by_both one other = Plain (record { group = one.group; item = word_of one.key.items one.value }
     ∷ record { group = other.group; item = word_of other.key.items other.value } ∷ [])
 
--- The log is that map without the batch, with it, or with it pending; if the write succeeded, it is the map with it.
+-- The log had the contents `m` before a write of the batch. Now it has `m` without the batch, `m` with it, or `m` with
+-- the batch still pending. If the write succeeded, it has `m` with it.
 pub record MayHave (answered : Bool) (home : LogDirectories) (e : EngineState) (m : LogMap) (batch : LogRecordValue) : Type 0 where
   pub done : List LogRecordValue
   pub rest : List LogRecordValue
@@ -32,8 +33,8 @@ pub record MayHave (answered : Bool) (home : LogDirectories) (e : EngineState) (
   pub has : answered ≡ true → done ≡ batch ∷ []
   pub runs : RunsOrIsLeft home e (taken m done) rest
 
--- The log of these settings was opened, and both changes were written in one batch with a sync, which succeeded or
--- failed. Whatever map the log had, it may have the batch.
+-- The log of these settings was opened, and both changes were written in one batch with a sync. The write succeeded if
+-- `answered` is true, and failed otherwise. The log then is as `MayHave` says, whatever its contents were.
 pub record TriesToWrite {F : Type 0} (disk : F → Disk) (tells : F → List ℕ → ℕ → Type 0) (config : Config)
     (one other : KeyChange) (old : F) (answered : Bool) (engine : EngineState) : Type 0 where
   pub pipes : LogPipes
@@ -42,24 +43,24 @@ pub record TriesToWrite {F : Type 0} (disk : F → Disk) (tells : F → List ℕ
   pub tries : (home : LogDirectories) (m : LogMap) → HoldsFresh home pipes tables m
       → MayHave answered home engine m (said_by_both one other)
 
--- both keys were read from one log
+-- `first` and `second` are the values that two opens of the log read at the keys of the two changes.
 pub record LoadsBoth {F : Type 0} (disk : F → Disk) (tells : F → List ℕ → ℕ → Type 0) (config : Config)
     (one other : KeyChange) (old : F) (first second : Option (List ℕ)) : Type 0 where
   pub of_one : Loads disk tells config one.group one.key.items old first
   pub of_other : Loads disk tells config other.group other.key.items old second
 
--- both keys have the value that both changes give them
+-- each key has the value that it has after both changes, in this order
 abbrev pub AreBoth : KeyChange → KeyChange → Option (List ℕ) → Option (List ℕ) → Type 0
 AreBoth one other first second = (first ≡ value_behind one.group one.key.items (one ∷ other ∷ []) None)
     × (second ≡ value_behind other.group other.key.items (one ∷ other ∷ []) None)
 
--- neither has a value
+-- neither key has a value
 abbrev pub IsNeither : Option (List ℕ) → Option (List ℕ) → Type 0
 IsNeither first second = (first ≡ None) × (second ≡ None)
 
--- Two changes were written in one batch, which succeeded or failed, the power went, and both keys were read. Suppose
--- that there was no log at first, both settings name the same directories, and there is no CRC collision. Then both
--- changes are there, or neither is; and both are if the write succeeded.
+-- Two changes were written in one batch, the power went, and both keys were read. Suppose that there was no log at
+-- first, both settings name the same directories, and there is no CRC collision. Then both keys have the values of the
+-- changes, or neither has a value. If the write succeeded, both have them.
 pub record WritesBothOrNeither {F : Type 0} (disk : F → Disk) (tells : F → List ℕ → ℕ → Type 0) (config : Config)
     (one other : KeyChange) (again : Config) (old : F) (answered : Bool) (first second : Option (List ℕ))
     : Type 0 where

@@ -1,4 +1,4 @@
--- Changing keys of a log: what a change says in a batch, and what the engine holds then.
+-- Changing keys of a log: what a change adds to a batch, and the contents of the log afterwards.
 use Rattle.std.specs.Prelude.{◌≡◌, ℕ, List, [], ◌∷◌, ◌++◌, Option, Some, None, false, map}
 use Rattle.std.specs.Global.{Vec}
 use Rattle.raft_log_engine.specs.raft_log_model_laws.specs.Groups.{taken}
@@ -14,7 +14,7 @@ use Rattle.raft_log_engine.specs.raft_log_engine_laws.specs.EngineState.{LogDire
 use Rattle.raft_log_engine.specs.raft_log_engine_laws.specs.Holding.{Represents}
 use Rattle.raft_crash_examples.specs.declared.changing.KeyChange.{KeyChange}
 
--- what a change says of its group: the key gets the value, or is deleted
+-- the item that a change adds to a record: it puts the value at the key, or deletes the key if there is none
 abbrev pub word_of : List ℕ → Option (Vec ℕ) → Item (List ℕ) (List ℕ)
 word_of key None = Del key
 word_of key (Some value) = Put key value.items
@@ -23,21 +23,23 @@ word_of key (Some value) = Put key value.items
 abbrev pub said_by : KeyChange → LogRecordValue
 said_by c = Plain (record { group = c.group; item = word_of c.key.items c.value } ∷ [])
 
--- the item of a batch for this change
+-- the item that a change adds to a batch: it puts the value at the key, or deletes the key if there is none
 abbrev pub item_of : ℕ → List ℕ → Option (Vec ℕ) → LogItem
 item_of group key None = del_item group key
 item_of group key (Some value) = put_item group key value.items
 
--- A change was added to a batch, and its key isn't the log's own.
+-- The change was added to a batch. Its key isn't reserved for the log itself.
 pub record AddsChange (c : KeyChange) (old new : Batch) : Type 0 where
   pub adds : new.items ≡ old.items ++ item_of c.group c.key.items c.value ∷ []
   pub filling : new.state ≡ old.state
   pub users : is_internal c.key.items ≡ false
 
--- A key was changed durably: any map that the log had, with nothing pending, became that map with the change.
+-- A key was changed durably: if the log had the contents `m`, with nothing pending, it now has `m` with the change, and
+-- nothing is pending.
 abbrev pub ChangesKey : KeyChange → EngineState → EngineState → Type 0
 ChangesKey c s t = (home : LogDirectories) (m : LogMap) → Represents home s m [] → Represents home t (taken m (said_by c ∷ [])) []
 
--- keys were changed so in order
+-- Keys were changed durably, in this order: if the log had the contents `m`, with nothing pending, it now has `m` with
+-- all changes, and nothing is pending.
 abbrev pub ChangesKeys : List KeyChange → EngineState → EngineState → Type 0
 ChangesKeys cs s t = (home : LogDirectories) (m : LogMap) → Represents home s m [] → Represents home t (taken m (map said_by cs)) []

@@ -1,4 +1,4 @@
--- A log and its copy read alike.
+-- Reading a key from a log and from its copy gives the same value.
 use Rattle.std.specs.Prelude.{◌≡◌, ℕ, List, [], Option}
 use Rattle.raft_log_engine.specs.raft_log_fs.specs.Disk.{Disk}
 use Rattle.raft_log_engine.specs.raft_log_file_settings.specs.Settings.{settings_of}
@@ -11,7 +11,8 @@ use Rattle.raft_crash_examples.specs.declared.lives.Life.{Life}
 use Rattle.raft_crash_examples.specs.Lives.{AllLiveIn, LivesOn, LivesWithoutChance}
 use Rattle.raft_crash_examples.specs.Saving.{Loads}
 
--- the log of these settings was copied into a directory, and a key was read from the copy, with settings of its own
+-- The log of settings `config` was copied into the directory `target`, and `found` was read at the key from the copy,
+-- with settings `to`.
 pub record LoadsCopy {F : Type 0} (disk : F → Disk) (tells : F → List ℕ → ℕ → Type 0) (config : Config)
     (target : List ℕ) (to : Config) (group : ℕ) (key : List ℕ) (old : F) (found : Option (List ℕ)) : Type 0 where
   pub after : F
@@ -19,9 +20,10 @@ pub record LoadsCopy {F : Type 0} (disk : F → Disk) (tells : F → List ℕ �
   pub forks : Forks (settings_of config) target copied (disk old) (disk after)
   pub loads : Loads disk tells to group key after found
 
--- A log began where there was none, had at least one life, and ended in a close or in a crash, without a CRC collision.
--- Reading a key gives the same result from the log and from a copy: with any settings that name the log's directories,
--- and with settings that name only the copy's. No directory in the copy's directory has the path of a log file.
+-- A log had at least one life (an open, changes, and an end), and each end was a close or a crash, without a CRC
+-- collision. There was no log at first. Then a read of a key gives the same value from the log as from a copy of it.
+-- The log's settings need only name its directories, and the copy's settings only its directory. No directory in the
+-- copy's directory has the name of a log file.
 abbrev pub CopiesReadAlike : {F : Type 0} → (F → Disk) → (F → List ℕ → ℕ → Type 0) → Type 0 → Type 0
 CopiesReadAlike {F} disk tells C = (lives : List (Life C)) → (lives ≡ [] → ⊥) → (config : Config) (old left : F)
     → IsBare config (disk old) → AllLiveIn (home_of config) lives → (on : LivesOn disk tells lives old left)

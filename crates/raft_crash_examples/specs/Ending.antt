@@ -1,4 +1,4 @@
--- How an engine ends, and the premise on CRC collisions then.
+-- How an engine ends, by a crash or a close, and the premise on CRC collisions for each.
 use Rattle.std.specs.Prelude.{◌≡◌, ◌⊎◌, ℕ, Some, List, length, false}
 use Rattle.raft_log_file_writer.specs.LawsChains.{LiesIn, Meets, Written}
 use Rattle.raft_log_file_writer.specs.KeepsSynced.{IsHandedIn}
@@ -14,14 +14,15 @@ use Rattle.raft_log_recovery_laws.specs.Running.{LeavesNoChance, active_header, 
 use Rattle.raft_crash_examples.specs.declared.ending.Ending.{Ending}
 use Rattle.raft_crash_examples.specs.declared.ending.Ending.TheVariants.{Close, Crash}
 
--- what the next open finds: an image of the disk; or what a close leaves of a log whose engine hasn't failed
+-- The disk that the next open finds. After a crash it is an image of the engine's disk. After a close of an engine that
+-- hasn't failed, it is what the close left. If the engine had failed, nothing is claimed of a close.
 abbrev pub Ends : {C : Type 0} → Ending C → EngineState → Disk → Type 0
 Ends (Crash what) e d = IsImage e.pipes.disk d
 Ends Close e d = has_failed e ≡ false → ClosesLog e.pipes d
 
--- There is no CRC collision in the file that was a pipe's active one, as the close left it:
--- - It has no header other than its own.
--- - It has no record except those that the pipe wrote there, or that a write that isn't synced passed to it.
+-- `file`, which was the pipe's active file, has no CRC collision, as a close left it:
+-- - It begins with no header other than its own.
+-- - Each record in it is one that the pipe wrote there, or that was passed to an unsynced write at that offset.
 -- - It doesn't read as a file with an alignment.
 pub record MeetsWritten (F : Format LogRecord) (files : PipeFiles) (before file : File) : Type 0 where
   pub headers : (other : List ℕ) → HasHeader F other file.content → other ≡ active_header files
@@ -31,18 +32,18 @@ pub record MeetsWritten (F : Format LogRecord) (files : PipeFiles) (before file 
       ⊎ IsHandedIn file.changes at w.bytes
   pub plain : F.IsAligned files.active.seq file.content → ⊥
 
--- the same of the file that has its number
+-- after a close, the file at a path with the number of the pipe's active file has no CRC collision
 abbrev pub LeavesWritten : Format LogRecord → PipeFiles → Disk → Disk → Type 0
 LeavesWritten F files old new = (before file : File) (path : List ℕ) (id : ℕ)
     → old.files files.writer.handle.file ≡ Some before → F.IsPath files.active.seq path
     → new.names path ≡ Some id → new.files id ≡ Some file → MeetsWritten F files before file
 
--- A close of an engine with these pipes left no CRC collision in either queue.
+-- After a close of an engine with these pipes, neither queue's active file has a CRC collision.
 pub record ClosesWithoutChance (home : LogDirectories) (v : LogPipes) (d : Disk) : Type 0 where
   pub append : LeavesWritten (log_in home).append.format v.append.files v.disk d
   pub rewrite : LeavesWritten (log_in home).rewrite.format v.rewrite.files v.disk d
 
--- an end of an engine left no CRC collision
+-- the disk that a crash or a close of engine `e` left has no CRC collision
 abbrev pub EndsWithoutChance : {C : Type 0} → LogDirectories → Ending C → EngineState → Disk → Type 0
 EndsWithoutChance home (Crash what) e d = LeavesNoChance home e.pipes d
 EndsWithoutChance home Close e d = ClosesWithoutChance home e.pipes d

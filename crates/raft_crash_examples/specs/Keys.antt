@@ -1,21 +1,20 @@
--- Changes of keys, and the value that a key has after them.
+-- Changes of keys, and the value of a key after them.
 use Rattle.std.specs.Prelude.{◌≡◌, ◌==◌, ◌&&◌, ℕ, List, [], ◌∷◌, ◌++◌, Bool, true, false}
 use Rattle.std.specs.Prelude.{Option, option_map, if◌then◌else◌, bytes_eq}
 use Rattle.raft_crash_examples.specs.declared.changing.KeyChange.{KeyChange}
 
--- whether a change is of this key of this group
+-- whether the change `c` is one of this key of this group
 abbrev pub is_of : ℕ → List ℕ → KeyChange → Bool
 is_of group key c = (c.group == group) && bytes_eq c.key.items key
 
--- The value that a key has after these changes, in order, if it had this one before: that of the last change of the
--- key.
+-- The value of a key after these changes, if it had `value` before. It is that of the last change of this key.
 abbrev pub value_behind : ℕ → List ℕ → List KeyChange → Option (List ℕ) → Option (List ℕ)
 value_behind group key [] value = value
 value_behind group key (c ∷ cs) value = value_behind group key cs
     (if is_of group key c then option_map (λ bytes. bytes.items) c.value else value)
 
--- After a change of a key it has the change's value, or none if it was deleted, whatever came before. After a change of
--- another key it has the value that it had.
+-- If the last change is one of this key, the key has the value of this change, or none if it deletes the key. If the
+-- last change is one of another key, it doesn't matter for this key's value.
 pub record LastChangeCounts : Type 0 where
   pub own : (group : ℕ) (key : List ℕ) (cs : List KeyChange) (c : KeyChange) (value : Option (List ℕ))
       → is_of group key c ≡ true

@@ -1,4 +1,4 @@
--- Lives of a log, and what a key reads as after them.
+-- The lives of a log, each with an open, changes and an end, and the value of a key after them.
 use Rattle.std.specs.Prelude.{◌≡◌, ℕ, List, [], ◌∷◌, ◌++◌, Option, None, map}
 use Rattle.raft_log_engine.specs.raft_log_model_laws.specs.Groups.{taken}
 use Rattle.raft_log_engine.specs.raft_log_fs.specs.Disk.{Disk}
@@ -18,8 +18,8 @@ use Rattle.raft_crash_examples.specs.Ending.{Ends, EndsWithoutChance}
 use Rattle.raft_crash_examples.specs.Keys.{value_behind}
 use Rattle.raft_crash_examples.specs.Saving.{Loads}
 
--- The log of these settings was opened, and each of the changes was written durably: any map that the log had became
--- that map with the changes, and nothing is pending.
+-- The log of these settings was opened, and the changes were written durably. If it had the contents `m`, it now has
+-- `m` with the changes, and nothing is pending.
 pub record OpensAndChanges {F : Type 0} (disk : F → Disk) (tells : F → List ℕ → ℕ → Type 0) (config : Config)
     (changes : List KeyChange) (old : F) (engine : EngineState) : Type 0 where
   pub pipes : LogPipes
@@ -28,7 +28,7 @@ pub record OpensAndChanges {F : Type 0} (disk : F → Disk) (tells : F → List 
   pub changed : (home : LogDirectories) (m : LogMap) → HoldsFresh home pipes tables m
       → Represents home engine (taken m (map said_by changes)) []
 
--- One life: the log was opened with settings that name its directories, its keys were changed, and it ended.
+-- One life of a log: it was opened with settings that name its directories, the changes were written, and it ended.
 pub record LivesOnce {F C : Type 0} (disk : F → Disk) (tells : F → List ℕ → ℕ → Type 0) (life : Life C)
     (old new : F) : Type 0 where
   pub config : Config
@@ -37,18 +37,18 @@ pub record LivesOnce {F C : Type 0} (disk : F → Disk) (tells : F → List ℕ 
   pub changes : OpensAndChanges disk tells config life.changes.items old engine
   pub ends : Ends life.ending engine (disk new)
 
--- one life after another
+-- the lives followed one another, from `old` to `new`
 abbrev pub LivesOn : {F C : Type 0} → (F → Disk) → (F → List ℕ → ℕ → Type 0) → List (Life C) → F → F → Type 0
 LivesOn disk tells [] old new = new ≡ old
 LivesOn {F} disk tells (life ∷ lives) old new =
     (between : F) × LivesOnce disk tells life old between × LivesOn disk tells lives between new
 
--- all lives are in these directories
+-- the settings of all lives name the directories `home`
 abbrev pub AllLiveIn : {C : Type 0} → LogDirectories → List (Life C) → Type 0
 AllLiveIn home [] = Unit {0}
 AllLiveIn home (life ∷ lives) = (home_of life.config ≡ home) × AllLiveIn home lives
 
--- none of their ends left a CRC collision
+-- no end of these lives left a CRC collision
 abbrev pub LivesWithoutChance : {F C : Type 0} → (disk : F → Disk) → (tells : F → List ℕ → ℕ → Type 0) → LogDirectories
     → (lives : List (Life C)) → (old new : F) → LivesOn disk tells lives old new → Type 0
 LivesWithoutChance disk tells home [] old new on = Unit {0}
@@ -61,9 +61,9 @@ abbrev pub changes_of : {C : Type 0} → List (Life C) → List KeyChange
 changes_of [] = []
 changes_of (life ∷ lives) = life.changes.items ++ changes_of lives
 
--- Lives were lived one after another, and a key was read from the log that they left. Suppose that there was no log at
--- first, all settings name the same directories, and there is no CRC collision. Then the key has the value that the
--- changes of all lives give it.
+-- The lives followed one another, and a key was read from the log that they left. Suppose that there was no log at
+-- first, all settings name the same directories, and there is no CRC collision. Then the key has the value that it has
+-- after the changes of all lives.
 pub record ReadsTheFold {F C : Type 0} (disk : F → Disk) (tells : F → List ℕ → ℕ → Type 0) (lives : List (Life C))
     (last : Config) (group : ℕ) (key : List ℕ) (old : F) (found : Option (List ℕ)) : Type 0 where
   pub left : F

@@ -1,4 +1,4 @@
--- Saving a key's value in a log, and reading it from one.
+-- Saving a key's value in a log, and reading it from a log.
 use Rattle.std.specs.Prelude.{ℕ, List, [], ◌∷◌, Option}
 use Rattle.raft_log_engine.specs.raft_log_model_laws.specs.Groups.{taken}
 use Rattle.raft_log_engine.specs.raft_log_model_laws.specs.Item.Item.{Put}
@@ -13,12 +13,12 @@ use Rattle.raft_log_engine.specs.raft_log_engine_laws.specs.Reading.{StandsUnder
 use Rattle.raft_log_engine.specs.raft_log_open.specs.Opening.{OpensDirectory}
 use Rattle.raft_log_recovery_laws.specs.Opened.{HoldsFresh}
 
--- a batch that puts a value at a group's key
+-- the record of a batch that puts `value` at `key` of group `group`
 abbrev pub put_of : ℕ → List ℕ → List ℕ → LogRecordValue
 put_of group key value = Plain (record { group = group; item = Put key value } ∷ [])
 
--- The log of these settings was opened, and a key's value was saved in it: any map that the log had became that map
--- with the value, and nothing is pending.
+-- The log of these settings was opened, and a value was saved at a key. If the log had the contents `m`, it now has `m`
+-- with this value, and nothing is pending.
 pub record Saves {F : Type 0} (disk : F → Disk) (tells : F → List ℕ → ℕ → Type 0) (config : Config) (group : ℕ)
     (key value : List ℕ) (old : F) (engine : EngineState) : Type 0 where
   pub pipes : LogPipes
@@ -27,8 +27,8 @@ pub record Saves {F : Type 0} (disk : F → Disk) (tells : F → List ℕ → �
   pub saved : (home : LogDirectories) (m : LogMap) → HoldsFresh home pipes tables m
       → Represents home engine (taken m (put_of group key value ∷ [])) []
 
--- The log of these settings was opened, and a key was read from it: in any map that the log had, the key has this
--- value.
+-- The log of these settings was opened, and a key was read. If the log has the contents `m`, `found` is the key's value
+-- in `m`, or none if it has no value.
 pub record Loads {F : Type 0} (disk : F → Disk) (tells : F → List ℕ → ℕ → Type 0) (config : Config) (group : ℕ)
     (key : List ℕ) (old : F) (found : Option (List ℕ)) : Type 0 where
   pub pipes : LogPipes

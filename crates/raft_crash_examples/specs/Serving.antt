@@ -1,4 +1,4 @@
--- A store serves a round, loses power, and serves another round after it.
+-- A store serves a round, loses power, and serves another round.
 use Rattle.std.specs.Prelude.{ℕ, List}
 use Rattle.raft_voter_messages.specs.declared.reply.Reply.{Reply}
 use Rattle.raft_voter_messages.specs.declared.request.Request.{Request}
@@ -6,10 +6,10 @@ use Rattle.raft_voter.specs.Rounds.{World, fresh_world}
 use Rattle.raft_voter.specs.Service.{Answers, Service, uncut}
 use Rattle.raft_voter_world.specs.Stores.{Disk}
 
--- A store was opened over files in which all voters are fresh, and served a round. A crash of it left files, and a
--- store that was opened over these served a round. The replies to the first are those of the fresh voters, and the
--- replies to the second are those of what they became. This requires that there is no CRC collision in the files that
--- an open reads, or in those that the crash left.
+-- A store was opened from files in which all voters are fresh, and it served the round `before`. Then there was a
+-- crash, and a store that was opened from the image served the round `behind`. The replies to the first round are those
+-- of fresh voters. The replies to the second round are those of the voters after the first round. This requires that
+-- there is no CRC collision in the files that were opened, nor in the image.
 pub record ServesAcrossACrash {S F : Type 0} (v : Service S) (d : Disk S F) (files : F)
     (before behind : List (ℕ × Request)) (first second : List Reply) : Type 0 where
   pub store : S

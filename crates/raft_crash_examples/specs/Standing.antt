@@ -1,4 +1,4 @@
--- The state of a log at a crash, and the premise on CRC collisions then.
+-- The log at a crash, and the premise on CRC collisions.
 use Rattle.std.proofs.Common.{inl, inr}
 use Rattle.std.specs.Prelude.{◌≡◌, ◌⊎◌, List, true}
 use Rattle.raft_log_engine.specs.raft_log_fs.specs.Disk.{Disk}
@@ -8,13 +8,14 @@ use Rattle.raft_log_engine.specs.raft_log_engine_laws.specs.Holding.{Represents,
 use Rattle.raft_log_recovery_laws.specs.Left.{IsCrashOf}
 use Rattle.raft_log_recovery_laws.specs.Running.{LeavesNoChance}
 
--- the engine runs, and its log is this map with these batches pending; or it has failed, and left the log so
+-- the engine runs, and its log has the contents `m` with the batches `pending`; or it has failed, and its files can be
+-- opened with these
 abbrev pub RunsOrIsLeft : LogDirectories → EngineState → LogMap → List LogRecordValue → Type 0
 RunsOrIsLeft home e m pending =
     Represents home e m pending ⊎ ((has_failed e ≡ true) × IsRecoverableAs home e.pipes.disk m pending)
 
--- A crash left no CRC collision. If the engine ran, this depends on its pipes; if it had failed, on the records in its
--- files.
+-- The crash image has no CRC collision. If the engine ran, this depends on what its pipes wrote. If it had failed, it
+-- depends on the records in its files.
 abbrev pub CrashesWithoutChance : (home : LogDirectories) → (e : EngineState) → (m : LogMap) → (pending : List LogRecordValue)
     → RunsOrIsLeft home e m pending → Disk → Type 0
 CrashesWithoutChance home e m pending (inl holds) image = LeavesNoChance home e.pipes image

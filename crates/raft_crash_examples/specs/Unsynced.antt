@@ -1,4 +1,4 @@
--- Putting a key's value in a log without a sync, and losing power.
+-- Putting a value at a key without a sync, and losing power.
 use Rattle.std.specs.Prelude.{◌≡◌, ◌⊎◌, ℕ, List, [], ◌∷◌, Option, Some, None}
 use Rattle.raft_log_engine.specs.raft_log_fs.specs.Disk.{Disk}
 use Rattle.raft_log_engine.specs.raft_log_fs.specs.Image.{IsImage}
@@ -20,8 +20,8 @@ use Rattle.raft_crash_examples.specs.Keys.{value_behind}
 use Rattle.raft_crash_examples.specs.Lives.{AllLiveIn, LivesOn, LivesWithoutChance, changes_of}
 use Rattle.raft_crash_examples.specs.Saving.{Loads, put_of}
 
--- The log of these settings was opened, and a key's value was put in it: for any map that the log had, the put is
--- pending after that map, or the map has it.
+-- The log of these settings was opened, and a value was put at a key without a sync. If the log had the contents `m`,
+-- now the put is pending after `m`, or it is durable.
 pub record PutsUnsynced {F : Type 0} (disk : F → Disk) (tells : F → List ℕ → ℕ → Type 0) (config : Config) (group : ℕ)
     (key value : List ℕ) (old : F) (engine : EngineState) : Type 0 where
   pub pipes : LogPipes
@@ -30,8 +30,8 @@ pub record PutsUnsynced {F : Type 0} (disk : F → Disk) (tells : F → List ℕ
   pub put : (home : LogDirectories) (m : LogMap) → HoldsFresh home pipes tables m
       → EndsAt home engine m (put_of group key value ∷ [])
 
--- The log of these settings was opened, a key was read from it, and it ended: any map that the log had is unchanged,
--- and the key has this value there.
+-- The log of these settings was opened, a key was read, and the engine ended. If the log had the contents `m`, it still
+-- has, and `found` is the key's value in `m`.
 pub record LoadsAndEnds {F C : Type 0} (disk : F → Disk) (tells : F → List ℕ → ℕ → Type 0) (config : Config)
     (group : ℕ) (key : List ℕ) (ending : Ending C) (old : F) (found : Option (List ℕ)) (new : F) : Type 0 where
   pub pipes : LogPipes
@@ -42,10 +42,10 @@ pub record LoadsAndEnds {F C : Type 0} (disk : F → Disk) (tells : F → List �
   pub told : (home : LogDirectories) (m : LogMap) → HoldsFresh home pipes tables m → StandsUnder m group key found
   pub ends : Ends ending engine (disk new)
 
--- A key was put without a sync, the power went, the key was read, the log lived on, and the key was read once more.
--- Suppose that there was no log at first, all settings name the same directories, and there is no CRC collision. Then
--- the first read gave no value, or the one that was put. The later read gave the value that the changes since give the
--- key, and the same value if there are none.
+-- A value was put at a key without a sync, the power went, and the key was read as `first`. After more lives of the
+-- log, it was read as `later`. Suppose that there was no log at first, all settings name the same directories, and
+-- there is no CRC collision. Then `first` is none, or the value that was put. `later` is the value that the key has
+-- after the changes of these lives, if it had `first` before.
 pub record StaysAsRead {F C : Type 0} (disk : F → Disk) (tells : F → List ℕ → ℕ → Type 0) (config : Config)
     (group : ℕ) (key value : List ℕ) (look : Config) (ending : Ending C) (lives : List (Life C)) (last : Config)
     (old : F) (first later : Option (List ℕ)) : Type 0 where

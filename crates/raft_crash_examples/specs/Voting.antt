@@ -1,4 +1,4 @@
--- A node votes, loses power, and gets a request for the same term's vote from another candidate.
+-- A node grants its vote, loses power, and another candidate asks for its vote in the same term.
 use Rattle.std.specs.Prelude.{◌≡◌, ◌⊎◌, List, [], ◌∷◌}
 use Rattle.raft_voter_messages.specs.declared.reply.Reply.{Reply}
 use Rattle.raft_voter_messages.specs.declared.reply.Reply.TheVariants.{Denied, Granted, Refused}
@@ -6,14 +6,14 @@ use Rattle.raft_voter.specs.Rounds.{World, fresh_world}
 use Rattle.raft_voter.specs.Service.{Service, uncut}
 use Rattle.raft_voter_world.specs.Stores.{Disk}
 
--- if the first candidate got the vote, the second doesn't: its reply is `Denied` or `Refused`
+-- if the first reply grants the vote in term 5, the second reply is `Denied` or `Refused`
 abbrev pub IsVotedOnce : List Reply → List Reply → Type 0
 IsVotedOnce first second =
     first ≡ Granted 5 ∷ [] → (second ≡ Denied 5 ∷ []) ⊎ (second ≡ Refused ∷ [])
 
--- Candidates 2 and 3 request the vote in term 5, over files in which all voters are fresh, one before a crash and one
--- after it. They don't both get it, unless there is a CRC collision in the files that an open reads, or in those that
--- the crash left.
+-- Two candidates asked for the vote in term 5, one before a crash and one after it. All voters were fresh before. If
+-- the first got the vote, the second didn't. This requires that there is no CRC collision in the files that were
+-- opened, nor in the image.
 pub record VotesAcrossACrash {S F : Type 0} (v : Service S) (d : Disk S F) (files : F) (first second : List Reply)
     : Type 0 where
   pub store : S

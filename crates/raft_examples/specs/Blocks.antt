@@ -1,11 +1,12 @@
--- What a caller of a block cache reads.
+-- What the example of a block cache reads.
 use Rattle.std.specs.Prelude.{◌≡◌, ℕ, None, List, Option}
 use Rattle.raft_log_record_items.specs.declared.entry.EntryIndex.{EntryIndex}
 use Rattle.raft_log_dual_pipes.specs.Pipes.{LogPipes}
 use Rattle.raft_log_block_cache.specs.Blocks.{ReadsEntry}
 use Rattle.raft_log_block_cache.specs.declared.block_cache.BlockCache.{BlockCache}
 
--- both entries were read, the second one with the block of the first in the cache
+-- The entries `first` and `last` were read, in this order. The cache was empty at first, and had the block of `first`
+-- when `last` was read.
 pub record ReadsEnds {M : Type 0} (reading : List ℕ → Option M) (v : LogPipes) (first last : EntryIndex)
     (one other : M) : Type 0 where
   pub empty : BlockCache

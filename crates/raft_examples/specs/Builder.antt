@@ -1,4 +1,4 @@
--- What a caller of a builder reads.
+-- What the example of a builder of pipes reads.
 use Rattle.std.specs.Prelude.{◌≡◌, List}
 use Rattle.raft_log_record_base.specs.declared.pipe_log.LogQueue.{LogQueue}
 use Rattle.raft_log_fs.specs.Disk.{Disk}
@@ -8,7 +8,7 @@ use Rattle.raft_log_recovery.specs.Recovering.{RecoversLog}
 use Rattle.raft_log_recovery.specs.Scanning.{ScansLog}
 use Rattle.raft_log_recovery.specs.declared.builder.DualPipesBuilder.{DualPipesBuilder}
 
--- the log of these settings was found, and both its queues were read into these machines
+-- the log of these settings was found, and the batches of its two queues were read into `append` and `rewrite`
 pub record ReadsInto {M : Type 0} (reads : LogQueue → List Batch → M → Type 0) (config : Config)
     (append rewrite : M) (old new : Disk) : Type 0 where
   pub begun : DualPipesBuilder

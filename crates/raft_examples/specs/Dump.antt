@@ -1,4 +1,4 @@
--- What a caller of a dump learns.
+-- What the example of a dump reads.
 use Rattle.std.specs.Prelude.{ℕ, List, Option}
 use Rattle.raft_log_fs.specs.Disk.{Disk}
 use Rattle.raft_log_file_reader.specs.Answers.{Answer}
@@ -6,7 +6,7 @@ use Rattle.raft_log_file_reader.specs.ItemReader.{GivesFirst}
 use Rattle.raft_log_file_reader.specs.declared.item_reader.LogItemReader.{LogItemReader}
 use Rattle.raft_log_offline.specs.Dump.{Dumps}
 
--- this is the first item or error that is read from the log files of this directory, or from the log file with this
+-- `first` is the first item or error of a dump: of the log files in the directory `path`, or of the log file with this
 -- path
 pub record BeginsDump {F : Type 0} (disk : F → Disk) (file_system : F) (path : List ℕ) (first : Option Answer)
     : Type 0 where

@@ -1,4 +1,4 @@
--- What a caller does with a pipe.
+-- What the examples of one pipe do.
 use Rattle.std.specs.Prelude.{ℕ, List}
 use Rattle.raft_log_record_base.specs.declared.pipe_log.FileBlockHandle.{FileBlockHandle}
 use Rattle.raft_log_record_base.specs.declared.pipe_log.LogFileContext.{LogFileContext}
@@ -12,7 +12,7 @@ use Rattle.raft_log_file_pipe.specs.Purging.{Purges}
 use Rattle.raft_log_file_pipe.specs.declared.pipe_files.PipeFiles.{PipeFiles}
 use Rattle.raft_log_file_pipe.specs.declared.single_pipe.PipeSettings.{PipeSettings}
 
--- the record was appended, signed for its file, and then all records were synced
+-- a record was appended at `place`, signed for its file, and then the pipe was synced
 pub record Saves {R : Type 0} (F : Format R) (own : List ℕ → Type 0) (paths : FilePaths)
     (settings : PipeSettings) (signed : LogFileContext → List ℕ) (before after : PipeFiles)
     (place : FileBlockHandle) (old new : Disk) : Type 0 where
@@ -20,7 +20,7 @@ pub record Saves {R : Type 0} (F : Format R) (own : List ℕ → Type 0) (paths 
   pub written : AppendsAt F own paths settings.new_files settings.queue signed before after place old between
   pub synced : SyncsPipe F own paths after between new
 
--- the pipe rotated, and then all files before the active one left it
+-- the pipe rotated, and then all files before the active one left its live range
 pub record KeepsLastAlone {R : Type 0} (F : Format R) (own : List ℕ → Type 0) (paths : FilePaths)
     (settings : PipeSettings) (before after : PipeFiles) (old new : Disk) : Type 0 where
   pub middle : PipeFiles

@@ -1,11 +1,11 @@
--- What a caller of a scan learns.
+-- What the example of a scan finds.
 use Rattle.std.specs.Prelude.{◌≡◌, ℕ, List, length}
 use Rattle.raft_log_fs.specs.Disk.{Disk}
 use Rattle.raft_log_file_settings.specs.declared.recovery_mode.RecoveryMode.{RecoveryMode}
 use Rattle.raft_log_recovery_scan.specs.Scanned.{Scans}
 use Rattle.raft_log_recovery_scan.specs.declared.scanning.ScannedFiles.{ScannedFiles}
 
--- the directories were scanned, and so many files were found and kept of each queue
+-- the directories were scanned; `append` and `rewrite` are how many files of each queue were found and kept
 pub record FindsFiles (directories : List (List ℕ)) (mode : RecoveryMode) (append rewrite : ℕ)
     (old new : Disk) : Type 0 where
   pub scanned : ScannedFiles

@@ -1,4 +1,4 @@
--- What a caller does with the parts of a purge for one group.
+-- What the example that rewrites one group does, with the parts of a purge.
 use Rattle.std.specs.Prelude.{ℕ}
 use Rattle.raft_log_machine_laws.specs.Calls.Which.{InAppend, InRewrite}
 use Rattle.raft_log_dual_pipes.specs.Calls.{SyncsQueue}
@@ -7,7 +7,7 @@ use Rattle.raft_log_engine_core.specs.raft_log_engine_laws.specs.EngineState.{En
 use Rattle.raft_log_purge_copy.specs.Groups.{RewritesGroup}
 use Rattle.raft_log_purge_copy.specs.Marks.{CarriesMarks}
 
--- Append was synced and the owed tombstones were written. Then what the group has in Append up to the gate was
+-- Append was synced, and the owed tombstones were written. Then what `group` has in files of Append up to `gate` was
 -- rewritten, and Rewrite was synced.
 pub record MovesGroup (group gate : ℕ) (s t : EngineState) : Type 0 where
   pub synced : LogPipes

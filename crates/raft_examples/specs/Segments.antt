@@ -1,14 +1,14 @@
--- What a caller counts of the segments of a queue.
+-- What the example that counts records returns.
 use Rattle.std.specs.Prelude.{◌≡◌, ℕ, ◌-◌, ◌^◌, List, length, min}
 use Rattle.raft_log_replay.specs.Machines.{Batch}
 use Rattle.raft_log_replay.specs.Segments.{all_batches}
 use Rattle.raft_log_replay.specs.Sources.{HoldEach}
 
--- so many batches were read, at most 2^64 - 1
+-- `count` is the number of batches, but at most 2^64 - 1
 abbrev pub IsCountOf : List Batch → ℕ → Type 0
 IsCountOf batches count = count ≡ min (length batches) (2 ^ 64 - 1)
 
--- these are the batches that the first segments hold, `segments` of them, and all of the batches were counted
+-- the first `segments` segments were read, and `count` is the number of all batches in them, but at most 2^64 - 1
 pub record CountsRecords {E : Type 0} (holds : ℕ → List Batch → E → Type 0) (segments count : ℕ) : Type 0 where
   pub batches : List (List Batch)
   pub endings : List E

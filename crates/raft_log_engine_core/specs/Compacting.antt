@@ -12,38 +12,39 @@ use Rattle.raft_log_purge.specs.raft_log_engine_laws.specs.EngineState.{EngineSt
 use Rattle.raft_log_purge.specs.raft_log_engine_laws.specs.Writing.{NotWritten, Writes}
 use Rattle.raft_log_engine_core.specs.Touching.{LeavesRecord, WritesRecord}
 
--- how many of a group's entries are below an index, if it has entries
+-- how many entries the group with table `v` has below `index`; none if it has no entries at all
 abbrev pub entries_below : Shown → ℕ → Option ℕ
 entries_below v index =
     if nat_lt 0 (length v.places) then Some (min (index - v.first) (length v.places)) else None
 
--- the batch deletes a group's entries below an index and does nothing else, and its record isn't made yet
+-- batch `b` has a single item, which deletes the entries of group `g` below `index`; its record isn't encoded yet
 pub record SaysCompact (g index : ℕ) (b : Batch) : Type 0 where
   pub items : b.items ≡ command_item g (commands.Compact index) ∷ []
   pub entries : b.entries ≡ []
   pub fills : b.state ≡ Filling
 
--- A batch that deletes a group's entries below an index was written, and not synced. Nothing else was done to the
--- files, except that Append may have rotated before the record.
+-- A batch that deletes the entries of group `g` below `index` was written, without a sync. Append may have rotated
+-- before the record. Nothing else was done to the files.
 abbrev pub WritesCompact : ℕ → ℕ → EngineState → EngineState → Type 0
 WritesCompact g index s t = (b : Batch) × SaysCompact g index b × Writes b false s t
     × WritesRecord b s.pipes t.pipes
 
--- A batch deleted so many entries of a group: those below the index. If the group has no entries, none are deleted and
--- nothing is written.
+-- A call deleted the `count` entries that group `g` had below `index`. If the group has no entries, `count` is 0 and
+-- nothing was written.
 abbrev pub CompactsTo : ℕ → ℕ → ℕ → EngineState → EngineState → Type 0
 CompactsTo g index count s t =
     ((entries_below (s.tables g) index ≡ None) × (count ≡ 0) × (has_failed s ≡ false) × (t ≡ s))
     ⊎ ((entries_below (s.tables g) index ≡ Some count) × WritesCompact g index s t)
 
--- Writing the batch that deletes a group's entries failed: out of memory before the write; or the write failed, and
--- left what `LeavesRecord` says in the files.
+-- Writing the batch that deletes the entries of group `g` below `index` failed. Either memory ran out before the write,
+-- and nothing was done; or the write failed, and left the files as `LeavesRecord` says.
 abbrev pub FailsToWriteCompact : ℕ → ℕ → Error → EngineState → EngineState → Type 0
 FailsToWriteCompact g index error s t =
     ((error ≡ errors.Memory) × (has_failed s ≡ false) × (t ≡ s))
     ⊎ ((b : Batch) × SaysCompact g index b × NotWritten b error s t × LeavesRecord b error s.pipes t.pipes)
 
--- why the call fails: the engine had failed; or the group has entries, and writing the batch failed
+-- Why deleting entries of group `g` fails: the engine had failed before; or the group has entries, and the write
+-- failed.
 abbrev pub FailsToCompact : ℕ → ℕ → Error → EngineState → EngineState → Type 0
 FailsToCompact g index error s t = HadFailed s t error
     ⊎ ((entries_below (s.tables g) index ≡ None → ⊥) × FailsToWriteCompact g index error s t)

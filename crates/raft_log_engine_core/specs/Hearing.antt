@@ -1,4 +1,4 @@
--- What listeners hear of a write.
+-- Which events listeners hear during a write.
 use Rattle.std.specs.Prelude.{◌≡◌, ◌⊎◌, ℕ, Bool, true, false, None, [], ◌∷◌, ◌++◌}
 use Rattle.raft_log_record_base.specs.declared.errors.Error.{Error}
 use Rattle.raft_log_record_base.specs.declared.errors.Error.TheVariants as errors
@@ -18,25 +18,30 @@ use Rattle.raft_log_purge.specs.raft_log_engine_laws.specs.EngineState.{EngineSt
 use Rattle.raft_log_engine_core.specs.Compacting.{SaysCompact, entries_below}
 use Rattle.raft_log_engine_core.specs.Touching.{LeavesRecord, PipeTakes, SyncsIf}
 
--- Listeners hear exactly this of a batch's record, in this order: each file that Append rotated to; the place of the
--- record, which is in Append's active file; and that the record of that file was applied to the tables.
+-- The record of batch `b` was appended at `block`, in Append's active file. Listeners heard exactly these events, in
+-- order:
+-- - each file to which Append rotated
+-- - `RecordWritten`, with the location `block`
+-- - `RecordApplied`, with the file of `block`, after the tables applied the record
 abbrev pub HearsRecord : {L : Type 0} → Batch → (Told → L → L → Type 0) → LogPipes → LogPipes → L → L → Type 0
 HearsRecord b hears v w old new = (block : FileBlockHandle)
     × WritesAt (signed_for b) block v w × PipeTakes (signed_for b) block v w × (block.id.seq ≡ last_of InAppend w)
     × Hears hears (files_begun Append v w ++ Told.RecordWritten block ∷ Told.RecordApplied block.id ∷ []) old new
 
--- for an empty batch listeners hear nothing and the files are unchanged; for another one they hear of its record
+-- If batch `b` is empty, listeners hear nothing and the files are unchanged. Otherwise they hear the events of its
+-- record.
 abbrev pub HearsTaken : {L : Type 0} → Batch → (Told → L → L → Type 0) → LogPipes → LogPipes → L → L → Type 0
 HearsTaken b hears v w old new = ((b.items ≡ []) × (w ≡ v) × (new ≡ old))
     ⊎ ((b.items ≡ [] → ⊥) × HearsRecord b hears v w old new)
 
--- if a write succeeds, listeners hear of the batch, and nothing of the sync after it
+-- if a write of batch `b` succeeds, listeners hear the events of its record; a sync after the record has no event
 abbrev pub HearsBatch : {L : Type 0} → Batch → Bool → (Told → L → L → Type 0) → LogPipes → LogPipes → L → L → Type 0
 HearsBatch b sync hears v w old new = (mid : LogPipes) × HearsTaken b hears v mid old new × SyncsIf sync mid w
 
--- What listeners hear if a write fails.
--- - If the record wasn't written: each file that Append rotated to, and nothing else.
--- - If the requested sync failed, with error `Failed`: what was written before it.
+-- What listeners hear if a write of batch `b` fails.
+-- - If the record wasn't appended: each file to which Append rotated, and nothing else.
+-- - If the requested sync failed, with error `Failed`: the events of the record that was appended before, or nothing
+--   for an empty batch.
 abbrev pub HearsRefused : {L : Type 0} → Batch → Bool → (Told → L → L → Type 0) → Error → LogPipes → LogPipes
     → L → L → Type 0
 HearsRefused b sync hears error v w old new =
@@ -44,15 +49,15 @@ HearsRefused b sync hears error v w old new =
     ⊎ ((sync ≡ true) × (error ≡ errors.Failed) × (is_failed v ≡ false)
     × ((mid : LogPipes) × HearsTaken b hears v mid old new × FailsToSyncQueue InAppend mid w))
 
--- If a call deletes a group's entries, listeners hear of the batch's record. For a group without entries they hear
--- nothing.
+-- What listeners hear when a call deletes the entries of group `g` below `index`: the events of the record that deletes
+-- them. If the group has no entries, they hear nothing.
 abbrev pub HearsCompact : {L : Type 0} → ℕ → ℕ → (Told → L → L → Type 0) → EngineState → EngineState → L → L → Type 0
 HearsCompact g index hears s t old new = ((entries_below (s.tables g) index ≡ None) × (new ≡ old))
     ⊎ ((entries_below (s.tables g) index ≡ None → ⊥)
     × ((b : Batch) × SaysCompact g index b × HearsRecord b hears s.pipes t.pipes old new))
 
--- After a batch was written, the hook pins the files that it pinned before, unless there was a file that it couldn't
--- list.
+-- After the events of a batch, the purge hook pins the same first file of each queue as before. The first file that it
+-- couldn't list is also the same.
 abbrev pub BatchesHoldNothingBack : {L : Type 0} → (Told → L → L → Type 0) → (L → ActiveFiles) → Type 0
 BatchesHoldNothingBack {L} hears hook_of = (b : Batch) (v w : LogPipes) (old new : L)
     → HearsTaken b hears v w old new → (hook_of new).missing ≡ (hook_of old).missing

@@ -23,40 +23,43 @@ use Rattle.raft_log_purge.specs.raft_log_engine_laws.specs.Fetching.{HadFailed}
 use Rattle.raft_log_purge.specs.raft_log_engine_laws.specs.EngineState.{EngineState}
 use Rattle.raft_log_engine_core.specs.Reads.{Lives}
 
--- the engine is purged by its completed settings, and no group was asked to compact yet
+-- `thresholds` are those of the completed settings `config`; `rounds` counts no purge that asked to compact a group
 pub record IsPurgedBy (config : Config) (thresholds : Thresholds) (rounds : Rounds) : Type 0 where
   pub sizes : thresholds ≡ thresholds_of (sanitized (settings_of config))
   pub unasked : (g : ℕ) → count_of rounds g ≡ 0
 
--- why purging all stale files fails: the engine had failed; or it hadn't, and a part of the purge failed
+-- A purge of all stale files failed with `error`: the engine had failed before; or it hadn't, and a step of the purge
+-- failed.
 abbrev pub StopsPurging : EngineState → EngineState → Error → Type 0
 StopsPurging s t error = HadFailed s t error ⊎ (Lives s × FailsToPurgeAll error s t)
 
--- why rewriting Append fails: the engine had failed; or it hadn't, and a part of that failed
+-- A rewrite of Append failed with `error`: the engine had failed before; or it hadn't, and a step of the rewrite
+-- failed.
 abbrev pub StopsRewritingAppend : EngineState → EngineState → Error → Type 0
 StopsRewritingAppend s t error = HadFailed s t error ⊎ (Lives s × FailsToRewriteAppend error s t)
 
--- why purging expired files, or rewriting Rewrite, fails: the engine had failed; or it hadn't, and a part of that
--- failed
+-- A purge of expired files, or a rewrite of Rewrite, failed with `error`: the engine had failed before; or it hadn't,
+-- and a step failed.
 abbrev pub StopsPurgingExpired : EngineState → EngineState → Error → Type 0
 StopsPurgingExpired s t error = HadFailed s t error ⊎ (Lives s × FailsToPurgeExpired error s t)
 
--- after an open, all that was read from Rewrite counts as written there
+-- after an open, `counts` counts the entries and values that were read from Rewrite as written to Rewrite, and no
+-- others
 pub record CountsBrought (config : Config) (d : Disk) (counts : PurgeCounts) : Type 0 where
   pub written : ℕ
   pub brings : BringsInRewrite config d written
   pub stats : counts.stats ≡ added Rewrite written no_entries
 
--- What is counted if purging expired files fails: nothing, if the engine had failed. Else, if a queue is past its
--- threshold, what was live in Rewrite before, and more depending on where the purge failed.
+-- The counts after a purge of expired files failed: unchanged, or as `CountsIfPast` says. There, the counts are updated
+-- before the purge if a queue is past its threshold. Then the step that failed decides which counts are kept.
 abbrev pub StopsCountingIfPast : Thresholds → MemTables → PurgeCounts → PurgeCounts → EngineState → EngineState → Type 0
 StopsCountingIfPast thresholds m old new s t = (new ≡ old) ⊎ CountsIfPast thresholds m old new s t
 
--- what is counted if rewriting Rewrite fails: nothing; or what was live there before, and more depending on where it
--- failed
+-- The counts after a rewrite of Rewrite failed: unchanged; or updated before the rewrite, and then kept as the step
+-- that failed decides.
 abbrev pub StopsCounting : MemTables → PurgeCounts → PurgeCounts → EngineState → EngineState → Type 0
 StopsCounting m old new s t = (new ≡ old) ⊎ CountsAndKeeps m old new s t
 
--- what is counted if rewriting Append fails: nothing, or what was live in Rewrite before
+-- the counts after a rewrite of Append failed: unchanged, or updated with what was live in Rewrite before
 abbrev pub MayCountStanding : MemTables → PurgeCounts → PurgeCounts → Type 0
 MayCountStanding m old new = (new ≡ old) ⊎ CountsStanding m old new

@@ -1,4 +1,4 @@
--- What an engine reads from its tables. A failed engine reads nothing.
+-- What an engine's reads return from its tables. A failed engine fails every read.
 use Rattle.std.specs.Prelude.{◌≡◌, ◌⊎◌, ◌+◌, ◌-◌, ◌<◌, ◌≤◌, ℕ, Bool, false, true, List, None, Option, Some, drop, length, take}
 use Rattle.std.specs.declared.io.ErrorKind.TheVariants.{Other}
 use Rattle.raft_log_record_base.specs.declared.errors.Error.{Error}
@@ -16,44 +16,45 @@ use Rattle.raft_log_purge.specs.raft_log_engine_laws.specs.Reading.{ReadsKeys}
 use Rattle.raft_log_purge.specs.raft_log_engine_laws.specs.EngineState.{EngineState, has_failed, shows}
 use Rattle.raft_log_engine_core.specs.declared.engine.LogEngine.{LogEngine}
 
--- what an engine shows, given what its pipes show
+-- the state of engine `e`, if `shown` gives the state of its pipes
 abbrev pub shows_of : {P : Type 0} → (P → LogPipes) → LogEngine P → EngineState
 shows_of shown e = shows (shown e.pipes) e.tables e.cache
 
--- the engine hasn't failed: reads succeed only then
+-- the engine hasn't failed
 abbrev pub Lives : EngineState → Type 0
 Lives s = has_failed s ≡ false
 
--- the engine has failed: reads fail with `Failed` then, and only then
+-- the engine has failed, and the error is `Failed`
 abbrev pub IsFailed : EngineState → Error → Type 0
 IsFailed s error = (error ≡ errors.Failed) × (has_failed s ≡ true)
 
--- why copying fails: the engine has failed; or it hasn't, and is out of memory
+-- why a read that copies what it returns fails: the engine has failed, with `Failed`; or it hasn't, and memory ran out
 abbrev pub IsUncopied : EngineState → Error → Type 0
 IsUncopied s error = IsFailed s error ⊎ ((error ≡ errors.Memory) × Lives s)
 
--- the file system runs
+-- the engine's file system hasn't stopped
 abbrev pub Runs : EngineState → Type 0
 Runs s = s.pipes.disk.stopped ≡ false
 
--- The error that a read returns is its own error, with one exception. Out of memory on a stopped file system is
--- returned as `Io(Other)`.
+-- A read that fails with `error` returns `told`. The two are equal, with one exception: if memory runs out after the
+-- file system has stopped, `told` is `Io(Other)`.
 abbrev pub IsToldAs : Bool → Error → Error → Type 0
 IsToldAs stopped error told = ((told ≡ error) × (error ≡ errors.Memory → stopped ≡ false))
     ⊎ ((error ≡ errors.Memory) × (stopped ≡ true) × (told ≡ errors.Io Other))
 
--- the table has an entry at the first requested index
+-- `begin` is below `end`, and the table has an entry at index `begin`
 pub record HasFirst (v : Shown) (begin end : ℕ) : Type 0 where
   pub some : begin < end
   pub low : v.first ≤ begin
   pub high : begin < v.first + length v.places
 
--- `count` entries of a table, from an index on
+-- the locations of at most `count` entries of a table, from `index` on
 abbrev pub entries_on : Shown → ℕ → ℕ → List EntryIndex
 entries_on v index count =
     entries_from v (index - v.first) (take count (drop (index - v.first) v.places))
 
--- the places of consecutive entries of a table from an index on: at least one, at most `left`, all in this block
+-- `block` and `bounds` locate consecutive entries of a table, from `index` on. They are at least one and at most `left`
+-- entries, all in that block.
 pub record LieNext (v : Shown) (index left : ℕ) (block : FileBlockHandle) (bounds : Bounds) : Type 0 where
   pub count : ℕ
   pub len : length (bounds_of bounds) ≡ count + 1
@@ -62,17 +63,18 @@ pub record LieNext (v : Shown) (index left : ℕ) (block : FileBlockHandle) (bou
   pub are : entries_between block index (bounds_of bounds) ≡ entries_on v index count
   pub short : AreShort bounds
 
--- the places of the next entries, if any are left; none if none is left
+-- `None`: no entry is left to read. `Some`: the locations of the next entries, at least one and at most `left`, all in
+-- one block.
 abbrev pub AreNext : Shown → ℕ → ℕ → Option (FileBlockHandle × Bounds) → Type 0
 AreNext v index left None = left ≡ 0
 AreNext v index left (Some (block, bounds)) = LieNext v index left block bounds
 
--- no group counts: each took nothing since it was cleaned
+-- `counts` is false for every group: no item of it came after its last `Clean`
 abbrev pub NoneCounts : (ℕ → Bool) → Type 0
 NoneCounts counts = (g : ℕ) → counts g ≡ false
 
--- calls with all requested keys of a group, in the order of their bytes or backwards, up to the first that returns
--- false
+-- The callback is called with each key of group `g` in the requested range, and its value. The calls are in ascending
+-- order of the keys' bytes, or in descending order if `backwards`. They end when the callback returns false.
 abbrev pub ScansKeys : {F : Type 0} → (F → List ℕ → List ℕ → Bool → F → Type 0) → F → EngineState → ℕ
     → Option (List ℕ) → Option (List ℕ) → Bool → Type 0
 ScansKeys called callback s g start end backwards = (es : List (List ℕ × List ℕ))

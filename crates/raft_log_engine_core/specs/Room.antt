@@ -8,34 +8,37 @@ use Rattle.raft_log_purge.specs.raft_log_engine_laws.specs.EngineState.{IsWellMa
 use Rattle.raft_log_purge.specs.raft_log_engine_laws.specs.Writing.{IsUnfit, PipesRefused}
 use Rattle.raft_log_engine_core.specs.declared.writing.Room.{Room}
 
--- the room has an empty list with capacity for the batch's items
+-- `room` has an empty list with capacity for all items of batch `b`
 pub record HasListFor (b : Batch) (room : Room) : Type 0 where
   pub none : room.items.items ≡ []
   pub fits : vec_len room.items + length b.items ≤ vec_capacity room.items
 
--- why a batch is rejected whatever the tables are: it was written already, or its marks are broken; or there was no
--- memory to report it
+-- The errors with which a write rejects a batch, whatever the tables are:
+-- - `InvalidArgument`: it was signed or written already, or its marks of an atomic group are broken
+-- - `Memory`: memory ran out
 abbrev pub IsUnfitItself : Batch → Error → Type 0
 IsUnfitItself b (errors.InvalidArgument text) = IsWritable b.state → IsWellMarked b → ⊥
 IsUnfitItself b errors.Memory = Unit {0}
 IsUnfitItself b _ = ⊥
 
--- why writing a batch fails, and what is true then: the batch was rejected, and nothing was done; or the pipes failed
+-- A write of batch `b` failed with `error`. Either it was rejected, and nothing was done; or an append of its record
+-- failed.
 abbrev pub PutFails : Batch → Error → EngineState → EngineState → Type 0
 PutFails b error s t = (IsUnfit b s.tables error × (t ≡ s)) ⊎ PipesRefused b error s t
 
--- a batch that was written keeps at most `max_kept_len` bytes of its buffer; an empty one stays unchanged
+-- after its write, a batch keeps at most `max_kept_len` bytes of its buffer; this doesn't apply to an empty batch
 abbrev pub KeepsLittle : Batch → Batch → Type 0
 KeepsLittle old new = (old.items ≡ []) ⊎ (new.buffer ≤ max_kept_len)
 
--- a batch that may be written may be written afterwards too: its record isn't signed for a file
+-- if batch `old` may be written, so may `new`: its record isn't signed for a file
 abbrev pub StaysWritable : Batch → Batch → Type 0
 StaysWritable old new = IsWritable old.state → IsWritable new.state
 
--- if writing a batch fails: it was rejected, and nothing was done; or its record is made
+-- After a write of a batch failed: it was rejected, and nothing was done; or its record is encoded in `new`.
 abbrev pub IsMadeIfTried : Error → Batch → Batch → EngineState → EngineState → Type 0
 IsMadeIfTried error old new s t = (IsUnfit old s.tables error × (t ≡ s)) ⊎ (new.state ≡ Populated)
 
--- if writing a batch fails: as above, or the engine has failed
+-- After a write of a batch failed: it was rejected, and nothing was done; its record is encoded in `new`; or the error
+-- is `Failed`.
 abbrev pub IsMadeUnlessFailed : Error → Batch → Batch → EngineState → EngineState → Type 0
 IsMadeUnlessFailed error old new s t = IsMadeIfTried error old new s t ⊎ (error ≡ errors.Failed)

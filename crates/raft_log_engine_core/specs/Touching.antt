@@ -1,4 +1,4 @@
--- What a call does to the files of a log, and that it leaves the purge's thresholds and counts.
+-- What a write does to the files of a log; and calls that leave the purge's thresholds and counts unchanged.
 use Rattle.std.specs.Prelude.{◌≡◌, ◌⊎◌, ℕ, Bool, true, false, List, []}
 use Rattle.raft_log_record_base.specs.declared.errors.Error.{Error}
 use Rattle.raft_log_record_base.specs.declared.errors.Error.TheVariants as errors
@@ -14,62 +14,64 @@ use Rattle.raft_log_block_cache.specs.raft_log_file_pipe.specs.Appending.{SaysTr
 use Rattle.raft_log_purge.specs.raft_log_engine_laws.specs.Trying.{RefusesAt, WritesAt}
 use Rattle.raft_log_engine_core.specs.declared.engine.LogEngine.{LogEngine}
 
--- the purge's thresholds stay, and what is counted from one purge to the next
+-- `new` has the same purge thresholds as `old`, and the same counts since the last purge
 pub record StaysPurged {P : Type 0} (old new : LogEngine P) : Type 0 where
   pub thresholds : new.thresholds ≡ old.thresholds
   pub counts : new.counts ≡ old.counts
 
--- Append's pipe found no space for a record, by its file calls, rotated, and hasn't failed
+-- Append's pipe tried to append a record and failed with `TryAgain`, for lack of space. It has rotated to a new file,
+-- and hasn't failed.
 abbrev pub FindsNoSpace : (LogFileContext → List ℕ) → LogPipes → LogPipes → Type 0
 FindsNoSpace signed v w = (error : Error) × SaysTryAgain error × (is_failed w ≡ false)
     × PipeFailsToAppend InAppend signed error v w
 
--- Append's pipe wrote a record: at the first try, or at the second if the first found no space
+-- Append's pipe appended a record at `block`: at the first try; or at the second, after the first found no space
 abbrev pub PipeTakes : (LogFileContext → List ℕ) → FileBlockHandle → LogPipes → LogPipes → Type 0
 PipeTakes signed block v w = PipeAppends InAppend signed block v w
     ⊎ ((mid : LogPipes) × FindsNoSpace signed v mid × PipeAppends InAppend signed block mid w)
 
--- Append's pipe failed to write a record: at the first try, with an error that isn't tried again; or at the second,
--- after the first found no space. Its file calls say each. After `Io` or `TryAgain`, the write failed, and what it left
--- was truncated and synced. `Io` has the kind of the failed call, other than lack of space. `TryAgain` means lack of
--- space, and the pipe has rotated.
+-- Append's pipe failed to append a record. Either the first try failed with an error other than `TryAgain`; or the
+-- first try found no space, and the second try failed. After `Io` or `TryAgain`, the bytes of the failed write were
+-- truncated away, and the truncation was synced. `Io` has the kind of the failed file system call, which isn't lack of
+-- space. `TryAgain` is lack of space, and the pipe has rotated.
 abbrev pub PipeRefuses : (LogFileContext → List ℕ) → Error → LogPipes → LogPipes → Type 0
 PipeRefuses signed error v w = ((SaysTryAgain error → ⊥) × PipeFailsToAppend InAppend signed error v w)
     ⊎ ((mid : LogPipes) × FindsNoSpace signed v mid × PipeFailsToAppend InAppend signed error mid w)
 
--- A batch's record was written to Append, at the first try or the second. Nothing else was done to the files, except
--- that the pipe may have rotated before either.
+-- The record of batch `b` was written to the queue Append, at the first try or the second. The pipe may have rotated
+-- before either try. Nothing else was done to the files.
 abbrev pub WritesRecord : Batch → LogPipes → LogPipes → Type 0
 WritesRecord b v w =
     (block : FileBlockHandle) × WritesAt (signed_for b) block v w × PipeTakes (signed_for b) block v w
 
--- the pipes failed to write a batch's record
+-- Append's pipe failed to append the record of batch `b`, at the first try or the second
 abbrev pub RefusesBatch : Batch → Error → LogPipes → LogPipes → Type 0
 RefusesBatch b error v w = RefusesAt (signed_for b) error v w × PipeRefuses (signed_for b) error v w
 
--- the error doesn't say that a write to the file system failed
+-- the error is neither `Io` nor `TryAgain`, which say that a file system call failed
 abbrev pub TellsNoWrite : Error → Type 0
 TellsNoWrite (errors.Io kind) = ⊥
 TellsNoWrite (errors.TryAgain text) = ⊥
 TellsNoWrite _ = Unit {0}
 
--- a batch's record wasn't written: nothing was done, and the error isn't that of a write; or the pipes failed
+-- The record of batch `b` wasn't appended. Either the files are unchanged, and the error is neither `Io` nor
+-- `TryAgain`; or Append's pipe tried to append the record and failed.
 abbrev pub LeavesRecord : Batch → Error → LogPipes → LogPipes → Type 0
 LeavesRecord b error v w = (TellsNoWrite error × (w ≡ v)) ⊎ RefusesBatch b error v w
 
--- Append was synced if `true`; else nothing was done
+-- `true`: Append was synced; `false`: the files are unchanged
 abbrev pub SyncsIf : Bool → LogPipes → LogPipes → Type 0
 SyncsIf true v w = SyncsQueue InAppend v w
 SyncsIf false v w = w ≡ v
 
--- What a write does to the files: a batch's record is written once, and none for an empty batch. Then Append is synced,
--- if requested.
+-- What a write of batch `b` that succeeds does to the files. It appends the batch's record once, or nothing for an
+-- empty batch. Then it syncs Append, if `sync` is true.
 abbrev pub WritesFiles : Batch → Bool → LogPipes → LogPipes → Type 0
 WritesFiles b sync v w = ((b.items ≡ []) × SyncsIf sync v w)
     ⊎ ((mid : LogPipes) × WritesRecord b v mid × SyncsIf sync mid w)
 
--- What a failed write does to the files: the record isn't written; or it is, unless the batch is empty, and the
--- requested sync fails.
+-- What a write of batch `b` that fails does to the files. Either the record wasn't appended. Or a sync was requested
+-- and failed; before it, the record was appended, or nothing for an empty batch.
 abbrev pub LeavesFiles : Batch → Bool → Error → LogPipes → LogPipes → Type 0
 LeavesFiles b sync error v w = LeavesRecord b error v w
     ⊎ ((sync ≡ true) × ((mid : LogPipes) × (((b.items ≡ []) × (mid ≡ v)) ⊎ WritesRecord b v mid)

@@ -1,4 +1,4 @@
--- What `Sound` means for a log, and what an inspection of it found.
+-- What the result `Sound` of a task says of a log, and what an inspection of the log found.
 use Rattle.std.specs.Prelude.{◌≡◌, ℕ, List, []}
 use Rattle.raft_log_record_base.specs.declared.pipe_log.LogQueue.{LogQueue}
 use Rattle.raft_log_record_base.specs.declared.pipe_log.LogQueue.TheVariants as queues
@@ -18,43 +18,45 @@ use Rattle.raft_log_operator.specs.declared.place.Place.{Place}
 abbrev pub directories_in : Place → List (List ℕ)
 directories_in place = directories_of (kept_settings place)
 
--- both queues of the log have consecutive file numbers, and no file is damaged
+-- in both queues of the log, the file numbers have no gap and no file is damaged
 abbrev pub HasIntactFiles : Place → Disk → Type 0
 HasIntactFiles place d =
     (queue : LogQueue) → (batches : List Batch) × IsIntactQueue queue (directories_in place) d batches
 
--- no group has a hole in its entries among these batches
+-- the entries that these batches add leave no hole in the indexes of any group
 abbrev pub HaveNoHole : List Batch → Type 0
 HaveNoHole batches = (group : ℕ) → HasNoHole (runs_of group batches)
 
--- both queues of the log have consecutive file numbers, no file is damaged, and no group has a hole
+-- in both queues of the log, the file numbers have no gap, no file is damaged, and the entries leave no hole in any
+-- group
 abbrev pub IsIntactLog : Place → Disk → Type 0
 IsIntactLog place d = (queue : LogQueue) → (batches : List Batch)
     × IsIntactQueue queue (directories_in place) d batches × HaveNoHole batches
 
--- what `Sound` means for the log after a task
+-- what the result `Sound` says of the log after a task: for `Check`, that the log is intact; for `Stat`, that its files
+-- are; for other tasks, nothing
 abbrev pub IsSoundFor : Place → Task → Disk → Type 0
 IsSoundFor place Check d = IsIntactLog place d
 IsSoundFor place Stat d = HasIntactFiles place d
 IsSoundFor place _ d = Unit {0}
 
--- A queue was inspected. If no fault was found in its files, they are intact; if no hole was found, their records have
--- none.
+-- A queue was inspected. If no fault was found in its files, they are intact. If no hole was found, the entries in its
+-- batches leave none.
 pub record InspectsOne (queue : LogQueue) (directories : List (List ℕ)) (d : Disk) (faults : QueueFaults)
     : Type 0 where
   pub batches : List Batch
   pub intact : IsClean faults.files → IsIntactQueue queue directories d batches
   pub whole : faults.holes.items ≡ [] → HaveNoHole batches
 
--- both queues of the log were inspected
+-- both queues of the log were inspected, as `InspectsOne` says
 pub record InspectsLog (place : Place) (d : Disk) (faults : LogFaults) : Type 0 where
   pub append : InspectsOne queues.Append (directories_in place) d faults.append
   pub rewrite : InspectsOne queues.Rewrite (directories_in place) d faults.rewrite
 
--- no fault was found in the log's files
+-- no fault was found in the files of either queue
 abbrev pub HasCleanFiles : LogFaults → Type 0
 HasCleanFiles faults = IsClean faults.append.files × IsClean faults.rewrite.files
 
--- no fault was found in the log
+-- no fault was found in the files of either queue, and no hole in its entries
 abbrev pub AreNone : LogFaults → Type 0
 AreNone faults = HasCleanFiles faults × (faults.append.holes.items ≡ []) × (faults.rewrite.holes.items ≡ [])

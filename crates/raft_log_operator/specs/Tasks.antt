@@ -1,4 +1,4 @@
--- What a task leaves of a disk.
+-- What a task of the command-line tool does to a disk.
 use Rattle.std.specs.Prelude.{◌≡◌, ℕ, false, List, String, string_bytes}
 use Rattle.std.specs.Option.{option_map}
 use Rattle.std.specs.declared.alloc.Global.{Global}
@@ -13,7 +13,7 @@ use Rattle.raft_log_operator.specs.declared.fault.CommandFault.{CommandFault}
 use Rattle.raft_log_operator.specs.declared.fault.CommandFault.TheVariants.{Log, Output}
 use Rattle.raft_log_operator.specs.declared.place.Place.{Place}
 
--- the usual settings of a log in these directories, except that no file is used again
+-- the default settings for a log in these directories, except that no file is recycled
 abbrev pub kept_settings : Place → Settings
 kept_settings place = record default_settings {
   dir = string_bytes place.directory;
@@ -21,35 +21,35 @@ kept_settings place = record default_settings {
   enable_log_recycle = false;
 }
 
--- the log in these directories was copied into the directory with this path
+-- the log in these directories was copied into the directory `target`
 abbrev pub Copies : Place → String Global → Disk → Disk → Type 0
 Copies place target old new =
     (copied : List (List ℕ)) × Forks (kept_settings place) (string_bytes target) copied old new
 
--- Copying the log failed; or it was copied, and writing the output failed.
+-- Either copying the log failed; or it was copied, and writing the output failed.
 abbrev pub FailsToCopy : Place → String Global → CommandFault → Disk → Disk → Type 0
 FailsToCopy place target (Log error) old new = FailsToFork (kept_settings place) (string_bytes target) error old new
 FailsToCopy place target (Output _) old new = Copies place target old new
 FailsToCopy place target _ old new = ⊥
 
--- each file of the log in these directories that has an alignment was written anew without it
+-- each file of the log in these directories that has an alignment was rewritten without padding
 abbrev pub TakesPadding : Place → Disk → Disk → Type 0
 TakesPadding place old new =
     (written : List FileId) × Unpads (directories_of (kept_settings place)) written old new
 
--- Removing the padding failed; or it succeeded, and writing the output failed.
+-- Either removing the padding failed; or it was removed, and writing the output failed.
 abbrev pub FailsToTakePadding : Place → CommandFault → Disk → Disk → Type 0
 FailsToTakePadding place (Log error) old new = FailsToUnpad (directories_of (kept_settings place)) error old new
 FailsToTakePadding place (Output _) old new = TakesPadding place old new
 FailsToTakePadding place _ old new = ⊥
 
--- what a task that succeeds leaves: only a fork and an unpadding change anything
+-- what a task that succeeds does to the disk: only `Fork` and `Unpad` change it
 abbrev pub Does : Place → Task → Disk → Disk → Type 0
 Does place (Fork target) old new = Copies place target old new
 Does place Unpad old new = TakesPadding place old new
 Does place _ old new = new ≡ old
 
--- what a task that fails leaves
+-- what a task that fails does to the disk: only `Fork` and `Unpad` may change it
 abbrev pub FailsToDo : Place → Task → CommandFault → Disk → Disk → Type 0
 FailsToDo place (Fork target) fault old new = FailsToCopy place target fault old new
 FailsToDo place Unpad fault old new = FailsToTakePadding place fault old new

@@ -1,4 +1,4 @@
--- How commands are spelled.
+-- The command lines of the tool.
 use Rattle.std.specs.Prelude.{ℕ, List, [], ◌∷◌, Option, None, Some, String, codes, string_bytes}
 use Rattle.std.specs.declared.alloc.Global.{Global}
 use Rattle.raft_log_operator.specs.declared.command.Command.{Command}
@@ -7,20 +7,20 @@ use Rattle.raft_log_operator.specs.declared.command.Task.{Task}
 use Rattle.raft_log_operator.specs.declared.command.Task.TheVariants.{Check, Dump, Fork, Stat, Unpad}
 use Rattle.raft_log_operator.specs.declared.place.Place.{Place}
 
--- the words that name a log's second directory, if it has one
+-- the arguments that name a log's second directory, for spilled files; none if it has no second one
 abbrev pub spill_words : Option (String Global) → List (List ℕ)
 spill_words None = []
 spill_words (Some directory) = codes "--spill-dir" ∷ string_bytes directory ∷ []
 
--- the words that name a log
+-- the arguments that name the directories of a log
 abbrev pub place_words : Place → List (List ℕ)
 place_words place = string_bytes place.directory ∷ spill_words place.spill_directory
 
--- the words that name a log and the target of its copy
+-- the arguments that name the directories of a log and the target of its copy
 abbrev pub fork_words : Place → String Global → List (List ℕ)
 fork_words place target = string_bytes place.directory ∷ string_bytes target ∷ spill_words place.spill_directory
 
--- the words that request a task on a log
+-- the arguments that ask for a task on a log
 abbrev pub task_words : Place → Task → List (List ℕ)
 task_words place Dump = codes "dump" ∷ place_words place
 task_words place Check = codes "check" ∷ place_words place
@@ -28,7 +28,7 @@ task_words place Stat = codes "stat" ∷ place_words place
 task_words place (Fork target) = codes "fork" ∷ fork_words place target
 task_words place Unpad = codes "unpad" ∷ place_words place
 
--- how a command is spelled, after the program's name
+-- the arguments for a command, after the program's name
 abbrev pub words_of : Command → List (List ℕ)
 words_of Help = codes "--help" ∷ []
 words_of (On place task) = task_words place task

@@ -1,4 +1,4 @@
--- A scan of a log's directories finds all files of a queue that was left there.
+-- A scan of a log's directories finds all files of a queue that is at rest there.
 use Rattle.std.specs.Prelude.{◌≡◌, ℕ, ◌<◌, suc, List, [], ◌∷◌, ◌++◌}
 use Rattle.raft_log_record_base.specs.declared.pipe_log.LogQueue.{LogQueue}
 use Rattle.raft_log_fs.specs.Disk.{Disk}
@@ -15,7 +15,8 @@ use Rattle.raft_log_recovery_scan.specs.Found.{AreDistinct}
 use Rattle.raft_log_recovery_scan.specs.Scanned.{IsQueueIn}
 use Rattle.raft_log_recovery_laws.specs.Scanned.{AreSpanned, kind_of}
 
--- These are all files of a queue up to its last one, which has this number, back to the first gap before it.
+-- `files` ends with the queue's last file, which has this number. Their numbers have no gap, and no file has the number
+-- before the first of them.
 pub record AreAllFound (queue : LogQueue) (directories : List (List ℕ)) (number : ℕ) (d : Disk)
     (files : List Listed) : Type 0 where
   pub earlier : List Listed
@@ -25,7 +26,7 @@ pub record AreAllFound (queue : LogQueue) (directories : List (List ℕ)) (numbe
   pub spanned : AreSpanned queue directories earlier last d
   pub begins : (m : ℕ) → suc m ≡ first_number earlier last → IsAbsent (log_format queue directories) m d
 
--- If a stop left a queue in distinct directories, a scan of these returns all of its files.
+-- If a queue is at rest in directories that are distinct, a scan of the directories returns all of its files.
 abbrev pub ScannedFilesAreAll : Type 0
 ScannedFilesAreAll = (queue : LogQueue) (directories : List (List ℕ)) → AreDistinct directories
     → (mode : RecoveryMode) (d : Disk) → IsSound d
@@ -35,7 +36,7 @@ ScannedFilesAreAll = (queue : LogQueue) (directories : List (List ℕ)) → AreD
     → (files : List Listed) → IsQueueIn (kind_of queue) directories d mode files
     → AreAllFound queue directories q.last d files
 
--- If no number has a file, a scan of a queue returns none.
+-- If no number of a queue has a file, a scan of the queue returns none.
 abbrev pub NoFilesAreScanned : Type 0
 NoFilesAreScanned = (queue : LogQueue) (directories : List (List ℕ)) (mode : RecoveryMode) (d : Disk)
     → ((m : ℕ) → m < (log_format queue directories).limit → IsAbsent (log_format queue directories) m d)

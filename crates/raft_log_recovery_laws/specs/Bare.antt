@@ -18,8 +18,8 @@ use Rattle.raft_log_open.specs.Opening.{FailsToOpenDirectory, OpensDirectory}
 use Rattle.raft_log_recovery_laws.specs.Opened.{HoldsFresh}
 use Rattle.raft_log_recovery_laws.specs.ByCalls.{home_of}
 
--- Nothing has the path of a file of either queue, no file is kept for later use, and none has the path of a directory.
--- The directories may exist or not.
+-- These directories have no log yet: no file and no directory has the path of a log file of either queue. No file is
+-- kept there for recycling, and no file has the path of one of the directories. The directories may exist or not.
 pub record IsBare (config : Config) (d : Disk) : Type 0 where
   pub numbered : (queue : LogQueue) (n : ℕ) (path : List ℕ)
       → IsPathWith (suffix_of queue) (paths_of config) n path → IsFreePath path d
@@ -27,8 +27,8 @@ pub record IsBare (config : Config) (d : Disk) : Type 0 where
       → IsPathWith (reserved_suffix_of Append) (paths_of config) n path → d.names path ≡ None
   pub unnamed : (path : List ℕ) → Contains (paths_of config) path → d.names path ≡ None
 
--- If the open succeeds, the engine holds the empty map. If it fails, for any reason, the directories are still bare, or
--- have a log with the empty map.
+-- If the open succeeds, the engine's log is empty. If it fails, for any reason, either the directories still have no
+-- log, or their log is empty and can be opened.
 pub record OpensFirst {F : Type 0} (disk : F → Disk) (tells : F → List ℕ → ℕ → Type 0) (config : Config)
     (old : F) : Type 0 where
   pub answered : (v : LogPipes) (tables : MemTables) → OpensDirectory disk tells config old v tables
@@ -36,8 +36,8 @@ pub record OpensFirst {F : Type 0} (disk : F → Disk) (tells : F → List ℕ �
   pub refused : (error : Error) (new : F) → FailsToOpenDirectory disk tells config error old new
       → IsBare config (disk new) ⊎ IsRecoverableAs (home_of config) (disk new) nothing_stands []
 
--- an engine that is opened over bare directories holds the empty map; if the open fails, they are bare or have an empty
--- log
+-- An open of directories without a log gives an engine with an empty log. If the open fails, the directories still have
+-- no log, or have an empty one.
 abbrev pub BareDirectoriesOpen : {F : Type 0} → (F → Disk) → (F → List ℕ → ℕ → Type 0) → Type 0
 BareDirectoriesOpen {F} disk tells = (config : Config) (old : F) → IsSound (disk old)
     → IsBare config (disk old) → OpensFirst disk tells config old

@@ -13,7 +13,8 @@ use Rattle.raft_log_recovery_scan.specs.declared.file_kind.FileKind.{FileKind}
 use Rattle.raft_log_recovery_scan.specs.declared.scanning.found.FoundFile.{FoundFile}
 use Rattle.raft_log_recovery_laws.specs.Scanned.{kind_of}
 
--- two files in the directories have this number: in two of them, or one has a sign in its name
+-- Two different files in the directories have the number `n`. They are in two directories, or one has a sign in its
+-- name.
 pub record IsTwice (kind : FileKind) (directories : List (List ℕ)) (d : Disk) (n : ℕ) : Type 0 where
   pub here : FoundFile
   pub there : FoundFile
@@ -23,14 +24,14 @@ pub record IsTwice (kind : FileKind) (directories : List (List ℕ)) (d : Disk) 
   pub there_number : there.seq ≡ n
   pub apart : here ≡ there → ⊥
 
--- files that begin with this number begin after a gap: no file has the number below it; or two files have this number
+-- No file has the number before `first`, or two files have the number `first`.
 abbrev pub BeginsBehindGap : LogQueue → List (List ℕ) → Disk → ℕ → Type 0
 BeginsBehindGap queue directories d first =
     ((m : ℕ) → suc m ≡ first → IsAbsent (log_format queue directories) m d)
     ⊎ IsTwice (kind_of queue) directories d first
 
--- The files of a queue that a scan returns begin after a gap. If two files have a number, the scan keeps the one in the
--- later directory, or with a sign. It then keeps only that and the later ones, even if the number below exists.
+-- The files of a queue that a scan returns begin after a gap, or at a number that two files have. In the second case
+-- the scan may have dropped files with lower numbers.
 abbrev pub ScannedFilesBegin : Type 0
 ScannedFilesBegin = (queue : LogQueue) (directories : List (List ℕ)) (mode : RecoveryMode) (d : Disk)
     (earlier : List Listed) (last : Listed)

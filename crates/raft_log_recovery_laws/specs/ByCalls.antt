@@ -1,4 +1,5 @@
--- Scanning, recovering and opening a log that rests on a disk, call by call, as an engine does it.
+-- Opening a log that is at rest on a disk (no engine has it open, and all of it is synced). These are the steps in
+-- which an engine does it: scan, recover, prepare files for recycling, sync, open.
 use Rattle.std.specs.Prelude.{◌≡◌, ℕ, List}
 use Rattle.raft_log_record_base.specs.declared.pipe_log.LogQueue.{LogQueue}
 use Rattle.raft_log_record_base.specs.declared.pipe_log.LogQueue.TheVariants.{Append, Rewrite}
@@ -24,25 +25,26 @@ use Rattle.raft_log_recovery.specs.declared.builder.DualPipesBuilder.{DualPipesB
 use Rattle.raft_log_recovery.specs.Finding.{FindsLog}
 use Rattle.raft_log_recovery_laws.specs.Files.{AreQueueFiles}
 
--- the home of a log in the directories that the settings name
+-- the directories of a log by these settings: both queues use all directories that the settings name
 abbrev pub home_of : Config → LogDirectories
 home_of config = record { append = paths_of config; rewrite = paths_of config }
 
--- this holds for all settings that name these directories, whatever else they have: for any number of workers, too
+-- `P` holds for all settings that name the directories `home`. Other settings, such as the number of recovery threads,
+-- may be anything.
 abbrev pub ForAllNaming : LogDirectories → (Config → Type 0) → Type 0
 ForAllNaming home P = (config : Config) → home_of config ≡ home → P config
 
--- `HasReadBatches`, as a builder takes it
+-- reading `batches` from the files of `queue` gave the recovery context `context`
 abbrev pub reads : LogQueue → List Batch → MemTableRecoverContext → Type 0
 reads queue batches context = HasReadBatches queue batches context
 
--- The tables are the context of Append merged over that of Rewrite.
+-- The tables are those of Append's recovery context, merged over those of Rewrite's.
 pub record ComeOver (append rewrite : MemTableRecoverContext) (tables : MemTables) : Type 0 where
   pub over : (first behind : List ReadRecord) → HasRead Rewrite first rewrite → HasRead Append behind append
       → ComesOver first behind tables
 
--- Files for later use were readied on a file system with these disks, which may return these values for a directory's
--- space.
+-- Files for recycling were prepared, which changed disk `old` into `new`. `tells` says which free space a file system
+-- may report for a directory.
 pub record ReadiesOn {F : Type 0} (disk : F → Disk) (tells : F → List ℕ → ℕ → Type 0)
     (b ready : DualPipesBuilder) (old new : Disk) : Type 0 where
   pub from : F
@@ -51,8 +53,8 @@ pub record ReadiesOn {F : Type 0} (disk : F → Disk) (tells : F → List ℕ �
   pub to_is : disk to ≡ new
   pub readies : ReadiesLog disk tells b ready from to
 
--- The log of these settings was found on a disk, read by any number of workers into these contexts, and truncated; and
--- files for later use were readied.
+-- The log of these settings was found on disk `d`. It was read into the contexts `append` and `rewrite`, by any number
+-- of workers, and truncated. Then files for recycling were prepared.
 pub record LogIsRecovered {F : Type 0} (disk : F → Disk) (tells : F → List ℕ → ℕ → Type 0) (config : Config)
     (d : Disk) (append rewrite : MemTableRecoverContext) (ready : DualPipesBuilder) (readied : Disk)
     : Type 0 where
@@ -64,8 +66,8 @@ pub record LogIsRecovered {F : Type 0} (disk : F → Disk) (tells : F → List �
   pub recovers : RecoversLog reads append rewrite found read scanned cut
   pub readies : ReadiesOn disk tells read ready cut readied
 
--- An engine's pipes and tables were made of the log of these settings. The log was recovered from the disk, all files
--- were synced, and the pipes opened. What was read of Append was merged over what was read of Rewrite.
+-- Pipes `v` and `tables` were made of the log of these settings on disk `d`. The log was recovered, all its files were
+-- synced, and the pipes were opened. What was read from Append was merged over what was read from Rewrite.
 pub record OpensByCalls {F : Type 0} (disk : F → Disk) (tells : F → List ℕ → ℕ → Type 0) (config : Config)
     (d : Disk) (v : LogPipes) (tables : MemTables) : Type 0 where
   pub ready : DualPipesBuilder
@@ -76,8 +78,7 @@ pub record OpensByCalls {F : Type 0} (disk : F → Disk) (tells : F → List ℕ
   pub opens : OpensRecovered ready readied v
   pub comes : ComeOver append rewrite tables
 
--- If a log rests, a scan of the directories that its settings name finds all files of either queue from the last gap
--- on.
+-- If a log is at rest, a scan of its directories finds all files of each queue from the last gap in its numbers on.
 abbrev pub ScansFindAllFiles : Type 0
 ScansFindAllFiles = (config : Config) (d : Disk) (m : LogMap) → IsSound d
     → (rests : IsDurableAs (log_in (home_of config)) d m) → (found : DualPipesBuilder) (scanned : Disk)
@@ -85,8 +86,8 @@ ScansFindAllFiles = (config : Config) (d : Disk) (m : LogMap) → IsSound d
     → AreQueueFiles (log_in (home_of config)).append rests.state.append scanned (append_files found)
     × AreQueueFiles (log_in (home_of config)).rewrite rests.state.rewrite scanned (rewrite_files found)
 
--- After all files are synced, an engine that is opened over a log at rest can use all files that are kept for use: none
--- holds a record, whatever number it gets.
+-- A log at rest was recovered, and all its files were synced. Then each file that is kept for recycling can be used
+-- under any number, since it holds no record with that number.
 abbrev pub SyncedSparesCanBeUsed : {F : Type 0} → (F → Disk) → (F → List ℕ → ℕ → Type 0) → Type 0
 SyncedSparesCanBeUsed disk tells = (config : Config) (d : Disk) (m : LogMap) → IsSound d
     → IsDurableAs (log_in (home_of config)) d m

@@ -1,4 +1,5 @@
--- Opening a log's directories with the one call that does all of it, over a log at rest.
+-- Opening a log at rest with the one call that does the whole open. At rest, no engine has the log open, and all of it
+-- is synced. A batch is pending if it was written but not synced yet.
 use Rattle.std.specs.Prelude.{ℕ, ◌<◌, List, [], length}
 use Rattle.raft_log_record_base.specs.declared.errors.Error.{Error}
 use Rattle.raft_log_fs.specs.Disk.{Disk}
@@ -14,8 +15,8 @@ use Rattle.raft_log_recovery_laws.specs.Left.{IsCrashOf, RestsAfterSome}
 use Rattle.raft_log_recovery_laws.specs.Opened.{HoldsFresh}
 use Rattle.raft_log_recovery_laws.specs.ByCalls.{home_of, ForAllNaming}
 
--- If opening the directories of these settings succeeds, the engine holds this map and nothing is pending, for any
--- number of workers. If it fails, for any reason, the log is left there with the map, and nothing is pending.
+-- If the open succeeds, the engine's log has the contents `m`, with nothing pending. If it fails, for any reason, the
+-- log's files can be opened with the contents `m`. Neither depends on the number of recovery threads.
 pub record OpensAs {F : Type 0} (disk : F → Disk) (tells : F → List ℕ → ℕ → Type 0) (config : Config)
     (old : F) (m : LogMap) : Type 0 where
   pub answered : (v : LogPipes) (tables : MemTables) → OpensDirectory disk tells config old v tables
@@ -23,13 +24,14 @@ pub record OpensAs {F : Type 0} (disk : F → Disk) (tells : F → List ℕ → 
   pub refused : (error : Error) (new : F) → FailsToOpenDirectory disk tells config error old new
       → IsRecoverableAs (home_of config) (disk new) m []
 
--- Opening the directories of a log that rests there gives its map; if it fails, the log is left with the map.
+-- Opening a log that is at rest with the contents `m` gives these contents. If the open fails, the log's files can be
+-- opened with them.
 abbrev pub RestingDirectoriesOpen : {F : Type 0} → (F → Disk) → (F → List ℕ → ℕ → Type 0) → Type 0
 RestingDirectoriesOpen {F} disk tells = (config : Config) (old : F) (m : LogMap) → IsSound (disk old)
     → IsDurableAs (log_in (home_of config)) (disk old) m → OpensAs disk tells config old m
 
--- After a crash of what an engine left, opening the directories gives the map after some first pending batches: the
--- same ones for all settings that name the directories.
+-- After a crash of what an engine left, an open gives the contents `m` after the first few pending batches. All
+-- settings that name the directories give the same number of them. This requires that there is no CRC collision.
 abbrev pub CrashedDirectoriesOpen : {F : Type 0} → (F → Disk) → (F → List ℕ → ℕ → Type 0) → Type 0
 CrashedDirectoriesOpen {F} disk tells = (home : LogDirectories) → 0 < length home.append → 0 < length home.rewrite
     → (d : Disk) (old : F) (m : LogMap) (pending : List LogRecordValue) → IsSound (disk old)

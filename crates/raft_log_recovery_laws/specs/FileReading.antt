@@ -1,5 +1,5 @@
--- What reading a log file returns, in the definitions of the pipes. It is for files without an alignment only, since
--- the pipes know no others.
+-- What reading a log file returns, compared with the records that its pipe knows. This is only for files without
+-- alignment, since pipes know no others.
 use Rattle.std.specs.Prelude.{◌≡◌, ℕ, ◌+◌, Bool, Option, Some, None, true, false, List, [], length}
 use Rattle.raft_log_record_base.specs.declared.pipe_log.FileId.{FileId}
 use Rattle.raft_log_record_base.specs.declared.pipe_log.LogFileContext.{LogFileContext}
@@ -15,12 +15,12 @@ use Rattle.raft_log_engine_laws.specs.raft_log_active_file.specs.declared.record
 use Rattle.raft_log_recovery_read.specs.Reading.{FileReading, ReadsBytes}
 use Rattle.raft_log_recovery_laws.specs.Records.{AreBatchesOf}
 
--- what a file's records need to know of it, if it is written in this format
+-- the file's identity and format version, with which its records are signed
 abbrev pub context_in : FileId → LogFileFormat → LogFileContext
 context_in id format = record { id = id; version = format.version }
 
--- A file with a header: what was read are the records after the header. The end is the end of the last one, and no
--- record begins there.
+-- The file has a header, and `read` has one batch for each whole record after it. The last of these records ends at
+-- `end`, where no other record begins.
 pub record ReadsRecords (directories : List (List ℕ)) (id : FileId) (content : List ℕ)
     (read : FileReading) (end : ℕ) : Type 0 where
   pub header : List ℕ
@@ -30,36 +30,36 @@ pub record ReadsRecords (directories : List (List ℕ)) (id : FileId) (content :
   pub ends : end ≡ length header + length (spelled records)
   pub batches : AreBatchesOf (context_in id read.format) (length header) read.batches records
 
--- What the last file of a queue reads as: without a header it has no batch and no end; else its batches are its
--- records.
+-- What reading the last file of a queue returns. Without a header there is no batch, and no end. With a header, there
+-- is one batch for each whole record up to the end.
 abbrev pub ReadsTo : List (List ℕ) → FileId → List ℕ → FileReading → Option ℕ → Type 0
 ReadsTo directories id content read None =
     ((header : List ℕ) → HasHeader (log_format id.queue directories) header content → ⊥)
     × (read.batches ≡ [])
 ReadsTo directories id content read (Some end) = ReadsRecords directories id content read end
 
--- Reading the last file of a queue returns its records, or none without a header, up to the end that its pipe takes for
--- it.
+-- Reading the last file of a queue returns its records, up to the end that its pipe knows. Without a header it returns
+-- nothing.
 abbrev pub LastFileIsRead : Type 0
 LastFileIsRead = (directories : List (List ℕ)) (id : FileId) (file : File) (read : FileReading)
     → ReadsBytes true id file.content read → read.format.alignment ≡ 0
     → ReadsTo directories id file.content read read.end
     × IsReadTo (log_format id.queue directories) id.seq read.end file
 
--- The header of a file that has one is the header that its format encodes to.
+-- If reading a file found an end, the file begins with the header that encodes the format that was read.
 abbrev pub HeaderIsWritten : Type 0
 HeaderIsWritten = (directories : List (List ℕ)) (last : Bool) (id : FileId) (content : List ℕ)
     (read : FileReading) (end : ℕ) → ReadsBytes last id content read → read.format.alignment ≡ 0
     → read.end ≡ Some end → HasHeader (log_format id.queue directories) (header_bytes read.format) content
 
--- a file that was finished reads whole: all of its records, and no fault
+-- All records of a finished file were read, and no fault was found
 pub record ReadsWhole (id : FileId) (past : Past LogRecord) (read : FileReading) : Type 0 where
   pub sound : read.fault ≡ None
   pub end : read.end ≡ Some (length past.header + length (spelled past.records))
   pub batches : AreBatchesOf (context_in id read.format) (length past.header)
       read.batches past.records
 
--- Each file before the last one reads whole, after a pipe finished it.
+-- A file before the last one, which a pipe finished, is read as a whole.
 abbrev pub FinishedFileIsRead : Type 0
 FinishedFileIsRead = (directories : List (List ℕ)) (id : FileId) (past : Past LogRecord) (file : File)
     (read : FileReading) → IsPast (log_format id.queue directories) id.seq past file

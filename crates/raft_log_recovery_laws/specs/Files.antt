@@ -1,4 +1,5 @@
--- The files of a queue at rest, as a scan finds them, and after they were read and truncated.
+-- The files of a queue at rest: as a scan finds them, and after they were read and truncated. The ending of a file is
+-- what reading it found: its format, the end of its last whole record, and whether the file is damaged.
 use Rattle.std.specs.Prelude.{◌≡◌, ℕ, false, Some, List, [], ◌∷◌, ◌++◌, length, suc}
 use Rattle.raft_log_fs.specs.Disk.{Disk}
 use Rattle.raft_log_file_writer.specs.LogQueue.{IsAbsent}
@@ -17,8 +18,8 @@ use Rattle.raft_log_dual_pipes.specs.OpenOrClosed.{IsUnbegun}
 use Rattle.raft_log_engine_laws.specs.raft_log_block_cache.specs.Stored.{Each}
 use Rattle.raft_log_recovery_laws.specs.Found.{AreListed}
 
--- The files of a queue, as a stop left them: up to its last one, which is open for writing, each under its path, and
--- none below the first.
+-- The queue's files are `earlier` and then `last`, which is open for writing. Each is at its path, as a stop left it.
+-- No file has the number before the first one.
 pub record AreAll (layout : QueueLayout LogRecord) (q : Spanned LogRecord) (d : Disk) (earlier : List File)
     (last : File) : Type 0 where
   pub stops : IsStopped layout q.files d
@@ -26,21 +27,23 @@ pub record AreAll (layout : QueueLayout LogRecord) (q : Spanned LogRecord) (d : 
   pub permitted : last.handle.permission ≡ ReadWrite
   pub begins : (m : ℕ) → suc m ≡ first_number earlier last → IsAbsent layout.format m d
 
--- these are all files of a queue at rest; or it has none, since none was created yet
+-- `files` are all files of a queue at rest; or there are none, since the queue hasn't begun
 pub data AreQueueFiles (layout : QueueLayout LogRecord) (q : Spanned LogRecord) (d : Disk) (files : List File)
     : Type 0 where
   some_made : (earlier : List File) (last : File) → files ≡ earlier ++ last ∷ []
       → AreAll layout q d earlier last → AreQueueFiles layout q d files
   none_made : files ≡ [] → IsUnbegun layout q d → AreQueueFiles layout q d files
 
--- The last file reads up to this end. If the end is known, the file begins with the header of this format.
+-- The queue's last file was read up to the end that `ending` has. If there is an end, the file begins with the header
+-- of the format in `ending`.
 pub record ReadsAsTold (layout : QueueLayout LogRecord) (q : Spanned LogRecord) (d : Disk) (last : File)
     (ending : FileEnding) : Type 0 where
   pub read : HasFile last.handle.file (IsReadTo layout.format q.files.last ending.end) d
   pub headed : (end : ℕ) → ending.end ≡ Some end
       → HandleBeginsWith layout.format last.handle (header_bytes ending.format) d
 
--- All files of a queue at rest, with the ending of each: those before the last one aren't damaged.
+-- `files` are all files of a queue at rest, and each has its ending in `endings`. No file before the last one is
+-- damaged.
 pub data AreToldOf (layout : QueueLayout LogRecord) (q : Spanned LogRecord) (d : Disk) (files : List File)
     (endings : List FileEnding) : Type 0 where
   some_told : (earlier : List File) (last : File) (front : List FileEnding) (ending : FileEnding)

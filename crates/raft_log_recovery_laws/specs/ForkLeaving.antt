@@ -1,4 +1,4 @@
--- What a fork leaves of the log that it copies.
+-- What a fork (a copy of a log into another directory) does to the log that it copies.
 use Rattle.std.specs.Prelude.{List, ℕ}
 use Rattle.raft_log_record_base.specs.declared.errors.Error.{Error}
 use Rattle.raft_log_fs.specs.Disk.{Disk}
@@ -21,8 +21,10 @@ pub data EndsFork (config : Config) (target : List ℕ) (old new : Disk) : Type 
   refused : (error : Error) → FailsToFork (settings_of config) target error old new
       → EndsFork config target old new
 
--- What rested in the directories of these settings still rests there, with the same files and records. What an engine
--- left there is still there, with the same map and the same pending batches. Bare directories are still bare.
+-- What a fork does to the log in the directories of these settings:
+-- - `rests`: if the log was at rest, it still is, with the same files and records.
+-- - `left`: if its files could be opened, they still can, with the same contents and the same pending batches.
+-- - `bare`: if there was no log, there still is none.
 pub record LeavesSource (config : Config) (old new : Disk) : Type 0 where
   pub rests : (m : LogMap) (h : IsDurableAs (log_in (home_of config)) old m)
       → RestsStill (log_in (home_of config)) old m h new
@@ -30,7 +32,7 @@ pub record LeavesSource (config : Config) (old new : Disk) : Type 0 where
       → IsRecoverableAs (home_of config) new m pending
   pub bare : IsBare config old → IsBare config new
 
--- however a fork ends, it leaves its source as `LeavesSource` says
+-- However a fork ends, it leaves its source log unchanged, in the three ways of `LeavesSource`.
 abbrev pub ForksLeaveTheSource : Type 0
 ForksLeaveTheSource = (config : Config) (target : List ℕ) (old new : Disk) → IsSound old
     → EndsFork config target old new → LeavesSource config old new

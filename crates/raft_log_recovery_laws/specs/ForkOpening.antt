@@ -1,4 +1,4 @@
--- What opening a fork and opening its source return.
+-- Opens of a fork and of its source give the same contents.
 use Rattle.std.specs.Prelude.{ℕ, List}
 use Rattle.raft_log_fs.specs.Disk.{Disk}
 use Rattle.raft_log_fs.specs.Image.{IsSound}
@@ -11,15 +11,16 @@ use Rattle.raft_log_recovery_laws.specs.Directory.{OpensAs}
 use Rattle.raft_log_offline.specs.Forks.{Forks}
 use Rattle.raft_log_recovery_laws.specs.ForkResting.{IsClear, NamesOnly}
 
--- An engine that is opened over the fork holds this map, and nothing is pending. The same is true of one opened over
--- the source, before and after. If an open fails, for any reason, the log is left there with the map.
+-- An open of the fork gives an engine whose log has the contents `m`, with nothing pending. So does an open of the
+-- source before the fork, and after it. If an open fails, for any reason, the log's files can be opened with these
+-- contents.
 pub record OpenAlike {F : Type 0} (disk : F → Disk) (tells : F → List ℕ → ℕ → Type 0) (config to : Config)
     (old now : F) (m : LogMap) : Type 0 where
   pub fork : OpensAs disk tells to now m
   pub source : OpensAs disk tells config now m
   pub before : OpensAs disk tells config old m
 
--- The fork of a log that rests opens with the same map as its source does before and after.
+-- If a log at rest was forked, an open of the fork gives the same contents as an open of the source, before or after.
 abbrev pub ForksOpenAsTheirSource : {F : Type 0} → (F → Disk) → (F → List ℕ → ℕ → Type 0) → Type 0
 ForksOpenAsTheirSource {F} disk tells = (config to : Config) (target : List ℕ) (copied : List (List ℕ))
     (old now : F) (m : LogMap) → IsSound (disk old) → IsSound (disk now) → NamesOnly to target

@@ -1,4 +1,5 @@
--- What recovery read of a queue's files that rest on a disk, and the queue that continues after it.
+-- What recovery read from a queue's files at rest, and the queue as it continues after recovery. The ending of a file
+-- is what reading it found: its format, the end of its last whole record, and whether the file is damaged.
 use Rattle.std.specs.Prelude.{◌≡◌, ℕ, ◌<◌, Some, false, List, [], ◌∷◌, ◌++◌, length}
 use Rattle.raft_log_record_base.specs.declared.pipe_log.LogQueue.{LogQueue}
 use Rattle.raft_log_fs.specs.Disk.{Disk}
@@ -22,8 +23,8 @@ use Rattle.raft_log_dual_pipes.specs.Own.{log_layout}
 use Rattle.raft_log_engine_laws.specs.raft_log_block_cache.specs.Stored.{Each}
 use Rattle.raft_log_recovery_laws.specs.Reading.{AreOfQueue}
 
--- These batches were read of the files of a queue, and each file ended so. None of the files has an alignment, which
--- the log's pipes don't know.
+-- `batches` were read from the files of a queue, and `endings` has the ending of each file. No file has an alignment,
+-- since the log's pipes don't know any.
 pub record ReadsQueue (mode : RecoveryMode) (queue : LogQueue) (files : List File) (d : Disk)
     (batches : List Batch) (endings : List FileEnding) : Type 0 where
   pub segments : List (List Batch)
@@ -32,7 +33,7 @@ pub record ReadsQueue (mode : RecoveryMode) (queue : LogQueue) (files : List Fil
   pub is : batches ≡ all_batches segments
   pub unaligned : Each (λ (e : FileEnding). e.format.alignment ≡ 0) endings
 
--- The files have the numbers of a live range up to this one, each under its path.
+-- The files have consecutive numbers up to `number`, which is that of `last`. Each is at the path of its number.
 pub record AreListed (layout : QueueLayout LogRecord) (earlier : List File) (last : File) (number : ℕ)
     (d : Disk) : Type 0 where
   pub number_is : last.seq ≡ number
@@ -40,8 +41,8 @@ pub record AreListed (layout : QueueLayout LogRecord) (earlier : List File) (las
   pub named : d.names (path_of layout.paths last) ≡ Some last.handle.file
   pub span : IsSpan layout.paths d.names (first_number earlier last) earlier number
 
--- The queue continues with that one, and its live range begins with this number. It has the same finished files. Its
--- last file has the header of this format, and then the same records, all synced.
+-- After recovery, the queue `was` continues as `now`, whose live range begins at `first`. Its finished files are the
+-- same. Its last file has the header of `format` and the same records.
 pub record QueueGoesOnWith (first : ℕ) (format : LogFileFormat) (was : LogFiles LogRecord)
     (now : Spanned LogRecord) : Type 0 where
   pub begins : now.first ≡ first
@@ -50,13 +51,13 @@ pub record QueueGoesOnWith (first : ℕ) (format : LogFileFormat) (was : LogFile
   pub header : now.files.header ≡ header_bytes format
   pub records : recent now.files ≡ recent was
 
--- the last file has this format, if it has a header
+-- if the queue's last file has a header, its format is `format`
 abbrev pub TellsLast : List FileEnding → LogFileFormat → Type 0
 TellsLast endings format =
     (front : List FileEnding) (ending : FileEnding) → endings ≡ front ++ ending ∷ []
     → (end : ℕ) → ending.end ≡ Some end → ending.format ≡ format
 
--- If the files of a queue rest on a disk, what is read of them are the batches of the queue.
+-- If the files of a queue are at rest, the batches that are read from them are those of the queue's records.
 abbrev pub ReadFilesAreTheQueue : Type 0
 ReadFilesAreTheQueue = (queue : LogQueue) (directories : List (List ℕ)) → 0 < length directories
     → (mode : RecoveryMode) (d : Disk) (was : LogFiles LogRecord)
@@ -67,7 +68,7 @@ ReadFilesAreTheQueue = (queue : LogQueue) (directories : List (List ℕ)) → 0 
     → (format : LogFileFormat) → TellsLast endings format → (now : Spanned LogRecord)
     → QueueGoesOnWith (first_number earlier last) format was now → AreOfQueue queue now batches
 
--- No batch is read of a queue without files, and the queue that has begun has none.
+-- If a queue has no files, no batch is read, and the queue that begins has none.
 abbrev pub NoFilesAreTheQueue : Type 0
 NoFilesAreTheQueue = (queue : LogQueue) (mode : RecoveryMode) (d : Disk) (batches : List Batch)
     (endings : List FileEnding) → ReadsQueue mode queue [] d batches endings → (now : Spanned LogRecord)

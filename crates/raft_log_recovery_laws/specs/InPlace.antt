@@ -1,5 +1,6 @@
--- Opening a log in place after its engine failed. No crash came in between, so the active files may have bytes that
--- aren't synced, and the open reads them as they are.
+-- Opening a log in place, after its engine failed or was closed. No crash came in between. So the active files may have
+-- bytes that aren't synced, and the open reads these as they are. A batch is pending if it was written but not synced
+-- yet.
 use Rattle.std.specs.Prelude.{◌≡◌, ℕ, ◌<◌, ◌⊎◌, List, [], length}
 use Rattle.std.specs.declared.io.ErrorKind.{ErrorKind}
 use Rattle.raft_log_record_base.specs.declared.errors.Error.{Error}
@@ -31,12 +32,12 @@ use Rattle.raft_log_recovery_laws.specs.Opened.{HoldsFresh}
 use Rattle.raft_log_recovery_laws.specs.RefusedByCalls.{FailsToOpenByCalls}
 use Rattle.raft_log_recovery_laws.specs.ByCalls.{home_of, ForAllNaming, LogIsRecovered, OpensByCalls}
 
--- There is no CRC collision in either queue's active file, with its bytes as they are. What is read there now is what a
--- crash may leave that keeps all bytes.
+-- There is no CRC collision in either queue's active file, with its bytes as they are now. This is the premise for a
+-- crash that keeps all bytes.
 abbrev pub StandsWithoutChance : LogDirectories → State → Disk → Type 0
 StandsWithoutChance home s d = IsCrashOf home s d (as_it_stands d)
 
--- An open failed after the syncs: the log was recovered, all files were synced, and opening a pipe failed.
+-- An open failed after its syncs: the log was recovered and all files were synced, but opening a pipe failed.
 pub record StopsSynced {F : Type 0} (disk : F → Disk) (tells : F → List ℕ → ℕ → Type 0) (config : Config)
     (d new : Disk) : Type 0 where
   pub append : MemTableRecoverContext
@@ -54,15 +55,16 @@ pub record StopsSynced {F : Type 0} (disk : F → Disk) (tells : F → List ℕ 
   pub error : Error
   pub fails : FailsToOpenLog append_pipe rewrite_pipe error synced new
 
--- The log is left unchanged, with the batches that were pending, or some first ones of them synced. Or it is left with
--- the map that an open returns, and nothing pending.
+-- The log's files can be opened. Either they have the contents `m` and the batches `pending`, of which the first few
+-- may be durable. Or they have the contents `now` that an open gives, with nothing pending.
 abbrev pub IsLeftEither : LogDirectories → Disk → LogMap → List LogRecordValue → LogMap → Type 0
 IsLeftEither home d m pending now = IsRecoverableAs home d m pending ⊎ IsRecoverableAs home d now []
 
--- The log is scanned, read, truncated, synced and opened call by call, without a crash.
--- - If that succeeds, an engine of what was read holds this map, and nothing is pending.
--- - If it fails after the syncs, the log is left with that map.
--- - If it fails or is abandoned anywhere, the log is left with that map or unchanged.
+-- An open in place, step by step.
+-- - `answered`: if it succeeds, the engine's log has the contents `now`, with nothing pending.
+-- - `synced`: if it fails after its syncs, the log's files can be opened with the contents `now`.
+-- - `refused`: if it fails or is abandoned anywhere, they can be opened with `now`, or with `m` and the batches
+--   `pending`.
 pub record OpensStandingByCalls {F : Type 0} (disk : F → Disk) (tells : F → List ℕ → ℕ → Type 0) (config : Config)
     (d : Disk) (m : LogMap) (pending : List LogRecordValue) (now : LogMap) : Type 0 where
   pub answered : (v : LogPipes) (tables : MemTables) → OpensByCalls disk tells config d v tables
@@ -71,8 +73,8 @@ pub record OpensStandingByCalls {F : Type 0} (disk : F → Disk) (tells : F → 
   pub refused : (new : Disk) → FailsToOpenByCalls disk tells config d new
       → IsLeftEither (home_of config) new m pending now
 
--- Opening a log that an engine left, call by call, gives its map after some first pending batches. They are those with
--- which the log would rest if a crash kept all its bytes, the same ones for all settings that name its directories.
+-- An open in place, step by step, gives the contents `m` after the first few pending batches. These are the batches
+-- that would be left if a crash kept all bytes, the same for all settings that name the directories.
 abbrev pub StandingLogsOpenByCalls : {F : Type 0} → (F → Disk) → (F → List ℕ → ℕ → Type 0) → Type 0
 StandingLogsOpenByCalls {F} disk tells = (home : LogDirectories) → 0 < length home.append → 0 < length home.rewrite
     → (d : Disk) (m : LogMap) (pending : List LogRecordValue) → IsSound d → (left : IsRecoverableAs home d m pending)
@@ -80,8 +82,8 @@ StandingLogsOpenByCalls {F} disk tells = (home : LogDirectories) → 0 < length 
     → RestsAfterSome home (as_it_stands d) m pending
     (λ now. ForAllNaming home (λ config. OpensStandingByCalls disk tells config d m pending now))
 
--- If opening the directories without a crash, with the one call, succeeds, the engine holds this map, and nothing is
--- pending. If it fails, the log is left with the map or unchanged.
+-- An open in place with the one call. If it succeeds, the engine's log has the contents `now`, with nothing pending. If
+-- it fails, the log's files can be opened with `now`, or with `m` and the batches `pending`.
 pub record OpensStanding {F : Type 0} (disk : F → Disk) (tells : F → List ℕ → ℕ → Type 0) (config : Config)
     (old : F) (m : LogMap) (pending : List LogRecordValue) (now : LogMap) : Type 0 where
   pub answered : (v : LogPipes) (tables : MemTables) → OpensDirectory disk tells config old v tables
@@ -89,8 +91,8 @@ pub record OpensStanding {F : Type 0} (disk : F → Disk) (tells : F → List �
   pub refused : (error : Error) (new : F) → FailsToOpenDirectory disk tells config error old new
       → IsLeftEither (home_of config) (disk new) m pending now
 
--- opening the directories of a log that an engine left gives its map after some first pending batches: the same ones
--- for all settings that name them
+-- An open in place with the one call gives the contents `m` after the first few pending batches. They are the same for
+-- all settings that name the directories.
 abbrev pub StandingDirectoriesOpen : {F : Type 0} → (F → Disk) → (F → List ℕ → ℕ → Type 0) → Type 0
 StandingDirectoriesOpen {F} disk tells = (home : LogDirectories) → 0 < length home.append → 0 < length home.rewrite
     → (old : F) (m : LogMap) (pending : List LogRecordValue) → IsSound (disk old)
@@ -98,22 +100,25 @@ StandingDirectoriesOpen {F} disk tells = (home : LogDirectories) → 0 < length 
     → RestsAfterSome home (as_it_stands (disk old)) m pending
     (λ now. ForAllNaming home (λ config. OpensStanding disk tells config old m pending now))
 
--- How far an open went that truncated nothing of the log: nothing was done; scanning its directories failed; or they
--- were scanned, and nothing more was done.
+-- How far an open came that truncated nothing:
+-- - `undone`: nothing was done.
+-- - `unscanned`: the scan of the directories failed.
+-- - `unread`: the scan succeeded, and nothing was done after it.
 pub data StopsUncut (config : Config) (d new : Disk) : Type 0 where
   undone : new ≡ d → StopsUncut config d new
   unscanned : (b : DualPipesBuilder) (error : Error) → IsBegun config b → FailsToScanLog b error d new
       → StopsUncut config d new
   unread : (found : DualPipesBuilder) → FindsLog config found d new → StopsUncut config d new
 
--- An open that truncated nothing leaves the log unchanged, whatever its bytes are, with the batches that were pending.
+-- If an open truncated nothing, the log's files can be opened as before, with the same pending batches. This needs no
+-- premise on CRC collisions.
 abbrev pub UncutLogsStay : Type 0
 UncutLogsStay = (config : Config) (d : Disk) (m : LogMap) (pending : List LogRecordValue)
     → IsRecoverableAs (home_of config) d m pending → (new : Disk) → StopsUncut config d new
     → IsRecoverableAs (home_of config) new m pending
 
--- Syncing a queue's active file, as it is and without a CRC collision, loses no record: the file still holds what was
--- durable and what was pending, however much of that was read.
+-- Syncing a queue's active file loses no record, if there is no CRC collision in its bytes as they are. The file still
+-- holds the durable and the pending records, even if not all of them were read.
 abbrev pub SyncedFilesHoldStill : Type 0
 SyncedFilesHoldStill = (queue : LogQueue) (directories : List (List ℕ)) → 0 < length directories
     → (q : LogFiles LogRecord) (file : File) → IsSoundFile file
@@ -121,8 +126,8 @@ SyncedFilesHoldStill = (queue : LogQueue) (directories : List (List ℕ)) → 0 
     → HoldsLast (log_format queue directories) q file
     → HoldsLast (log_format queue directories) q (flushed file)
 
--- If one of the syncs of such files fails, with no truncation before it, the log is left with the batches that were
--- pending.
+-- If a sync of the files fails before any truncation, the log's files can be opened as before, with the same pending
+-- batches. This requires that there is no CRC collision in the active files as they are.
 abbrev pub UnsyncedLogsStay : Type 0
 UnsyncedLogsStay = (home : LogDirectories) → 0 < length home.append → 0 < length home.rewrite → (d : Disk) (m : LogMap)
     (pending : List LogRecordValue) → IsSound d → (left : IsRecoverableAs home d m pending)

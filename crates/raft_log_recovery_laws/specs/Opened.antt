@@ -1,4 +1,4 @@
--- An engine that is made of what was read of a log's files.
+-- An engine whose tables were built from what recovery read.
 use Rattle.std.specs.Prelude.{◌≡◌, List, [], None}
 use Rattle.raft_log_record_base.specs.declared.pipe_log.LogQueue.TheVariants.{Append, Rewrite}
 use Rattle.raft_log_engine_laws.specs.raft_log_memtables.specs.declared.mem_tables.MemTables.{MemTables}
@@ -16,8 +16,8 @@ use Rattle.raft_log_engine_laws.specs.EngineState.{LogDirectories, LogMap, log_i
 use Rattle.raft_log_engine_laws.specs.Holding.{Represents}
 use Rattle.raft_log_recovery_laws.specs.Reading.{AreOfQueue}
 
--- A context that had read these batches of Append was merged over one that had read those of Rewrite; the tables are
--- the result.
+-- `tables` were made by merging two recovery contexts: the one that read `append_batches` from Append, over the one
+-- that read `rewrite_batches` from Rewrite.
 pub record AreMerged (append_batches rewrite_batches : List Batch) (tables : MemTables) : Type 0 where
   pub append : MemTableRecoverContext
   pub rewrite : MemTableRecoverContext
@@ -26,7 +26,8 @@ pub record AreMerged (append_batches rewrite_batches : List Batch) (tables : Mem
   pub over : (first behind : List ReadRecord) → HasRead Rewrite first rewrite → HasRead Append behind append
       → ComesOver first behind tables
 
--- The pipes run over a log that was found again, and the tables are merged of all batches of its files.
+-- The pipes run over a log that was read again, which was `was` before. `tables` were merged from all batches of its
+-- files.
 pub record IsOpenedOver (home : LogDirectories) (was : State) (v : LogPipes) (tables : MemTables) : Type 0 where
   pub state : State
   pub runs : RunsOn (sense home) v state
@@ -37,12 +38,13 @@ pub record IsOpenedOver (home : LogDirectories) (was : State) (v : LogPipes) (ta
   pub of_rewrite : AreOfQueue Rewrite state.rewrite rewrite_batches
   pub merged : AreMerged append_batches rewrite_batches tables
 
--- An engine of these pipes and tables that has cached no block yet holds the map, and nothing is pending.
+-- An engine with these pipes and tables, and with no cached block, has a log with the contents `m` and nothing pending.
 abbrev pub HoldsFresh : LogDirectories → LogPipes → MemTables → LogMap → Type 0
 HoldsFresh home v tables m =
     (cache : BlockCache) → cache.place ≡ None → Represents home (shows v tables cache) m []
 
--- An engine of the pipes and tables that a log was opened as holds the map of the log.
+-- If a log with the contents `m` and nothing pending was opened as these pipes and tables, the engine has these
+-- contents.
 abbrev pub OpenedEnginesHold : Type 0
 OpenedEnginesHold = (home : LogDirectories) (was : State) (m : LogMap) (v : LogPipes) (tables : MemTables)
     → IsLog (Ties (log_in home) was) m [] → IsOpenedOver home was v tables → HoldsFresh home v tables m

@@ -1,4 +1,4 @@
--- What an engine opened call by call over a log at rest holds, and what is left if the open fails.
+-- Opening a log at rest step by step: the contents that the engine then has, and what an open that fails leaves.
 use Rattle.std.specs.Prelude.{ℕ, ◌<◌, List, [], length}
 use Rattle.raft_log_fs.specs.Disk.{Disk}
 use Rattle.raft_log_fs.specs.Image.{IsSound}
@@ -13,22 +13,22 @@ use Rattle.raft_log_recovery_laws.specs.Opened.{HoldsFresh}
 use Rattle.raft_log_recovery_laws.specs.ByCalls.{home_of, ForAllNaming, OpensByCalls}
 use Rattle.raft_log_recovery_laws.specs.RefusedByCalls.{FailsToOpenByCalls}
 
--- If an open over what is on the disk succeeds, the engine holds this map and nothing is pending, for any number of
--- workers. If it fails or is abandoned, the log is left there with the map, and nothing is pending.
+-- If the open succeeds, the engine's log has the contents `m`, with nothing pending. If it fails or is abandoned, the
+-- log's files can be opened with the contents `m`. Neither depends on the number of recovery threads.
 pub record OpensByCallsAs {F : Type 0} (disk : F → Disk) (tells : F → List ℕ → ℕ → Type 0) (config : Config)
     (d : Disk) (m : LogMap) : Type 0 where
   pub answered : (v : LogPipes) (tables : MemTables) → OpensByCalls disk tells config d v tables
       → HoldsFresh (home_of config) v tables m
   pub refused : (new : Disk) → FailsToOpenByCalls disk tells config d new → IsRecoverableAs (home_of config) new m []
 
--- Opening a log that rests where its settings name it, call by call, gives its map. If it fails, the log is left with
--- the map.
+-- Opening a log that is at rest with the contents `m`, step by step, gives these contents. If the open fails, the log's
+-- files can be opened with them.
 abbrev pub RestingLogsOpenByCalls : {F : Type 0} → (F → Disk) → (F → List ℕ → ℕ → Type 0) → Type 0
 RestingLogsOpenByCalls disk tells = (config : Config) (d : Disk) (m : LogMap) → IsSound d
     → IsDurableAs (log_in (home_of config)) d m → OpensByCallsAs disk tells config d m
 
--- Opening any crash image of what an engine left, call by call, gives the map after some first pending batches: the
--- same ones for all settings that name its directories.
+-- Opening a crash image of what an engine left, step by step, gives the contents `m` after the first few pending
+-- batches. They are the same for all settings that name the directories. This requires that there is no CRC collision.
 abbrev pub CrashedLogsOpenByCalls : {F : Type 0} → (F → Disk) → (F → List ℕ → ℕ → Type 0) → Type 0
 CrashedLogsOpenByCalls disk tells = (home : LogDirectories) → 0 < length home.append → 0 < length home.rewrite
     → (d image : Disk) (m : LogMap) (pending : List LogRecordValue) → IsSound image

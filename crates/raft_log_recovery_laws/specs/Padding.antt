@@ -1,4 +1,4 @@
--- No log that an engine left has padding, so opening it removes none.
+-- No log that an engine left has padding between its records, so an open has none to remove.
 use Rattle.std.specs.Prelude.{◌<◌, List, length}
 use Rattle.raft_log_fs.specs.Disk.{Disk}
 use Rattle.raft_log_fs.specs.Image.{IsSound}
@@ -13,20 +13,21 @@ use Rattle.raft_log_recovery_laws.specs.Bare.{IsBare}
 use Rattle.raft_log_recovery_laws.specs.ByCalls.{ForAllNaming, home_of}
 use Rattle.raft_log_recovery_laws.specs.InPlace.{StandsWithoutChance}
 
--- an open of the log of these settings finds no file with an alignment, so none is written anew without padding
+-- an open with these settings finds no file with an alignment, and so rewrites no file to remove padding
 abbrev pub FindsNoPadding : Config → Disk → Type 0
 FindsNoPadding config d = (b : DualPipesBuilder) (scanned : Disk) → FindsPadding config b d scanned → ⊥
 
--- this is true of bare directories
+-- An open of directories without a log finds no padding.
 abbrev pub BareDirectoriesHaveNoPadding : Type 0
 BareDirectoriesHaveNoPadding = (config : Config) (d : Disk) → IsSound d → IsBare config d → FindsNoPadding config d
 
--- this is true if a log rests there, as any crash image of one without a CRC collision does
+-- An open of a log at rest finds no padding. This includes each crash image of a log without a CRC collision.
 abbrev pub RestingLogsHaveNoPadding : Type 0
 RestingLogsHaveNoPadding = (config : Config) (d : Disk) (m : LogMap) → IsSound d
     → IsDurableAs (log_in (home_of config)) d m → FindsNoPadding config d
 
--- this is true if an engine left a log there, which is opened without a crash
+-- An open in place of what an engine left, without a crash, finds no padding. This requires that there is no CRC
+-- collision in the active files as they are.
 abbrev pub StandingLogsHaveNoPadding : Type 0
 StandingLogsHaveNoPadding = (home : LogDirectories) → 0 < length home.append → 0 < length home.rewrite → (d : Disk)
     (m : LogMap) (pending : List LogRecordValue) → IsSound d → (left : IsRecoverableAs home d m pending)

@@ -1,4 +1,4 @@
--- What recovery reads of a log's queues: batches that are the records of their files, in order.
+-- What recovery reads from a log's queues: one batch for each record of their files, in order.
 use Rattle.std.specs.Prelude.{◌≡◌, ℕ, zero, suc, ◌+◌, Bool, true, false, List, [], ◌∷◌, ◌++◌, length, map}
 use Rattle.raft_log_model_laws.specs.Item.{items_of}
 use Rattle.raft_log_model_laws.specs.Item.Record.{Plain}
@@ -15,13 +15,13 @@ use Rattle.raft_log_recovery_laws.specs.FileReading.{context_in}
 use Rattle.raft_log_recovery_laws.specs.Records.{AreBatchesOf}
 use Rattle.raft_log_dual_pipes.specs.Pipes.{LogRecordValue}
 
--- the batches of these items, which were read in that file
+-- one batch for each of these lists of items, all read from file number `n`
 abbrev pub batches_in : ℕ → List (List LogItem) → List Batch
 batches_in n [] = []
 batches_in n (items ∷ more) = record { file = n; items = items } ∷ batches_in n more
 
--- These are the batches of the file of a queue with that number: one for each record after the header, in order, with
--- the places of its entries.
+-- `batches` are those of file number `n` of a queue: one for each record after the header, in order. Each entry has its
+-- location in the file.
 pub record AreOfFile (queue : LogQueue) (n : ℕ) (header : List ℕ) (records : List (Written LogRecord))
     (batches : List Batch) : Type 0 where
   pub format : LogFileFormat
@@ -29,14 +29,14 @@ pub record AreOfFile (queue : LogQueue) (n : ℕ) (header : List ℕ) (records :
   pub is : batches ≡ batches_in n items
   pub are : AreBatchesOf (context_in (record { queue = queue; seq = n }) format) (length header) items records
 
--- the batches of `count` finished files from that number on, file after file
+-- the batches of `count` finished files from number `n` on, one file after another
 abbrev pub AreOfFiles : LogQueue → (ℕ → Past LogRecord) → ℕ → ℕ → List Batch → Type 0
 AreOfFiles queue older n zero batches = batches ≡ []
 AreOfFiles queue older n (suc count) batches = (first : List Batch) × (more : List Batch)
     × (batches ≡ first ++ more) × AreOfFile queue n (older n).header (older n).records first
     × AreOfFiles queue older (suc n) count more
 
--- the batches of all files of a queue's live range: the finished ones, then the last one
+-- The batches of all files of a queue's live range: those of the finished files, then those of the last file.
 pub record AreOfQueue (queue : LogQueue) (q : Spanned LogRecord) (batches : List Batch) : Type 0 where
   pub finished : List Batch
   pub last : List Batch
@@ -46,16 +46,17 @@ pub record AreOfQueue (queue : LogQueue) (q : Spanned LogRecord) (batches : List
   pub of_finished : AreOfFiles queue q.files.older q.first count finished
   pub of_last : AreOfFile queue q.files.last q.files.header (recent q.files) last
 
--- a record as it counts: in Append at once, whatever its mark
+-- a record as recovery applies it: in Append (`true`) each record is applied at once, even if it is marked as part of
+-- an atomic group
 abbrev pub as_counted : Bool → LogRecordValue → LogRecordValue
 as_counted true y = Plain (items_of y)
 as_counted false y = y
 
--- the records of a file as they count
+-- a file with its records as recovery applies them
 abbrev pub counted_file : Bool → LogFile (List ℕ) (List ℕ) → LogFile (List ℕ) (List ℕ)
 counted_file appended f = record { number = f.number; records = map (as_counted appended) f.records }
 
--- the files of a queue with their records as they count
+-- a queue with the records of its files as recovery applies them
 abbrev pub counted_queue : Bool → FileQueue (List ℕ) (List ℕ) → FileQueue (List ℕ) (List ℕ)
 counted_queue appended q = record {
   behind = q.behind;

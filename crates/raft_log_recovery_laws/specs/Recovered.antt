@@ -1,4 +1,5 @@
--- A log that rests on a disk, what was read of its files there, and the engine that is made of both.
+-- A log at rest on a disk: no engine has it open, and all of it is synced. What was read from its files, and the engine
+-- that is made of both.
 use Rattle.std.specs.Prelude.{◌≡◌, ℕ, ◌<◌, ◌≤◌, List, [], ◌∷◌, ◌++◌, length, take}
 use Rattle.raft_log_model_laws.specs.Groups.{taken}
 use Rattle.raft_log_record_base.specs.declared.pipe_log.LogQueue.TheVariants.{Append, Rewrite}
@@ -20,7 +21,7 @@ use Rattle.raft_log_recovery_laws.specs.Found.{ReadsQueue}
 use Rattle.raft_log_recovery_laws.specs.Left.{IsCrashOf}
 use Rattle.raft_log_recovery_laws.specs.Opened.{AreMerged, HoldsFresh}
 
--- these are the files, each in the format that was read of it
+-- `found` are the files, each with the format that was read from it
 abbrev pub AreInFormats : List File → List FileEnding → List File → Type 0
 AreInFormats [] [] found = found ≡ []
 AreInFormats [] (ending ∷ endings) found = ⊥
@@ -28,13 +29,14 @@ AreInFormats (file ∷ files) [] found = ⊥
 AreInFormats (file ∷ files) (ending ∷ endings) found = (more : List File)
     × (found ≡ record file { format = ending.format } ∷ more) × AreInFormats files endings more
 
--- A pipe gets the files that were read, in the formats that were read, and the end of the last one.
+-- `found`, which opens a pipe, has the files with the formats that were read, and the end of the last file.
 pub record AreFoundAsRead (files : List File) (endings : List FileEnding) (found : FoundFiles) : Type 0 where
   pub formats : AreInFormats files endings found.files.items
   pub end : (front : List FileEnding) (ending : FileEnding) → endings ≡ front ++ ending ∷ []
       → found.end ≡ ending.end
 
--- These batches were read of each queue's files, as they rest on the disk, and its pipe gets what was read.
+-- Recovery read batches and endings from the files of each queue, at rest on the disk. The pipes are opened with these
+-- files, and `tables` were merged from the batches.
 pub record WereRead (mode : RecoveryMode) (append rewrite : FoundPipe) (d : Disk) (tables : MemTables)
     : Type 0 where
   pub append_files : List File
@@ -49,27 +51,30 @@ pub record WereRead (mode : RecoveryMode) (append rewrite : FoundPipe) (d : Disk
   pub rewrite_found : AreFoundAsRead rewrite_files rewrite_endings rewrite.found
   pub merged : AreMerged append_batches rewrite_batches tables
 
--- If a log that rests is opened, an engine of what was read of it holds its map, and nothing is pending.
+-- If a log at rest with the contents `m` was read, and its pipes were opened, the engine has these contents, with
+-- nothing pending.
 abbrev pub ReadLogsAreHeld : Type 0
 ReadLogsAreHeld = (home : LogDirectories) (m : LogMap) (mode : RecoveryMode) (append rewrite : FoundPipe) (old : Disk)
     (v : LogPipes) (tables : MemTables) → OpensLog append rewrite old v
     → RestsAsFound (sense home) m append rewrite old → WereRead mode append rewrite old tables
     → HoldsFresh home v tables m
 
--- both queues were found in these directories, as they rest there
+-- both queues of the log `s` were found in the directories `home`, as they are at rest on disk `d`
 pub record AreFoundAt (home : LogDirectories) (s : State) (append rewrite : FoundPipe) (d : Disk) : Type 0 where
   pub append_as : IsFoundAs Append home.append append
   pub rewrite_as : IsFoundAs Rewrite home.rewrite rewrite
   pub append_found : IsFoundOf (log_in home).append append.found s.append d
   pub rewrite_found : IsFoundOf (log_in home).rewrite rewrite.found s.rewrite d
 
--- An engine that is made of what a log's files have there holds this map, and nothing is pending.
+-- Each engine that is made by reading the files of the log `s` and opening its pipes has the contents `m`, with nothing
+-- pending.
 abbrev pub OpensAs : LogDirectories → Disk → LogMap → State → Type 0
 OpensAs home d m s = (mode : RecoveryMode) (append rewrite : FoundPipe) (v : LogPipes) (tables : MemTables)
     → AreFoundAt home s append rewrite d → OpensLog append rewrite d v
     → WereRead mode append rewrite d tables → HoldsFresh home v tables m
 
--- Opening any crash image of what an engine left gives the map after some first pending batches.
+-- Each crash image of what an engine left is a log at rest, whose open gives the contents `m` after the first few
+-- pending batches. This requires that there is no CRC collision.
 abbrev pub CrashedLogsOpen : Type 0
 CrashedLogsOpen = (home : LogDirectories) → 0 < length home.append → 0 < length home.rewrite → (d image : Disk)
     (m : LogMap) (pending : List LogRecordValue) → (left : IsRecoverableAs home d m pending)

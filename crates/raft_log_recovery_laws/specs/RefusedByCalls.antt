@@ -1,4 +1,4 @@
--- Why opening a log that rests on a disk fails, and how far the open went.
+-- How far an open of a log at rest came before it failed.
 use Rattle.std.specs.Prelude.{◌≡◌, ℕ, List}
 use Rattle.raft_log_record_base.specs.declared.errors.Error.{Error}
 use Rattle.raft_log_record_base.specs.declared.pipe_log.LogQueue.{LogQueue}
@@ -15,12 +15,12 @@ use Rattle.raft_log_recovery.specs.declared.builder.DualPipesBuilder.{DualPipesB
 use Rattle.raft_log_recovery.specs.Finding.{FindsLog, IsBegun}
 use Rattle.raft_log_recovery_laws.specs.ByCalls.{reads, LogIsRecovered}
 
--- `Declines`, as a builder takes it
+-- recovery rejects `batches`, which were read from the files of `queue`, with `error`
 abbrev pub declines : LogQueue → List Batch → Error → Type 0
 declines queue batches error = Declines queue batches error
 
--- Readying files for later use failed on a file system with these disks, which may return these values for a
--- directory's space.
+-- Preparing files for recycling failed with `error`, and changed disk `old` into `new`. `tells` says which free space a
+-- file system may report for a directory.
 pub record FailsToReadyOn {F : Type 0} (disk : F → Disk) (tells : F → List ℕ → ℕ → Type 0)
     (b : DualPipesBuilder) (error : Error) (old new : Disk) : Type 0 where
   pub from : F
@@ -29,14 +29,14 @@ pub record FailsToReadyOn {F : Type 0} (disk : F → Disk) (tells : F → List �
   pub to_is : disk to ≡ new
   pub fails : FailsToReadyLog disk tells b error from to
 
--- How far the open went:
+-- How far an open came before it failed or was abandoned:
 -- - `undone`: nothing was done.
--- - `unscanned`: scanning its directories failed.
--- - `unrecovered`: recovering or truncating its files failed.
--- - `unmerged`: it was abandoned after the recovery, for example for lack of memory for the tables.
--- - `unreadied`: readying the files for later use failed.
--- - `given_up`: it was abandoned after they were readied.
--- - `unopened`: syncing its files or opening its pipes failed.
+-- - `unscanned`: the scan of the directories failed.
+-- - `unrecovered`: reading or truncating the files failed.
+-- - `unmerged`: the open was abandoned after the recovery, for example since memory ran out for the tables.
+-- - `unreadied`: preparing files for recycling failed.
+-- - `given_up`: the open was abandoned after these were prepared.
+-- - `unopened`: syncing the files or opening the pipes failed.
 pub data FailsToOpenByCalls {F : Type 0} (disk : F → Disk) (tells : F → List ℕ → ℕ → Type 0) (config : Config)
     (d new : Disk) : Type 0 where
   undone : new ≡ d → FailsToOpenByCalls disk tells config d new

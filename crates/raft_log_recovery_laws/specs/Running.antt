@@ -1,5 +1,5 @@
--- A crash of a running engine: that what it leaves has no CRC collision depends only on the engine's pipes and the
--- bytes on the disk.
+-- A crash of a running engine. Whether the crash image has a CRC collision depends only on the engine's pipes and the
+-- bytes on the disk. A batch is pending if it was written but not synced yet.
 use Rattle.std.specs.Prelude.{◌≡◌, ◌⊎◌, ℕ, Some, List, length, take, drop}
 use Rattle.raft_log_fs.specs.Disk.{Disk, File}
 use Rattle.raft_log_fs.specs.Image.{IsImage, IsSound}
@@ -16,19 +16,19 @@ use Rattle.raft_log_recovery_laws.specs.ByCalls.{ForAllNaming}
 use Rattle.raft_log_recovery_laws.specs.Directory.{OpensAs}
 use Rattle.raft_log_recovery_laws.specs.Left.{RestsAfterSome}
 
--- the header of a pipe's active file
+-- the header of the pipe's active file
 abbrev pub active_header : PipeFiles → List ℕ
 active_header files = header_bytes files.active.format
 
--- what the pipe wrote to it after the header
+-- the bytes that the pipe wrote to its active file after the header
 abbrev pub own_bytes : PipeFiles → File → List ℕ
 own_bytes files file = drop (length (active_header files)) (take files.writer.written file.content)
 
--- There is no CRC collision in what a crash leaves of a pipe's active file:
--- - The file has no header other than its own.
--- - It has no record except those that the pipe wrote there, or that a write that isn't synced passed to it.
--- - It doesn't read as a file with an alignment. If it has no record, the last eight bytes of a torn header may read as
---   an alignment.
+-- `bytes`, which a crash left of a pipe's active file, have no CRC collision:
+-- - They begin with no header other than the file's own.
+-- - Each record in them is one that the pipe wrote there, or that was passed to an unsynced write at that offset.
+-- - They don't read as a file with an alignment. This could happen only without a record, if the last eight bytes of a
+--   torn header read as one.
 pub record MeetsOwnAlone (F : Format LogRecord) (files : PipeFiles) (file : File) (bytes : List ℕ) : Type 0 where
   pub headers : (other : List ℕ) → HasHeader F other bytes → other ≡ active_header files
   pub records : (at : ℕ) (w : Written LogRecord)
@@ -37,18 +37,19 @@ pub record MeetsOwnAlone (F : Format LogRecord) (files : PipeFiles) (file : File
       ⊎ IsHandedIn file.changes at w.bytes
   pub plain : F.IsAligned files.active.seq bytes → ⊥
 
--- there is no CRC collision in a pipe's active file, in what a crash leaves of a disk
+-- if the pipe's active file is on both disks, what `image` has of it has no CRC collision
 abbrev pub LeavesOwnAlone : Format LogRecord → PipeFiles → Disk → Disk → Type 0
 LeavesOwnAlone F files d image = (file after : File) → d.files files.writer.handle.file ≡ Some file
     → image.files files.writer.handle.file ≡ Some after → MeetsOwnAlone F files file after.content
 
--- There is no CRC collision in either queue's active file after a crash of an engine with these pipes.
+-- A crash image of an engine with these pipes has no CRC collision in either queue's active file.
 pub record LeavesNoChance (home : LogDirectories) (v : LogPipes) (image : Disk) : Type 0 where
   pub append : LeavesOwnAlone (log_in home).append.format v.append.files v.disk image
   pub rewrite : LeavesOwnAlone (log_in home).rewrite.format v.rewrite.files v.disk image
 
--- Opening any crash image of a running engine gives the map after some first pending batches, whether it succeeds or
--- fails: the same ones for all settings that name its directories. If nothing was pending, it gives the engine's map.
+-- An open of a crash image of a running engine gives the contents `m` after the first few pending batches. They are the
+-- same for all settings that name the directories. If the open fails, the log's files can be opened with these
+-- contents. This requires that there is no CRC collision.
 abbrev pub CrashedEnginesOpen : {F : Type 0} → (F → Disk) → (F → List ℕ → ℕ → Type 0) → Type 0
 CrashedEnginesOpen {F} disk tells = (home : LogDirectories) (e : EngineState) (m : LogMap) (pending : List LogRecordValue)
     → Represents home e m pending → (old : F) → IsSound (disk old) → IsImage e.pipes.disk (disk old)

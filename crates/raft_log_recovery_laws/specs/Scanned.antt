@@ -1,4 +1,4 @@
--- The files of a queue that a scan of the log's directories returns, as its pipe takes them.
+-- The files of a queue as a scan returns them and as a pipe needs them.
 use Rattle.std.specs.Prelude.{◌≡◌, ℕ, true, false, List, [], ◌∷◌, ◌++◌}
 use Rattle.raft_log_record_base.specs.declared.pipe_log.LogQueue.{LogQueue}
 use Rattle.raft_log_record_base.specs.declared.pipe_log.LogQueue.TheVariants as queues
@@ -23,27 +23,28 @@ abbrev pub kind_of : LogQueue → FileKind
 kind_of queues.Append = kinds.Append
 kind_of queues.Rewrite = kinds.Rewrite
 
--- the file with the format that its header has
+-- the file with this format, which was read from its header
 abbrev pub with_format : LogFileFormat → Listed → Listed
 with_format format file = record file { format = format }
 
--- the files have the numbers of a live range, each under its path, and the last one is open for writing
+-- The files have consecutive numbers, each is at the path of its number, and the last one is open for reading and
+-- writing.
 pub record AreSpanned (queue : LogQueue) (directories : List (List ℕ)) (earlier : List Listed)
     (last : Listed) (d : Disk) : Type 0 where
   pub listed : last.reserved ≡ false
   pub opened : IsOpened (path_of (log_paths queue directories) last) ReadWrite last.handle d
   pub span : IsSpan (log_paths queue directories) d.names (first_number earlier last) earlier last.seq
 
--- The files of a queue that a scan returns have the numbers of a live range, each under its path. The last one is open
--- for writing.
+-- The files of a queue that a scan returns have consecutive numbers, each at the path of its number. The last one is
+-- open for reading and writing.
 abbrev pub ScannedFilesAreSpanned : Type 0
 ScannedFilesAreSpanned = (queue : LogQueue) (directories : List (List ℕ)) (mode : RecoveryMode) (d : Disk)
     (earlier : List Listed) (last : Listed)
     → IsQueueIn (kind_of queue) directories d mode (earlier ++ last ∷ [])
     → AreSpanned queue directories earlier last d
 
--- After the last of these files was read, the pipe of their queue may be opened over them. What is proved of a stopped
--- pipe thus holds of what a scan returns and a recovery reads.
+-- After a scan and after reading the last file, a queue's files are as a pipe needs them to open. So the laws about
+-- pipes that were stopped apply to what a scan returns and recovery reads.
 abbrev pub ReadFilesAreScanned : Type 0
 ReadFilesAreScanned = (queue : LogQueue) (directories : List (List ℕ)) (d : Disk) (earlier : List Listed)
     (last : Listed) (read : FileReading) (kept : List Listed) → IsSound d

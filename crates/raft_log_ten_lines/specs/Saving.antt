@@ -1,4 +1,4 @@
--- What a caller of an engine does with it.
+-- What a caller of an engine does in the example of ten lines.
 use Rattle.std.specs.Prelude.{◌≡◌, ℕ, List, [], ◌∷◌, Option, Some, None, true}
 use Rattle.raft_log_engine.specs.raft_log_fs.specs.Disk.{Disk}
 use Rattle.raft_log_engine.specs.raft_log_record_items.specs.Items.{put_item}
@@ -14,8 +14,9 @@ use Rattle.raft_log_engine.specs.raft_log_engine_laws.specs.Reading.{ReadsValue}
 use Rattle.raft_log_engine.specs.raft_log_engine_laws.specs.Writing.{Writes}
 use Rattle.raft_log_engine.specs.raft_log_open.specs.Opening.{OpensDirectory}
 
--- A log was opened; a batch that puts this value at a group's key was written and synced; the key was read; and the log
--- was closed, with everything synced. Whatever map the log had when it was opened, the value was read back.
+-- A log was opened, and a batch that puts `value` at `key` of group `group` was written with a sync. Then the key was
+-- read, and the log was closed, with everything synced. The key was read with `value`, whatever the log's contents were
+-- before.
 pub record SavesInLog {F : Type 0} (disk : F → Disk) (tells : F → List ℕ → ℕ → Type 0) (config : Config)
     (group : ℕ) (key value : List ℕ) (old new : F) (found : Option (List ℕ)) : Type 0 where
   pub pipes : LogPipes

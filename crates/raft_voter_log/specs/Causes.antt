@@ -7,18 +7,17 @@ use Rattle.raft_voter.specs.declared.service.Cause.TheVariants.{Failed, FileSyst
 use Rattle.raft_voter_recovery.specs.declared.unread.Unread.{Unread}
 use Rattle.raft_voter_recovery.specs.declared.unread.Unread.TheVariants as unread
 
--- `Memory` for out of memory, and `FileSystem` for all other errors
+-- `Memory` if memory ran out; `FileSystem` for every other error
 abbrev pub cause_of : Error → Cause
 cause_of errors.Memory = Memory
 cause_of error = FileSystem
 
--- why an open failed, or voters weren't read: `Memory` for out of memory, and `FileSystem` for all else
+-- the cause of a failed open: `Memory` if memory ran out; otherwise `FileSystem`, even for a group that stores no voter
 abbrev pub unread_cause : Unread → Cause
 unread_cause (unread.Engine error) = cause_of error
 unread_cause (unread.Foreign group) = FileSystem
 unread_cause unread.Memory = Memory
 
--- why a purge failed: `Failed` if the store had failed before; else `Memory` for out of memory, and `FileSystem` for
--- all else
+-- the cause of a failed purge: `Failed` if the store had failed before; `Memory` if memory ran out; else `FileSystem`
 abbrev pub purge_cause : Bool → Error → Cause
 purge_cause failed error = if failed then Failed else cause_of error

@@ -1,5 +1,5 @@
--- Crashes of a running engine, by the bytes that they leave of its active files: those that leave no CRC collision, and
--- those that do.
+-- Crashes of a running engine, by the bytes that they leave in its active files. Some images have no CRC collision, and
+-- some have one.
 use Rattle.std.specs.Prelude.{◌≡◌, ◌⊎◌, ◌+◌, ℕ, Bool, Some, List, ◌++◌, length, take}
 use Rattle.raft_log_fs.specs.Disk.{Disk, File, zeros}
 use Rattle.raft_log_fs.specs.Image.{IsImage, IsSound}
@@ -26,17 +26,17 @@ use Rattle.raft_voter_log.specs.Opens.{FindsVoters}
 
 -- Losses.
 
--- these bytes are a record of the file that a pipe writes to
+-- these bytes are a record of the pipe's active file, with the file's number and header
 abbrev pub IsOwnFrame : Format LogRecord → PipeFiles → List ℕ → LogRecord → Type 0
 IsOwnFrame F files = F.IsFrame files.active.seq (active_header files)
 
--- the file has its header and so many of the bytes that a pipe wrote after it, and nothing else; the last record may be
--- torn
+-- `bytes` are the header of the active file, then the first `kept` bytes that the pipe wrote after it; the last record
+-- may be torn
 abbrev pub IsTorn : PipeFiles → File → List ℕ → Type 0
 IsTorn files file bytes = (kept : ℕ) × (bytes ≡ active_header files ++ take kept (own_bytes files file))
 
--- The file has some first records that a pipe wrote, whole. The bytes after them begin no record of the file, such as
--- space that was allocated ahead of a write.
+-- `bytes` are the header of the active file, then the first few records that the pipe wrote, each whole. No record of
+-- the file begins after them. For example, zeros may follow, from space that was allocated ahead of a write.
 pub record IsWhole (F : Format LogRecord) (files : PipeFiles) (file : File) (bytes : List ℕ) : Type 0 where
   pub kept : List (Written LogRecord)
   pub lost : List ℕ
@@ -46,35 +46,38 @@ pub record IsWhole (F : Format LogRecord) (files : PipeFiles) (file : File) (byt
   pub are : bytes ≡ active_header files ++ (spelled kept ++ behind)
   pub refuses : Refuses (IsOwnFrame F files) behind
 
--- Zeros begin no record, and space that was allocated ahead of a write is zeros.
+-- Zeros begin with no record, however many they are. So space that was allocated ahead of a write begins with none.
 abbrev pub ZerosBeginNoRecord : Type 0
 ZerosBeginNoRecord = (queue : LogQueue) (directories : List (List ℕ)) (files : PipeFiles) (room : ℕ)
     → Refuses (IsOwnFrame (log_format queue directories) files) (zeros room)
 
--- what a crash left of a pipe's active file is torn or whole
+-- if the pipe's active file is on both disks, what `image` has of it is as `IsTorn` or `IsWhole` says: the crash only
+-- lost writes
 abbrev pub LosesOwn : Format LogRecord → PipeFiles → Disk → Disk → Type 0
 LosesOwn F files d image = (file after : File) → d.files files.writer.handle.file ≡ Some file
     → image.files files.writer.handle.file ≡ Some after
     → IsTorn files file after.content ⊎ IsWhole F files file after.content
 
--- the same for the active files of both queues
+-- The crash only lost writes to the active files of both queues, as `LosesOwn` says.
 pub record LosesWrites (home : LogDirectories) (v : LogPipes) (image : Disk) : Type 0 where
   pub append : LosesOwn (log_in home).append.format v.append.files v.disk image
   pub rewrite : LosesOwn (log_in home).rewrite.format v.rewrite.files v.disk image
 
--- Such a crash of a running engine leaves no CRC collision, whatever map its log is, and whatever batches are pending.
+-- If a crash of a running engine only lost writes, its image has no CRC collision. The log's contents and pending
+-- batches may be any.
 abbrev pub LossesLeaveNoChance : Type 0
 LossesLeaveNoChance = (home : LogDirectories) (e : EngineState) (m : LogMap) (pending : List LogRecordValue) → Represents home e m pending
     → (image : Disk) → LosesWrites home e.pipes image → LeavesNoChance home e.pipes image
 
--- Opening what it leaves of a store that keeps voters gives these voters.
+-- If a crash of a store between calls only lost writes, an open of its image finds the voters that the log stored.
 abbrev pub LossesAreFound : {F : Type 0} → (F → Disk) → (F → List ℕ → ℕ → Type 0) → Type 0
 LossesAreFound {F} disk tells = (home : LogDirectories) (e : EngineState) (W : World) → Keeps home e W → (old : F)
     → IsSound (disk old) → IsImage e.pipes.disk (disk old) → LosesWrites home e.pipes (disk old)
     → ForAllNaming home (λ config. FindsVoters disk tells config old W (λ X. X ≡ W))
 
--- Opening what it leaves during a round, between two of its requests, gives voters that took some first ones of them:
--- the same for all settings.
+-- A store crashed during a round, between two requests, and the crash only lost writes. Then an open of the image finds
+-- the voters after the first few of the requests served so far. All settings that name the directories give the same
+-- voters.
 abbrev pub LossesInRoundsAreFound : {F : Type 0} → (F → Disk) → (F → List ℕ → ℕ → Type 0) → Type 0
 LossesInRoundsAreFound {F} disk tells = (home : LogDirectories) (V : World) (requests : List (ℕ × Request)) (told : List Reply)
     (wrote : Bool) (s t : EngineState) (os us : ℕ → State) → Keeps home s V → AreOutlines os V
@@ -85,8 +88,8 @@ LossesInRoundsAreFound {F} disk tells = (home : LogDirectories) (V : World) (req
 
 -- Chosen bytes.
 
--- After all that a pipe wrote to its active file, which are whole records, there is another record. No unsynced write
--- passed it to the file.
+-- `bytes` are all that the pipe wrote to its active file, which are whole records, then another record of the file, and
+-- perhaps more. No unsynced write was asked to write that record there.
 pub record HasForeign (F : Format LogRecord) (files : PipeFiles) (file : File) (bytes : List ℕ) : Type 0 where
   pub own : List (Written LogRecord)
   pub frames : AreFrames (IsOwnFrame F files) own
@@ -97,7 +100,7 @@ pub record HasForeign (F : Format LogRecord) (files : PipeFiles) (file : File) (
   pub are : bytes ≡ active_header files ++ (spelled own ++ (foreign.bytes ++ behind))
   pub unhanded : IsHandedIn file.changes (length (active_header files) + length (spelled own)) foreign.bytes → ⊥
 
--- there is such a record in a pipe's active file, as a crash left it
+-- what the image has of the pipe's active file has another record after the pipe's own, as `HasForeign` says
 pub record LeavesForeign (F : Format LogRecord) (files : PipeFiles) (d image : Disk) : Type 0 where
   pub file : File
   pub after : File
@@ -105,8 +108,7 @@ pub record LeavesForeign (F : Format LogRecord) (files : PipeFiles) (d image : D
   pub left : image.files files.writer.handle.file ≡ Some after
   pub has : HasForeign F files file after.content
 
--- If a crash of a running engine leaves such a record in either queue, the premise that there is no CRC collision is
--- false.
+-- If a crash image of a running engine has such a record in either queue, it has a CRC collision.
 abbrev pub ForeignRecordsAreChance : Type 0
 ForeignRecordsAreChance = (home : LogDirectories) (e : EngineState) (m : LogMap) (pending : List LogRecordValue) → Represents home e m pending
     → (image : Disk)

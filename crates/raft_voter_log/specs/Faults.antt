@@ -1,4 +1,4 @@
--- Faults and crashes of a world, in the terms of the file system.
+-- The faults and crashes of a simulated world, as those of the in-memory file system.
 use Rattle.raft_log_fs.specs.declared.handle.Fault.{Fault as DiskFault}
 use Rattle.raft_log_fs.specs.declared.handle.Fault.TheVariants as faults
 use Rattle.raft_log_fs_memory.specs.raft_log_fs_state.specs.declared.remainder.Remainder.{Remainder}

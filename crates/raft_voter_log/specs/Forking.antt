@@ -1,4 +1,5 @@
--- Copying the log of a store, and opening a store over the copy: laws, each the contract of an empty function.
+-- Copying the log of a store, and opening a store over the copy: laws, each the contract of an empty function. Voters
+-- are possible after a cut-off round if they took its requests before some position, without the refused ones.
 use Rattle.std.specs.Prelude.{◌≡◌, ◌<◌, ℕ, List, length}
 use Rattle.raft_log_fs.specs.Disk.{Disk}
 use Rattle.raft_log_fs.specs.Image.{IsSound}
@@ -18,14 +19,14 @@ use Rattle.raft_voter_records.specs.Voters.{Means}
 use Rattle.raft_voter_durability_laws.specs.Standing.{IsLeftAmong, IsLeftWith}
 use Rattle.raft_voter_log.specs.Opens.{FindsVoters}
 
--- A store over the copy finds these voters, and so does one over the source, before it was copied and after.
+-- An open of the copy finds the voters of `W`. So does an open of the source, before the copy was made and after it.
 pub record FindAlike {F : Type 0} (disk : F → Disk) (tells : F → List ℕ → ℕ → Type 0) (config to : Config)
     (old now : F) (W : World) : Type 0 where
   pub fork : FindsVoters disk tells to now W (λ X. X ≡ W)
   pub source : FindsVoters disk tells config now W (λ X. X ≡ W)
   pub before : FindsVoters disk tells config old W (λ X. X ≡ W)
 
--- If the log of a store rests and is copied into a directory, a store over the copy finds its source's voters.
+-- If the log of a store is at rest and is copied into a directory, an open of the copy finds the source's voters.
 abbrev pub ForkedVotersAreFound : {F : Type 0} → (F → Disk) → (F → List ℕ → ℕ → Type 0) → Type 0
 ForkedVotersAreFound {F} disk tells = (config to : Config) (target : List ℕ) (copied : List (List ℕ)) (old now : F)
     (m : LogMap) (W : World) → IsSound (disk old) → IsSound (disk now) → NamesOnly to target
@@ -33,15 +34,17 @@ ForkedVotersAreFound {F} disk tells = (config to : Config) (target : List ℕ) (
     → Forks (settings_of config) target copied (disk old) (disk now)
     → FindAlike disk tells config to old now W
 
--- Any copy of the log that these settings name, for settings that name only the target, gives these voters.
+-- An open of any copy of the log of settings `config` finds the voters of `W`. The copy's settings name only its
+-- directory.
 abbrev pub CopiesVoters : {F : Type 0} → (F → Disk) → (F → List ℕ → ℕ → Type 0) → F → World → Config → Type 0
 CopiesVoters {F} disk tells old W config = (to : Config) (target : List ℕ) (copied : List (List ℕ)) (after : F)
     → IsSound (disk after) → NamesOnly to target → IsClear target (disk old)
     → Forks (settings_of config) target copied (disk old) (disk after)
     → FindsVoters disk tells to after W (λ X. X ≡ W)
 
--- What a store left, closed or failed, is opened in place, or copied and opened there, without a crash in between. Both
--- find the same voters, which a stop may leave of it, by any settings that name its directories.
+-- A store left its log, closed or failed, and there was no crash. An open in place and an open of a copy find the same
+-- voters. These are possible after the round `cut`, and the same for all settings that name the log's directories. This
+-- requires that there is no CRC collision in the active files as they are.
 abbrev pub LeftVotersAreCopied : {F : Type 0} → (F → Disk) → (F → List ℕ → ℕ → Type 0) → Type 0
 LeftVotersAreCopied {F} disk tells = (home : LogDirectories) → 0 < length home.append → 0 < length home.rewrite → (old : F)
     (cut : CutRound) (left : IsLeftAmong home (disk old) (MayFollow cut)) → IsSound (disk old)
@@ -50,8 +53,11 @@ LeftVotersAreCopied {F} disk tells = (home : LogDirectories) → 0 < length home
     × ForAllNaming home (λ config. FindsVoters disk tells config old W (MayFollow cut))
     × ForAllNaming home (CopiesVoters disk tells old W)
 
--- What was left of voters in the directories of these settings is still left there: those that may follow a round,
--- those of one world, a log that rests, or none.
+-- What disk `old` has of voters in the directories of these settings, `new` has too:
+-- - `left`: files that can be opened, with voters that are possible after a round
+-- - `alone`: files that can be opened, with the voters of one world
+-- - `rests`: a log at rest, with the same contents
+-- - `bare`: no log yet
 pub record LeavesVoters (config : Config) (old new : Disk) : Type 0 where
   pub left : (cut : CutRound) → IsLeftAmong (home_of config) old (MayFollow cut)
       → IsLeftAmong (home_of config) new (MayFollow cut)
@@ -60,12 +66,13 @@ pub record LeavesVoters (config : Config) (old new : Disk) : Type 0 where
       → IsDurableAs (log_in (home_of config)) new m
   pub bare : IsBare config old → IsBare config new
 
--- however a copy ends, it leaves the voters of its source
+-- However a copy ends, the source's voters stay, as `LeavesVoters` says.
 abbrev pub ForksLeaveVoters : Type 0
 ForksLeaveVoters = (config : Config) (target : List ℕ) (old new : Disk) → IsSound old
     → EndsFork config target old new → LeavesVoters config old new
 
--- A copy into one of the log's own directories, including that of its spilled files, fails, and nothing changes.
+-- A copy into one of the log's own directories fails, and nothing changes. The directory for spilled files is one of
+-- them.
 abbrev pub OwnDirectoriesGetNoCopy : Type 0
 OwnDirectoriesGetNoCopy = (config : Config) (target : List ℕ) (old new : Disk)
     → LiesInOne (directories_of (settings_of config)) target → EndsFork config target old new

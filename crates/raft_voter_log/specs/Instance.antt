@@ -1,4 +1,4 @@
--- A store of voters on a log and the log's files, as the store and the disk of a world.
+-- A store of voters on a log, and the log's files, as the store and the disk of a simulated world.
 use Rattle.std.specs.Prelude.{◌≡◌, ◌⊎◌, ℕ, false, true, List, Option, None}
 use Rattle.raft_log_fs.specs.Disk.{Disk as OnDisk}
 use Rattle.raft_log_fs.specs.Exits.{Arms}
@@ -38,7 +38,7 @@ use Rattle.raft_voter_log.specs.Leaving.{FilesLeave, SparesFiles, SparesStore}
 
 -- The store.
 
--- what a purge that succeeded made of an engine, whose pipes pin what `held` says of Append
+-- What a purge that succeeded did to the engine. `held` says which file of Append the engine's listeners pin.
 abbrev pub PurgesLog :
     {P : Type 0} → (LogPipes → Option ℕ → Type 0) → Purge → LogEngine P → LogEngine P → EngineState → EngineState → Type 0
 PurgesLog held Expired old new s t = (groups : List ℕ)
@@ -46,21 +46,21 @@ PurgesLog held Expired old new s t = (groups : List ℕ)
 PurgesLog held RewriteAppend old new s t = RewritesAppend None None new.tables s t
 PurgesLog held RewriteRewrite old new s t = SyncsAndRewrites new.tables s t
 
--- a purge failed, with this error and for this reason
+-- a purge of this kind failed with this error, for one of the reasons that it may have
 abbrev pub StopsPurgeAs : Purge → EngineState → EngineState → Error → Type 0
 StopsPurgeAs RewriteAppend s t error = StopsRewritingAppend s t error
 StopsPurgeAs purge s t error = StopsPurgingExpired s t error
 
--- a purge failed, and returned this cause
+-- a purge of this kind failed and returned `cause`, which is the cause for its error
 abbrev pub RefusesLogPurge : Purge → Cause → EngineState → EngineState → Type 0
 RefusesLogPurge purge cause s t =
     (error : Error) × (cause ≡ purge_cause (has_failed s) error) × StopsPurgeAs purge s t error
 
--- a file system has armed a fault, in addition to those that it had armed before
+-- file system `new` has armed `fault`, after the faults that `old` had armed
 abbrev pub IsArmed : Fault → MemoryFileSystem → MemoryFileSystem → Type 0
 IsArmed fault old new = armed new ≡ armed_with (fault_of fault) (armed old)
 
--- a fault is armed under a store; or its file system had stopped, and none is
+-- the fault was armed in the store's file system; or the file system had stopped, and the store's state is unchanged
 abbrev pub ArmsStore : Fault → MemoryFileSystem → MemoryFileSystem → EngineState → EngineState → Type 0
 ArmsStore fault old new s t = (ArmsEngine (fault_of fault) s t × IsArmed fault old new)
     ⊎ ((s.pipes.disk.stopped ≡ true) × (t ≡ s))
@@ -77,44 +77,46 @@ log_upkeep files held engine shows = record {
 
 -- The files of a store.
 
--- both settings are the same
+-- both configurations have the same settings
 abbrev pub AreSame : Config → Config → Type 0
 AreSame settings others = settings_of settings ≡ settings_of others
 
--- these settings name the same directories, and so many workers
+-- `settings` names the directories of `config`, and asks for `workers` recovery threads
 abbrev pub HasWorkers : Config → ℕ → Config → Type 0
 HasWorkers config workers settings = (home_of settings ≡ home_of config) × (settings.recovery_threads ≡ workers)
 
--- opening these files with so many workers gave a store that shows this
+-- an open of these files with `workers` recovery threads gave a store with the state `s` and the outlines `os`
 abbrev pub OpensFiles : (MemoryFileSystem → List ℕ → ℕ → Type 0) → LogFiles → ℕ → EngineState → (ℕ → State) → Type 0
 OpensFiles tells files workers s os =
     (settings : Config) × HasWorkers files.config workers settings
     × OpensVoters disk_of tells settings files.files s os
 
--- opening these files failed with this cause, and leaves other files; if memory ran out, it may not have begun
+-- An open of `files` with `workers` recovery threads failed with `cause`, and left the files `back`. If memory ran out,
+-- it may have failed before it began; then the files are unchanged.
 abbrev pub RefusesFiles : (MemoryFileSystem → List ℕ → ℕ → Type 0) → LogFiles → ℕ → Cause → MemoryFileSystem → Type 0
 RefusesFiles tells files workers cause back = ((cause ≡ Memory) × (back ≡ files.files))
     ⊎ ((settings : Config) × HasWorkers files.config workers settings
     × ((why : Unread) × (cause ≡ unread_cause why)
     × FailsToOpenVoters disk_of tells settings why files.files back))
 
--- a copy into a directory succeeded or failed
+-- a copy of the log of these settings into the directory `target` succeeded or failed
 abbrev pub EndsCopy : Config → List ℕ → OnDisk → OnDisk → Type 0
 EndsCopy config target old new =
     ((copied : List (List ℕ)) × Forks (settings_of config) target copied old new)
     ⊎ ((error : Error) × FailsToFork (settings_of config) target error old new)
 
--- a fault is armed; or the file system had stopped, and none is
+-- the fault was armed in the file system; or the file system had stopped, and its disk is unchanged
 abbrev pub ArmsFiles : Fault → MemoryFileSystem → MemoryFileSystem → Type 0
 ArmsFiles fault old new = (Arms (fault_of fault) (disk_of old) (disk_of new) × IsArmed fault old new)
     ⊎ (((disk_of old).stopped ≡ true) × (disk_of new ≡ disk_of old))
 
--- What a close leaves of a log: if the engine hadn't failed, the log is closed; if it had, nothing is touched.
+-- What a close of a store does to its log: if the engine hasn't failed, its log is closed. If it has failed, the disk
+-- is unchanged.
 pub record ClosesStore (s : EngineState) (d : OnDisk) : Type 0 where
   pub held : has_failed s ≡ false → ClosesLog s.pipes d
   pub failed : has_failed s ≡ true → d ≡ s.pipes.disk
 
--- a crash of the disk under a store left this
+-- `left` is what a crash leaves of the disk `d` under an open store; `gone` says which unsynced writes it keeps
 abbrev pub CrashesUnder : OnDisk → Left → OnDisk → Type 0
 CrashesUnder d gone left = (system : MemoryFileSystem) × (after : MemoryFileSystem) × (disk_of system ≡ d)
     × IsLeftOf (remainder_of gone) system after × (disk_of after ≡ left)

@@ -1,4 +1,4 @@
--- What follows from a store keeping its voters.
+-- What follows if a store's log stores the voters of a world, with nothing pending.
 use Rattle.std.specs.Prelude.{◌≡◌, IsTrue, ℕ, List, None}
 use Rattle.raft_log_fs.specs.declared.handle.Fault.{Fault}
 use Rattle.raft_log_fs.specs.declared.handle.Fault.TheVariants.{DenyRead}
@@ -12,22 +12,22 @@ use Rattle.raft_voter_records.specs.Voters.{Means}
 use Rattle.raft_voter_durability_laws.specs.Standing.{Keeps}
 use Rattle.raft_voter_recovery.specs.Reading.{ListsVoters, world_in}
 
--- A store that keeps voters lists just these.
+-- If the log stores the voters of `W`, and a listing of its voters was read, the listed voters are those of `W`.
 abbrev pub KeptVotersAreTold : Type 0
 KeptVotersAreTold = (home : LogDirectories) (s : EngineState) (W : World) (voters : List (ℕ × State)) → Keeps home s W
     → ListsVoters s voters → world_in voters ≡ W
 
--- No group of a map that means voters has one of the log's own keys.
+-- If a log's contents store voters, no group has a key that is reserved for the log itself.
 abbrev pub VotersHaveNoOwnKey : Type 0
 VotersHaveNoOwnKey = (m : LogMap) (W : World) → Means m W → (g : ℕ) (k : List ℕ) → IsTrue (is_internal k)
     → m g (Key k) ≡ None
 
--- the fault makes no place unreadable
+-- the fault marks no byte as unreadable
 abbrev pub DeniesNone : Fault → Type 0
 DeniesNone (DenyRead name place) = ⊥
 DeniesNone fault = Unit {0}
 
--- If a fault that makes no place unreadable is armed under a store, the store keeps its voters.
+-- Arming a fault that marks no byte as unreadable doesn't change the voters that the store's log stores.
 abbrev pub ArmsKeepVoters : Type 0
 ArmsKeepVoters = (home : LogDirectories) (V : World) (fault : Fault) (s t : EngineState) → DeniesNone fault → Keeps home s V
     → ArmsEngine fault s t → Keeps home t V

@@ -1,4 +1,5 @@
--- Laws about opens, each the contract of an empty function.
+-- Which voters an open finds: laws, each the contract of an empty function. Voters are possible after a cut-off round
+-- if they took its requests before some position, without the refused ones.
 use Rattle.std.specs.Prelude.{◌≡◌, ◌<◌, ℕ, List, length}
 use Rattle.raft_log_fs.specs.Disk.{Disk}
 use Rattle.raft_log_fs.specs.Image.{IsImage, IsSound}
@@ -16,25 +17,27 @@ use Rattle.raft_voter_records.specs.Voters.{Means}
 use Rattle.raft_voter_durability_laws.specs.Standing.{IsLeftAmong, Keeps}
 use Rattle.raft_voter_log.specs.Opens.{BeginsVoters, FindsVoters}
 
--- Opening directories in which no log began gives fresh voters.
+-- An open of directories without a log gives fresh voters.
 abbrev pub FirstOpensAreFresh : {F : Type 0} → (F → Disk) → (F → List ℕ → ℕ → Type 0) → Type 0
 FirstOpensAreFresh {F} disk tells = (config : Config) (old : F) → IsSound (disk old) → IsBare config (disk old)
     → BeginsVoters disk tells config old
 
--- Opening a log that rests gives the voters that it means.
+-- An open of a log at rest finds the voters that its contents store.
 abbrev pub RestingVotersAreFound : {F : Type 0} → (F → Disk) → (F → List ℕ → ℕ → Type 0) → Type 0
 RestingVotersAreFound {F} disk tells = (config : Config) (old : F) (m : LogMap) (W : World) → IsSound (disk old)
     → IsDurableAs (log_in (home_of config)) (disk old) m → Means m W
     → FindsVoters disk tells config old W (λ X. X ≡ W)
 
--- Opening any crash image of a running store gives the voters that it kept, for any settings that name its directories.
+-- An open of a crash image of a running store, between calls, finds the voters that the log stored. All settings that
+-- name its directories find them. This requires that there is no CRC collision.
 abbrev pub CrashedStoresAreFound : {F : Type 0} → (F → Disk) → (F → List ℕ → ℕ → Type 0) → Type 0
 CrashedStoresAreFound {F} disk tells = (home : LogDirectories) (e : EngineState) (W : World) → Keeps home e W → (old : F)
     → IsSound (disk old) → IsImage e.pipes.disk (disk old) → LeavesNoChance home e.pipes (disk old)
     → ForAllNaming home (λ config. FindsVoters disk tells config old W (λ X. X ≡ W))
 
--- Opening any crash image of a log that was left, closed or failed, gives voters that a stop may leave. They are the
--- same for all settings that name its directories, and for any number of workers.
+-- A store left its log, closed or failed, and then there was a crash. An open of the image finds voters that are
+-- possible after the round `cut`. They are the same for all settings that name the directories, so for any number of
+-- recovery threads. This requires that there is no CRC collision.
 abbrev pub CrashedVotersAreFound : {F : Type 0} → (F → Disk) → (F → List ℕ → ℕ → Type 0) → Type 0
 CrashedVotersAreFound {F} disk tells = (home : LogDirectories) → 0 < length home.append → 0 < length home.rewrite
     → (d : Disk) (cut : CutRound) (left : IsLeftAmong home d (MayFollow cut)) (old : F) → IsSound (disk old)
@@ -42,8 +45,10 @@ CrashedVotersAreFound {F} disk tells = (home : LogDirectories) → 0 < length ho
     → (W : World) × MayFollow cut W
     × ForAllNaming home (λ config. FindsVoters disk tells config old W (λ X. X ≡ W))
 
--- Opening a log that was left, closed or failed, in place gives voters that a stop may leave. They are the same for all
--- settings that name its directories, and for any number of workers. If the open fails, what was left is still left.
+-- A store left its log, closed or failed, and it is opened in place, without a crash. The open finds voters that are
+-- possible after the round `cut`, the same for all settings that name the directories. If it fails, the log's files can
+-- be opened, and their voters are still possible after `cut`. This requires that there is no CRC collision in the
+-- active files as they are.
 abbrev pub LeftVotersAreFound : {F : Type 0} → (F → Disk) → (F → List ℕ → ℕ → Type 0) → Type 0
 LeftVotersAreFound {F} disk tells = (home : LogDirectories) → 0 < length home.append → 0 < length home.rewrite → (old : F)
     (cut : CutRound) (left : IsLeftAmong home (disk old) (MayFollow cut)) → IsSound (disk old)

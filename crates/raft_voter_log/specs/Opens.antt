@@ -12,17 +12,20 @@ use Rattle.raft_voter_recovery.specs.declared.unread.Unread.{Unread}
 use Rattle.raft_voter_recovery.specs.declared.unread.Unread.TheVariants as causes
 use Rattle.raft_voter_store.specs.Opening.{FailsToOpenVoters, OpensVoters}
 
--- if an open succeeds, its engine keeps these voters, and the store's outlines are theirs
+-- if an open succeeds, the engine's log stores the voters of `W`, and the store's outlines are theirs
 abbrev pub ServesFound : {F : Type 0} → (F → Disk) → (F → List ℕ → ℕ → Type 0) → Config → F → World → Type 0
 ServesFound disk tells config old W = (t : EngineState) (os : ℕ → State) → OpensVoters disk tells config old t os
     → Keeps (home_of config) t W × AreOutlines os W
 
--- an open never fails for a group whose contents aren't a voter
+-- an open never fails with `Foreign`, which says that a group stores something other than a voter
 abbrev pub FindsNoForeign : {F : Type 0} → (F → Disk) → (F → List ℕ → ℕ → Type 0) → Config → F → Type 0
 FindsNoForeign {F} disk tells config old = (group : ℕ) (back : F)
     → FailsToOpenVoters disk tells config (causes.Foreign group) old back → ⊥
 
--- An open finds these voters; if it fails, for any reason, voters that pass the test are left.
+-- What an open finds:
+-- - `answered`: if it succeeds, the log stores the voters of `W`.
+-- - `refused`: if it fails, for any reason, the log's files can be opened, with voters for which `P` holds.
+-- - `own`: it doesn't fail with `Foreign`.
 pub record FindsVoters {F : Type 0} (disk : F → Disk) (tells : F → List ℕ → ℕ → Type 0) (config : Config)
     (old : F) (W : World) (P : World → Type 0) : Type 0 where
   pub answered : ServesFound disk tells config old W
@@ -30,8 +33,10 @@ pub record FindsVoters {F : Type 0} (disk : F → Disk) (tells : F → List ℕ 
       → IsLeftAmong (home_of config) (disk back) P
   pub own : FindsNoForeign disk tells config old
 
--- An open of directories in which there was no log yet: all voters are fresh. If it fails, the directories are still
--- bare, or have a log of fresh voters.
+-- What an open of directories without a log finds:
+-- - `answered`: if it succeeds, all voters are fresh.
+-- - `refused`: if it fails, there still is no log, or one of fresh voters, which can be opened.
+-- - `own`: it doesn't fail with `Foreign`.
 pub record BeginsVoters {F : Type 0} (disk : F → Disk) (tells : F → List ℕ → ℕ → Type 0) (config : Config)
     (old : F) : Type 0 where
   pub answered : ServesFound disk tells config old fresh_world

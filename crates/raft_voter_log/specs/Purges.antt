@@ -1,4 +1,4 @@
--- What a purge in a run leaves of a store's voters, and why it fails.
+-- What a purge does to the voters of a store in a simulated run, and why it fails.
 use Rattle.std.specs.Prelude.{◌≡◌, ◌⊎◌, true, List, Some}
 use Rattle.raft_log_fs.specs.Causes.{Fails}
 use Rattle.raft_log_file_settings.specs.declared.config.Config.{Config}
@@ -24,8 +24,8 @@ use Rattle.raft_voter_world.specs.Causes.{IsOfRun}
 use Rattle.raft_voter_log.specs.Causes.{cause_of}
 use Rattle.raft_voter_log.specs.StoreCauses.{VotersHaveReason}
 
--- A purge in a run keeps the voters if it succeeds. If it fails, either the voters are kept as well; or the store has
--- failed because a file call failed, and its log means just these voters.
+-- A purge that succeeds doesn't change the voters that the log stores. A purge that fails doesn't change them either;
+-- or the store has failed because a file call failed, and its files can be opened with just these voters.
 pub record PurgesKeepOrFail {S : Type 0} (u : Upkeep S) (shows : S → EngineState) : Type 0 where
   pub answered : (home : LogDirectories) (V : World) (purge : Purge) (old new : S) → Keeps home (shows old) V
       → u.purges purge old new → Keeps home (shows new) V
@@ -35,15 +35,15 @@ pub record PurgesKeepOrFail {S : Type 0} (u : Upkeep S) (shows : S → EngineSta
       ⊎ ((has_failed (shows new) ≡ true) × Fails (shows old).pipes.disk (shows new).pipes.disk
       × IsLeftWith home (shows new).pipes.disk V)
 
--- Why a purge in a run fails, for a store that keeps voters: with an error that has its reason, and that gives this
--- cause.
+-- If a purge fails for a store whose log stores voters, it fails with an error that has one of the reasons in
+-- `VotersHaveReason`. The purge returned this error's cause.
 abbrev pub RefusedPurgesHaveReasons : {S : Type 0} → Upkeep S → (S → EngineState) → Type 0
 RefusedPurgesHaveReasons {S} u shows = (home : LogDirectories) (V : World) (purge : Purge) (cause : Cause) (old new : S)
     → Keeps home (shows old) V → u.refuses purge cause old new
     → (error : Error) × (cause ≡ cause_of error) × VotersHaveReason home V error (shows old) (shows new)
 
--- A purge of an open store failed with this cause. Either the store had failed before; or it served voters, and the
--- purge failed with an error that has its reason in their log and gives this cause.
+-- A purge of an open store failed with `cause`. Either the store had failed before, and the cause is `Failed`. Or it
+-- served voters, and the cause is that of an error with one of the reasons in `VotersHaveReason`.
 pub record WasRefusedFor {S F : Type 0} (v : Service S) (config : S → Config) (shows : S → EngineState) (cause : Cause)
     (at now : Storage S F) : Type 0 where
   pub old : S
@@ -55,8 +55,8 @@ pub record WasRefusedFor {S F : Type 0} (v : Service S) (config : S → Config) 
       × ((error : Error) × (cause ≡ cause_of error)
       × VotersHaveReason (home_of (config old)) W error (shows old) (shows new)))
 
--- This holds for each purge that failed in a run, if each store that was opened in it served voters, whichever they
--- are.
+-- In each run in which every store that was opened served the voters of some world, each failed purge was as
+-- `WasRefusedFor` says.
 abbrev pub RunsRefuseForReasons : {S F : Type 0} → Service S → Upkeep S → Disk S F → (S → Config) → (S → EngineState) → Type 0
 RunsRefuseForReasons {S} {F} v u d config shows = (files : F) (events : List Event) (report : WorldReport F)
     → (run : IsRun v u d files events report) → ServeSome v (moments_of run.turns)

@@ -1,4 +1,5 @@
--- Files that are used again, and files that a crash leaves unchanged, of a running engine, and so of a run.
+-- Two cases in which a crash of a running engine only loses writes: recycled files, and files that a crash leaves
+-- unchanged.
 use Rattle.std.specs.Prelude.{◌≡◌, List, []}
 use Rattle.raft_log_fs.specs.Disk.{Disk}
 use Rattle.raft_log_fs.specs.Image.{IsImage}
@@ -15,8 +16,8 @@ use Rattle.raft_voter_durability_laws.specs.raft_log_engine_laws.specs.Holding.{
 use Rattle.raft_voter_durability_laws.specs.raft_log_engine_laws.specs.EngineState.{LogDirectories, LogMap, EngineState, log_in}
 use Rattle.raft_voter_log.specs.Chance.{LosesOwn}
 
--- If no record begins after the records of an active file, and a crash leaves it unchanged, its records are whole: such
--- a crash only loses writes, whatever map the engine's log is.
+-- Suppose that no record begins after what the pipe wrote to its active file. Then a crash that leaves the file's
+-- content unchanged only loses writes. The log's contents and pending batches may be any.
 abbrev pub StandingFilesOnlyLose : Type 0
 StandingFilesOnlyLose = (which : Which) (home : LogDirectories) (e : EngineState) (m : LogMap) (pending : List LogRecordValue)
     → Represents home e m pending
@@ -24,12 +25,13 @@ StandingFilesOnlyLose = (which : Which) (home : LogDirectories) (e : EngineState
     → (image : Disk) → KeepsOwn (one_at which e.pipes).files e.pipes.disk image
     → LosesOwn (layout_at which (log_in home)).format (one_at which e.pipes).files e.pipes.disk image
 
--- the pipe's next rotation creates a file, or uses one that had another number
+-- the pipe's next rotation creates a file; or it recycles a file of the queue whose records are signed, and whose old
+-- and new numbers differ in their low 32 bits
 pub data NextIsKnown (F : Format LogRecord) (format : LogFileFormat) (files : PipeFiles) (d : Disk) : Type 0 where
   made : files.recycled.items ≡ [] → NextIsKnown F format files d
   used : NextIsUsed F format files d → NextIsKnown F format files d
 
--- Right after a rotation to such a file every crash only loses writes, whatever bytes the file held.
+-- Right after such a rotation, every crash only loses writes, whatever the recycled file held before.
 abbrev pub RotatedFilesOnlyLose : Type 0
 RotatedFilesOnlyLose = (which : Which) (home : LogDirectories) (e : EngineState) (m : LogMap) (pending : List LogRecordValue)
     → Represents home e m pending

@@ -23,12 +23,13 @@ use Rattle.raft_voter_log.specs.declared.files.LogFiles.{LogFiles}
 use Rattle.raft_voter_log.specs.Leaving.{SparesStore}
 use Rattle.raft_voter_log.specs.Chance.{LeavesForeign, LosesWrites}
 
--- A running store crashed, and left in its active files only what it had written there.
+-- A running store crashed, and the crash only lost writes.
 abbrev pub OnlyLoses : Config → EngineState → OnDisk → Type 0
 OnlyLoses config s d = (has_failed s ≡ false) × LosesWrites (home_of config) s.pipes d
 
--- In these moments a store is opened, serves rounds, is purged, has faults armed under it, and crashes; each crash only
--- loses writes. A round that comes while no store is open is idle. After the last moment the store may be closed.
+-- In these moments a store is opened, serves rounds, is purged, has faults armed under it, and crashes. Each crash is
+-- one of a running store, and only loses writes. A round while no store is open is idle. After the last moment the
+-- store may be closed.
 abbrev pub CrashesOnlyLose : {S : Type 0} → (S → Config) → (S → EngineState) → Storage S LogFiles
     → List (Moment S LogFiles) → Type 0
 CrashesOnlyLose config shows storage [] = Unit {0}
@@ -46,8 +47,8 @@ CrashesOnlyLose config shows (Open store) (crashed gone left ∷ ms) =
 CrashesOnlyLose config shows (Closed files) (idle round now ∷ ms) = CrashesOnlyLose config shows (Closed now) ms
 CrashesOnlyLose config shows storage ms = ⊥
 
--- A run with such moments, from files in which no log began: each store that it opens serves voters, nothing is lost,
--- and voters that never fail explain its transcript.
+-- Suppose a run has only such moments, and starts from files without a log. Then each store that it opens serves voters
+-- of some world, and no open loses voters. Voters that never fail give exactly the replies in its transcript.
 abbrev pub RunsAskNothing : {S : Type 0} → Service S → Upkeep S → Disk S LogFiles → (S → Config) → (S → EngineState) → Type 0
 RunsAskNothing {S} v u d config shows = (first : LogFiles) (events : List Event) (report : WorldReport LogFiles)
     → (run : IsRun v u d first events report) → IsBare first.config (disk_of first.files)
@@ -55,8 +56,8 @@ RunsAskNothing {S} v u d config shows = (first : LogFiles) (events : List Event)
     → ServeSome v (moments_of run.turns) × NoneLost (moments_of run.turns ++ run.closing)
     × Explains report.transcript.rounds report.cuts
 
--- A crash of a running store leaves, after all that was written in either queue, a record that nobody wrote. Then the
--- premise that there is no CRC collision is false, whatever is known of what the store leaves.
+-- A crash of a running store leaves a record after all that was written to either queue, and nobody wrote that record.
+-- Then the premise on CRC collisions is false, whatever the store leaves.
 abbrev pub ForeignRecordsBreakPremise : Type 0
 ForeignRecordsBreakPremise = (config : Config) (s : EngineState) (cut : CutRound) → has_failed s ≡ false
     → (under : LeavesAt (home_of config) s cut) → (d : OnDisk)

@@ -1,4 +1,4 @@
--- Why rounds are cut off and purges fail, for a store that keeps voters.
+-- Why rounds are cut off and purges fail, for a store whose log stores voters.
 use Rattle.std.specs.Prelude.{◌≡◌, ◌⊎◌, ℕ, true, List}
 use Rattle.raft_log_fs.specs.Causes.{Fails}
 use Rattle.raft_log_record_base.specs.declared.errors.Error.{Error}
@@ -14,34 +14,34 @@ use Rattle.raft_voter_records.specs.Voters.{Means}
 use Rattle.raft_voter_durability_laws.specs.Standing.{AreOutlines, Keeps}
 use Rattle.raft_voter_log.specs.raft_voter_store.specs.Rounds.{CutsRoundOff}
 
--- If the file system cuts a round off, a file call failed in it.
+-- If a round is cut off by the engine, a file call failed during the round.
 abbrev pub CutRoundsHaveFailed : Type 0
 CutRoundsHaveFailed = (home : LogDirectories) (V : World) (requests : List (ℕ × Request)) (refused : List ℕ) (s t : EngineState)
     (os : ℕ → State) → Keeps home s V → AreOutlines os V → CutsRoundOff requests refused s t os
     → Fails s.pipes.disk t.pipes.disk
 
--- a purge of either kind failed
+-- a purge of any kind failed with `error`
 abbrev pub StopsPurge : EngineState → EngineState → Error → Type 0
 StopsPurge s t error = StopsPurgingExpired s t error ⊎ StopsRewritingAppend s t error
 
--- If a purge leaves the store failed, a file call failed in it.
+-- If the store has failed after a purge, a file call failed during the purge.
 abbrev pub FailedPurgesHaveFailed : Type 0
 FailedPurgesHaveFailed = (home : LogDirectories) (V : World) (s t : EngineState) (error : Error) → Keeps home s V
     → StopsPurge s t error → has_failed t ≡ true → Fails s.pipes.disk t.pipes.disk
 
--- Why a purge of a log that means voters fails: as any purge does, but never for the log's contents. No group has one
--- of the log's own keys, or more than a record can have. If a record is too long, it is that of the tombstones that
--- were owed before.
+-- Why a purge fails if the log's contents store voters. It has the reasons of any purge, with two exceptions:
+-- - `InvalidArgument` never occurs: no group has a key that is reserved for the log.
+-- - `Full` occurs only if the record of the owed tombstones is too long.
 abbrev pub HasVotersReason : LogDirectories → LogMap → Error → EngineState → EngineState → Type 0
 HasVotersReason home m (errors.InvalidArgument text) s t = ⊥
 HasVotersReason home m errors.Full s t = OwesTooMuch s.tables
 HasVotersReason home m error s t = HasReason home m error s t
 
--- the reason for a log of these voters
+-- the log's contents store the voters of `V`, and the error has one of the reasons in `HasVotersReason`
 abbrev pub VotersHaveReason : LogDirectories → World → Error → EngineState → EngineState → Type 0
 VotersHaveReason home V error s t = (m : LogMap) × Means m V × HasVotersReason home m error s t
 
--- The error of a store's purge has one of these reasons.
+-- If a purge of a store fails whose log stores voters, its error has one of these reasons.
 abbrev pub PurgesTellCauses : Type 0
 PurgesTellCauses = (home : LogDirectories) (V : World) (s t : EngineState) (error : Error) → Keeps home s V → StopsPurge s t error
     → VotersHaveReason home V error s t

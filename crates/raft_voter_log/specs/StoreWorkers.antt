@@ -1,4 +1,4 @@
--- Two opens of the same files with different settings: by any number of workers.
+-- Two opens of the same files give the same voters, even with different numbers of recovery threads.
 use Rattle.std.specs.Prelude.{◌≡◌, ◌<◌, ℕ, List, length}
 use Rattle.raft_log_fs.specs.Disk.{Disk}
 use Rattle.raft_log_fs.specs.Image.{IsImage, IsSound}
@@ -18,12 +18,12 @@ use Rattle.raft_voter_durability_laws.specs.Standing.{AreOutlines, IsLeftAmong, 
 use Rattle.raft_voter_recovery.specs.Reading.{ListsVoters}
 use Rattle.raft_voter_log.specs.raft_voter_store.specs.Opening.{OpensVoters}
 
--- What a store's files may be, without a CRC collision in them:
--- - `bare`: no log began yet.
--- - `rests`: a log that rests.
--- - `of_running`: what a crash left of a running store.
--- - `of_left`: what a crash left of a log that was left.
--- - `left`: what a close, a failure or a failed open left.
+-- What the files of a store may be, without a CRC collision in them:
+-- - `bare`: there is no log yet.
+-- - `rests`: the log is at rest.
+-- - `of_running`: a crash left them of a running store, between calls.
+-- - `of_left`: a crash left them of files that a store had left.
+-- - `left`: a close, a failure or a failed open left them.
 pub data AreAStores (home : LogDirectories) (d : Disk) : Type 0 where
   bare : (config : Config) → home_of config ≡ home → IsBare config d → AreAStores home d
   rests : (m : LogMap) (W : World) → IsDurableAs (log_in home) d m → Means m W → AreAStores home d
@@ -34,14 +34,14 @@ pub data AreAStores (home : LogDirectories) (d : Disk) : Type 0 where
   left : (cut : CutRound) (left : IsLeftAmong home d (MayFollow cut))
       → StandsWithoutChance home left.left.1.lies.state d → AreAStores home d
 
--- two stores serve the same voters, with the same outlines, and list them alike
+-- the engines `s` and `t` store the same voters, their outlines are equal, and so are their lists of voters
 pub record AreAlike (home : LogDirectories) (s t : EngineState) (os us : ℕ → State) : Type 0 where
   pub world : World
   pub first : Keeps home s world × AreOutlines os world
   pub second : Keeps home t world × AreOutlines us world
   pub listed : (voters others : List (ℕ × State)) → ListsVoters s voters → ListsVoters t others → voters ≡ others
 
--- Two opens of the same files that succeed are alike, whatever their settings have except the directories.
+-- If two opens of the same files succeed, their stores are alike. Their settings need only name the same directories.
 abbrev pub WorkersOpenAlike : {F : Type 0} → (F → Disk) → (F → List ℕ → ℕ → Type 0) → Type 0
 WorkersOpenAlike {F} disk tells = (home : LogDirectories) → 0 < length home.append → 0 < length home.rewrite → (old : F)
     → IsSound (disk old) → AreAStores home (disk old) → (one other : Config) → home_of one ≡ home

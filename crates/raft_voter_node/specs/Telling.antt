@@ -1,4 +1,4 @@
--- What the lines of a round mean.
+-- What the lines that are written for a round say.
 use Rattle.std.specs.Prelude.{◌≡◌, ◌⊎◌, ℕ, List, []}
 use Rattle.raft_voter_messages.specs.declared.reply.Reply.{Reply}
 use Rattle.raft_voter_messages.specs.declared.request.Request.{Request}
@@ -7,14 +7,15 @@ use Rattle.raft_voter_session.specs.Text.{round_text}
 use Rattle.raft_voter.specs.Service.{AnswersRound, CutsOff, Service}
 use Rattle.raft_voter.specs.declared.service.Cause.{Cause}
 
--- These are the lines of a round that was served, with the replies of the voters.
+-- `lines` are those of round `number` with its replies. The replies are those of the service's voters.
 pub record TellsReplies {S : Type 0} (service : Service S) (number : ℕ) (requests : List (ℕ × Request))
     (lines : List ℕ) (old new : S) : Type 0 where
   pub replies : List Reply
   pub told : lines ≡ round_text number (record { requests = requests; refused = []; outcome = Answered replies })
   pub answers : AnswersRound service requests replies old new
 
--- These are the lines of a round that was cut off.
+-- `lines` are those of round `number`, which was cut off for `cause`; the requests at the positions `refused` were
+-- refused.
 pub record TellsCut {S : Type 0} (service : Service S) (number : ℕ) (requests : List (ℕ × Request))
     (lines : List ℕ) (old new : S) : Type 0 where
   pub cause : Cause

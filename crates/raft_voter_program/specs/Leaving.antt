@@ -1,4 +1,4 @@
--- Which files remain after a session.
+-- Which files remain after a session, with what is written for it.
 use Rattle.std.specs.Prelude.{◌≡◌, ℕ, List, Option, None, Some, Result, Ok, Err}
 use Rattle.std.specs.Io.KnownBytes.{Appends}
 use Rattle.raft_voter.specs.Service.{Service}
@@ -9,8 +9,8 @@ use Rattle.raft_voter_session.specs.Text.{unreadable_text}
 use Rattle.raft_voter_program.specs.StoreSetup.{Setup}
 use Rattle.raft_voter_program.specs.Run.{WritesRun, settings_refused}
 
--- what is written for a session: the transcript of a run whose report has these files; or, if no files remain, that the
--- settings are rejected
+-- What may be written for a session, and the status. If files remain, it is the transcript of a run whose report has
+-- these files. If none remain, it is that the settings were rejected.
 abbrev pub WritesLeaving :
     {S F : Type 0} → Service S → Upkeep S → Disk S F → Setup F → Option F → SessionContent → List ℕ → ℕ → Type 0
 WritesLeaving v u d s None session text status =
@@ -18,7 +18,8 @@ WritesLeaving v u d s None session text status =
 WritesLeaving v u d s (Some files) session text status =
     (run : WritesRun v u d s session text status) × (run.report.files ≡ files)
 
--- the same for lines that are a session, or whose first unreadable line is this one; then no files remain
+-- What may be written for these lines, and which files remain. If the lines are a session, it is what may be written
+-- for the session. If line `line` is the first unreadable one, the text says so, with status 2, and no files remain.
 abbrev pub TellsLinesLeaving :
     {F : Type 0} → (Option F → SessionContent → List ℕ → ℕ → Type 0)
     → Option F → Result SessionContent ℕ → List ℕ → ℕ → Type 0
@@ -26,13 +27,12 @@ TellsLinesLeaving Writes left (Ok session) text status = Writes left session tex
 TellsLinesLeaving Writes left (Err line) text status =
     (left ≡ None) × (text ≡ unreadable_text line) × (status ≡ 2)
 
--- what may be written for a session of these bytes, and which files remain, given what may be written for the session
--- that they encode
+-- what may be written for the bytes `input`, and which files remain; `Writes` gives this for a session
 abbrev pub MayWriteLeaving :
     {F : Type 0} → (Option F → SessionContent → List ℕ → ℕ → Type 0) → Option F → List ℕ → List ℕ → ℕ → Type 0
 MayWriteLeaving Writes left input text status = TellsLinesLeaving Writes left (session_of input) text status
 
--- the session ended: all that may be written for it was written, and these files remain
+-- the session ended: the writer got all of what may be written for it, and these files remain
 abbrev pub EndsLeaving :
     {F : Type 0} → (Option F → SessionContent → List ℕ → ℕ → Type 0)
     → Option F → List ℕ → Option (List ℕ) → Option (List ℕ) → ℕ → Type 0

@@ -1,4 +1,4 @@
--- The text that is written for the voters of a store.
+-- The text that is written for the voters of a store, after it was opened.
 use Rattle.std.specs.Prelude.{◌≡◌, ◌≢◌, ◌<◌, ◌⊎◌, ℕ, List, Option, length, codes}
 use Rattle.std.specs.Io.KnownBytes.{Appends, Keeps}
 use Rattle.std.specs.List.{AllAdjacentBelow}
@@ -10,48 +10,49 @@ use Rattle.raft_voter_world.specs.Stores.{Disk, FindsVoters, TellsVoters}
 use Rattle.raft_voter_program.specs.Writing.{StopsWithin}
 use Rattle.raft_voter_program.specs.Lines.{voters_text}
 
--- the groups rise
+-- the voters are listed in strictly ascending order of their groups
 abbrev pub AreRising : List (ℕ × State) → Type 0
 AreRising voters = AllAdjacentBelow (λ one next. one.0 < next.0) voters (length voters)
 
--- these are the lines of the voters that a store serves, by rising group
+-- `text` has a line for each voter that the store serves, in ascending order of their groups.
 pub record TellsLines {S : Type 0} (v : Service S) (store : S) (text : List ℕ) : Type 0 where
   pub voters : List (ℕ × State)
   pub tells : TellsVoters v store voters
   pub rising : AreRising voters
   pub written : text ≡ voters_text voters
 
--- A store was opened on these files by this many workers. It serves voters that are possible for them, and these are
--- their lines.
+-- A store was opened from `files` with `workers` recovery threads. It serves voters that are possible for these files,
+-- and `text` has their lines.
 pub record OpensAndTells {S F : Type 0} (v : Service S) (d : Disk S F) (files : F) (workers : ℕ) (text : List ℕ) : Type 0 where
   pub store : S
   pub opens : d.opens files workers store
   pub finds : FindsVoters v d files store
   pub lines : TellsLines v store text
 
--- The open failed, though memory didn't run out.
+-- An open of `files` with `workers` recovery threads failed, and not because memory ran out.
 pub record IsRefused {S F : Type 0} (d : Disk S F) (files : F) (workers : ℕ) : Type 0 where
   pub cause : Cause
   pub outside : cause ≢ causes.Memory
   pub back : F
   pub refuses : d.refuses files workers cause back
 
--- what is written if the open fails
+-- the text for an open that failed
 abbrev pub refused_text : List ℕ
 refused_text = codes "open refused\n"
 
--- what may be written for these files, and the status: a line for each voter, or that the open failed
+-- What may be written for these files, and the exit status: a line for each voter, with 0; or that the open failed,
+-- with 4.
 abbrev pub MayList : {S F : Type 0} → Service S → Disk S F → F → ℕ → List ℕ → ℕ → Type 0
 MayList v d files workers text status = (OpensAndTells v d files workers text × (status ≡ 0))
     ⊎ (IsRefused d files workers × (text ≡ refused_text) × (status ≡ 4))
 
--- all that may be written for these files was written
+-- the writer got all of what may be written for these files
 abbrev pub ListsVoters :
     {S F : Type 0} → Service S → Disk S F → F → ℕ → Option (List ℕ) → Option (List ℕ) → ℕ → Type 0
 ListsVoters v d files workers old new status =
     (text : List ℕ) × MayList v d files workers text status × Appends old new text
 
--- nothing was written, or a prefix of what may be written, but not all of it
+-- the writer got nothing, or a part of what may be written for these files: a prefix, but not all of it
 abbrev pub ListsEarly :
     {S F : Type 0} → Service S → Disk S F → F → ℕ → Option (List ℕ) → Option (List ℕ) → Type 0
 ListsEarly v d files workers old new =

@@ -1,4 +1,4 @@
--- What is written about a log in a real directory.
+-- What is written for the log in a real directory, whose files were loaded into memory.
 use Rattle.std.specs.Prelude.{◌≡◌, ◌⊎◌, ℕ, List, Option, codes}
 use Rattle.std.specs.Io.KnownBytes.{Keeps}
 use Rattle.raft_log_fs_memory.specs.Memory.{disk_of}
@@ -10,18 +10,19 @@ use Rattle.raft_voter_program.specs.Listing.{ListsEarly, ListsVoters}
 use Rattle.raft_voter_log.specs.declared.files.LogFiles.{LogFiles}
 use Rattle.raft_voter_program.specs.Setup.{usual_settings}
 
--- These files are in memory, for a log with the usual settings: its directory has some files, all at rest.
+-- `files` are the log's files in memory. The log has the usual settings, and its directory has exactly some list of
+-- files, all synced.
 pub record IsLoaded (files : LogFiles) : Type 0 where
   pub usual : settings_of files.config ≡ usual_settings
   pub held : HoldsFiles (codes "raft") (disk_of files.files)
 
--- files were loaded, and all lines about their voters were written
+-- files were loaded, and the writer got all lines for their voters
 abbrev pub Loads :
     {S : Type 0} → Service S → Disk S LogFiles → Option (List ℕ) → Option (List ℕ) → ℕ → Type 0
 Loads v d old new status = (files : LogFiles) × IsLoaded files
     × ListsVoters v d files files.config.recovery_threads old new status
 
--- nothing was written; or files were loaded, and a prefix of the lines about their voters was written
+-- the writer got nothing; or files were loaded, and the writer got a prefix of the lines for their voters, but not all
 abbrev pub LoadsEarly : {S : Type 0} → Service S → Disk S LogFiles → Option (List ℕ) → Option (List ℕ) → Type 0
 LoadsEarly v d old new = Keeps old new
     ⊎ ((files : LogFiles) × IsLoaded files × ListsEarly v d files files.config.recovery_threads old new)

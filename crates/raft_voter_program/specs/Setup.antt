@@ -1,4 +1,4 @@
--- The files that a session's settings give.
+-- The settings of a session, and the log's files that they make.
 use Rattle.std.specs.Prelude.{◌≡◌, ◌⊎◌, ℕ, List, Option, None, Some, codes}
 use Rattle.raft_log_fs.specs.Disk.{empty_disk}
 use Rattle.raft_log_fs_memory.specs.Memory.{disk_of}
@@ -14,36 +14,36 @@ use Rattle.raft_voter_program.specs.StoreSetup.{Setup}
 use Rattle.raft_voter_program.specs.declared.store_setup.NoFiles.{NoFiles}
 use Rattle.raft_voter_program.specs.declared.store_setup.NoFiles.TheVariants as none
 
--- the settings if a session has none: the default ones, in the directory `raft`
+-- the settings of a session that has none: the default ones, with the directory `raft`
 abbrev pub usual_settings : Settings
 usual_settings = record default_settings { dir = codes "raft" }
 
--- these are the settings of a text, or of none
+-- `s` are the settings that the text gives; without a text, they are the usual ones
 abbrev pub TellsSettings : Option (List ℕ) → Settings → Type 0
 TellsSettings None s = s ≡ usual_settings
 TellsSettings (Some text) s = SaysSettings text s
 
--- a text has no settings: it isn't TOML, or has a wrong value for a key
+-- there is a text, but it gives no settings: it isn't TOML, or the value of a key is wrong
 abbrev pub TellsNone : Option (List ℕ) → Type 0
 TellsNone None = ⊥
 TellsNone (Some text) = (parse_document text ≡ None) ⊎ ((key : List ℕ) × HasWrongKey text key)
 
--- why there are no settings; for out of memory nothing is claimed
+-- why there are no settings: the text gives none; or memory ran out, which is possible for any text
 abbrev pub IsUnset : Option (List ℕ) → NoFiles → Type 0
 IsUnset settings none.Settings = TellsNone settings
 IsUnset settings none.Memory = Unit {0}
 
--- the reason that this error gives
+-- the reason for this error: `Memory` if memory ran out, else `Settings`
 abbrev pub refusal_of : Error → NoFiles
 refusal_of errors.Memory = none.Memory
 refusal_of error = none.Settings
 
--- settings are rejected: there are none, or they have a fault
+-- the settings are rejected: the text gives none, or the ones that it gives have a fault
 abbrev pub SettingsRefused : Option (List ℕ) → Type 0
 SettingsRefused settings = TellsNone settings
     ⊎ ((s : Settings) × TellsSettings settings s × ((fault : ConfigFault) × HasFault s fault))
 
--- A file system in memory without files, for a log with these settings, completed.
+-- `files` are those of a log with these settings, completed. They are in an empty file system in memory.
 abbrev pub MakesFiles : Option (List ℕ) → LogFiles → Type 0
 MakesFiles settings files = ((s : Settings) × TellsSettings settings s × HasNoFault s
     × (settings_of files.config ≡ sanitized s)) × (disk_of files.files ≡ empty_disk)

@@ -1,14 +1,14 @@
--- Which bytes a writer took.
+-- Which bytes a writer got.
 use Rattle.std.specs.Prelude.{◌≡◌, ℕ, ◌<◌, List, ◌++◌, length, Option}
 use Rattle.std.specs.Io.KnownBytes.{Appends}
 
--- a writer took a prefix of these bytes, and `left` is the rest
+-- the writer got a prefix of `bytes`, and `left` is the rest of them
 pub record TakesFront (old new : Option (List ℕ)) (bytes left : List ℕ) : Type 0 where
   pub front : List ℕ
   pub whole : bytes ≡ front ++ left
   pub gained : Appends old new front
 
--- a writer took a prefix of these bytes, perhaps an empty one, but not all of them
+-- the writer got a prefix of `bytes`, perhaps an empty one, but not all of them
 pub record StopsWithin (old new : Option (List ℕ)) (bytes : List ℕ) : Type 0 where
   pub left : List ℕ
   pub some : 0 < length left

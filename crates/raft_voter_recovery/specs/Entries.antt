@@ -1,4 +1,4 @@
--- Consecutive entries that are read of a group.
+-- Reading consecutive entries of a group's voter.
 use Rattle.std.specs.Prelude.{◌≡◌, ◌≢◌, ◌+◌, ◌≤◌, ◌<◌, ℕ, List, [], ◌∷◌, length, slice_get, Some}
 use Rattle.raft_log_model_laws.specs.Meaning.Slot.{Index}
 use Rattle.raft_log_model_laws.specs.Meaning.Content.{Entry}
@@ -13,12 +13,13 @@ use Rattle.raft_voter_recovery.specs.declared.unread.Unread.{Unread}
 use Rattle.raft_voter_recovery.specs.declared.unread.Unread.TheVariants as causes
 use Rattle.raft_voter_recovery.specs.Reading.{Tells}
 
--- these are the bytes of a group's consecutive entries from an index on
+-- group `grp` has these bytes as its consecutive entries from index `i` on
 abbrev pub StandFrom : Group → ℕ → List (List ℕ) → Type 0
 StandFrom grp i [] = Unit {0}
 StandFrom grp i (bytes ∷ others) = (grp (Index i) ≡ Some (Entry bytes)) × StandFrom grp (i + 1) others
 
--- one of these texts isn't an entry at its own index; the first is at index `first`
+-- One of `texts` doesn't parse as an entry with its own index, and `fault` says why. The first of them has index
+-- `first`.
 pub record HasBroken (first : ℕ) (texts : List (List ℕ)) : Type 0 where
   pub place : ℕ
   pub bytes : List ℕ
@@ -27,26 +28,27 @@ pub record HasBroken (first : ℕ) (texts : List (List ℕ)) : Type 0 where
   pub broken : fault ≢ faults.Memory
   pub why : EntryFault fault bytes (first + place)
 
--- why bytes don't read as entries: one of them isn't an entry, and the error names the group as foreign; or out of
--- memory
+-- Why parsing the bytes of entries fails:
+-- - `Foreign`: one of them isn't an entry of a voter at its index; the error names group `g`
+-- - `Memory`: memory ran out
 abbrev pub AreNoEntries : ℕ → ℕ → List (List ℕ) → Unread → Type 0
 AreNoEntries g first texts (causes.Foreign h) = (h ≡ g) × HasBroken first texts
 AreNoEntries g first texts (causes.Engine error) = ⊥
 AreNoEntries g first texts causes.Memory = Unit {0}
 
--- consecutive entries of a group were read from an index on
+-- `es` were read as the consecutive entries of group `g` from index `first` on
 pub record ReadsRun (e : EngineState) (g first : ℕ) (es : List VoterEntry) : Type 0 where
   pub texts : List (List ℕ)
   pub read : AreReadAs first texts es
   pub stand : Tells e (λ m. StandFrom (m g) first texts)
 
--- some entries of a group were read from an index on, at least one and all below an end
+-- `es` were read as the entries of group `g` from index `first` on; there is at least one, and all are below `end`
 pub record ReadsPiece (e : EngineState) (g first end : ℕ) (es : List VoterEntry) : Type 0 where
   pub run : ReadsRun e g first es
   pub some : 0 < length es
   pub within : first + length es ≤ end
 
--- all entries of a group after a base and below an index were read
+-- `es` were read as all entries of group `g` after index `base` and below index `next`
 pub record ReadsBelow (e : EngineState) (g base next : ℕ) (es : List VoterEntry) : Type 0 where
   pub run : ReadsRun e g (base + 1) es
   pub count : base + 1 + length es ≡ next

@@ -1,4 +1,4 @@
--- What is known of a log's voters after they were read, and why reading them fails.
+-- What is known of the voters in a log after they were read, and why reading them fails.
 use Rattle.std.specs.Prelude.{◌≡◌, ◌⊎◌, ◌==◌, ℕ, List, [], ◌∷◌, None, unwrap_or}
 use Rattle.std.specs.List.Sorted.{IsStrictlySortedBy}
 use Rattle.std.specs.Map.{keys_of, lookup}
@@ -16,58 +16,59 @@ use Rattle.raft_voter_durability_laws.specs.Requests.{WereUnread}
 use Rattle.raft_voter_recovery.specs.declared.unread.Unread.{Unread}
 use Rattle.raft_voter_recovery.specs.declared.unread.Unread.TheVariants as causes
 
--- this holds of any map that the engine's log may be, with nothing pending
+-- `P` holds for the contents of the engine's log, if nothing is pending
 abbrev pub Tells : EngineState → (LogMap → Type 0) → Type 0
 Tells s P = (home : LogDirectories) (m : LogMap) → Represents home s m [] → P m
 
 -- Outlines.
 
--- the map means voters, and these are their outlines
+-- the log's contents `m` store voters whose outlines are `os`
 abbrev pub MeansWith : (ℕ → State) → LogMap → Type 0
 MeansWith os m = (W : World) × Means m W × AreOutlines os W
 
--- any map that the engine's log may be means voters, and these are their outlines
+-- the log of engine `s` stores voters, and `os` are their outlines
 abbrev pub ReadsVoters : EngineState → (ℕ → State) → Type 0
 ReadsVoters s os = Tells s (MeansWith os)
 
 -- Voters.
 
--- the voter of each listed group, and a fresh one for any other
+-- the voter of each listed group, and a fresh voter for every other group
 abbrev pub world_in : List (ℕ × State) → World
 world_in vs g = unwrap_or (lookup (λ k. k == g) vs) fresh
 
--- each listed group holds its voter
+-- each listed group stores the voter that is listed for it
 abbrev pub HoldEach : LogMap → List (ℕ × State) → Type 0
 HoldEach m [] = Unit {0}
 HoldEach m (e ∷ es) = HoldsVoter (m e.0) e.1 × HoldEach m es
 
--- The map means the listed voters: each listed group holds its voter, and every other group is empty.
+-- The log's contents `m` store the listed voters: each listed group stores its voter, and every other group is empty.
 pub record StoresVoters (vs : List (ℕ × State)) (m : LogMap) : Type 0 where
   pub means : Means m (world_in vs)
   pub held : HoldEach m vs
   pub others : (g : ℕ) → lookup (λ k. k == g) vs ≡ None → IsVoid (m g)
 
--- any map that the engine's log may be means these voters, which are listed in ascending order of group
+-- the log of engine `s` stores exactly the voters `vs`, which are listed in ascending order of their groups
 pub record ListsVoters (s : EngineState) (vs : List (ℕ × State)) : Type 0 where
   pub rising : IsStrictlySortedBy nat_cmp (keys_of vs)
   pub stored : Tells s (StoresVoters vs)
 
 -- Failures.
 
--- why the engine failed a read: it has failed; or, for any map that the log may be, an entry wasn't read because its
--- file wasn't
+-- Why the engine failed a read: it has failed; or it couldn't read the file of an entry.
 abbrev pub IsRefused : Error → EngineState → Type 0
 IsRefused error s = IsFailed s error
     ⊎ ((g from to : ℕ) × ((home : LogDirectories) (m : LogMap) → Represents home s m [] → WereUnread g from to s error))
 
--- why reading voters fails: the engine failed a read; or a group's contents aren't a voter, for any map that the
--- engine's log may be; or out of memory
+-- Why reading voters fails:
+-- - `Engine`: the engine failed a read
+-- - `Foreign`: what group `g` stores isn't a voter
+-- - `Memory`: memory ran out
 abbrev pub IsUnreadFor : Unread → EngineState → Type 0
 IsUnreadFor (causes.Engine error) s = IsRefused error s
 IsUnreadFor (causes.Foreign g) s = Tells s (λ m. IsForeign (m g))
 IsUnreadFor causes.Memory s = Unit {0}
 
--- the cause for a read that the engine failed; out of memory has its own
+-- the cause to return for a read that the engine failed with this error; `Memory` has a cause of its own
 abbrev pub cause_of : Error → Unread
 cause_of errors.Memory = causes.Memory
 cause_of error = causes.Engine error

@@ -1,4 +1,4 @@
--- Terms of a group's entries, read without the entries' own bytes.
+-- Reading the terms of a group's entries, without the entries' data.
 use Rattle.std.specs.Prelude.{◌≡◌, ◌+◌, ◌≤◌, ◌<◌, ℕ, List, [], ◌∷◌, ◌++◌, length, map, slice_get, None, Some}
 use Rattle.raft_log_model_laws.specs.Meaning.Slot.{Index}
 use Rattle.raft_log_model_laws.specs.Meaning.Content.{Entry}
@@ -17,7 +17,7 @@ use Rattle.raft_voter_recovery.specs.Reading.{Tells}
 
 -- What a group has.
 
--- the group has an entry of this term at this index
+-- group `grp` has an entry at index `i`, with the term `t`
 pub record HasTerm (grp : Group) (i t : ℕ) : Type 0 where
   pub bytes : List ℕ
   pub entry : VoterEntry
@@ -25,27 +25,29 @@ pub record HasTerm (grp : Group) (i t : ℕ) : Type 0 where
   pub is : IsEntry bytes i entry
   pub term : entry.term ≡ t
 
--- the group has consecutive entries of these terms from this index on
+-- group `grp` has consecutive entries from index `i` on, with these terms
 abbrev pub HaveTerms : Group → ℕ → List ℕ → Type 0
 HaveTerms grp i [] = Unit {0}
 HaveTerms grp i (t ∷ ts) = HasTerm grp i t × HaveTerms grp (i + 1) ts
 
 -- What the heads have.
 
--- the heads have these terms; the first is the head of the entry at this index
+-- The entry heads `hs` give the terms `ts`. They are the heads of consecutive entries, the first at index `i`.
 abbrev pub AreTold : ℕ → List EntryHead → List ℕ → Type 0
 AreTold i [] ts = ts ≡ []
 AreTold i (h ∷ hs) [] = ⊥
 AreTold i (h ∷ hs) (t ∷ ts) = (term_told i h.numbers ≡ Some t) × AreTold (i + 1) hs ts
 
--- one of the heads has no term of the entry at its own index; the first is at index `first`
+-- One of the heads gives no term: it isn't the head of an entry at its index. The first of them has index `first`.
 pub record HasUntold (first : ℕ) (hs : List EntryHead) : Type 0 where
   pub place : ℕ
   pub head : EntryHead
   pub at : slice_get hs place ≡ Some head
   pub untold : term_told (first + place) head.numbers ≡ None
 
--- why terms aren't read: one of the heads has none, and the error names the group as foreign; or out of memory
+-- Why reading terms from entry heads fails:
+-- - `Foreign`: one of the heads isn't that of an entry at its index; the error names group `g`
+-- - `Memory`: memory ran out
 abbrev pub AreNotTold : ℕ → ℕ → List EntryHead → Unread → Type 0
 AreNotTold g first hs (causes.Foreign h) = (h ≡ g) × HasUntold first hs
 AreNotTold g first hs (causes.Engine error) = ⊥
@@ -53,30 +55,34 @@ AreNotTold g first hs causes.Memory = Unit {0}
 
 -- What is known.
 
--- the entries of a log whose terms alone are known
+-- the entries of a voter's log, with these terms and no data
 abbrev pub alone : List ℕ → List (ℕ × List ℕ)
 alone ts = map (λ t. (t, [])) ts
 
--- the terms of these heads were appended to the entries of a log; the first is the head of the entry at this index
+-- `p` is `o` with more entries in its log. These have no data, and the terms of the heads `hs`, whose first index is
+-- `first`.
 pub record AddsTold (first : ℕ) (hs : List EntryHead) (o p : State) : Type 0 where
   pub terms : List ℕ
   pub told : AreTold first hs terms
   pub now : p ≡ record o { log = o.log ++ alone terms }
 
--- the terms of consecutive entries of a group were read from an index on: at least one, and all below an end
+-- `ts` are the terms of consecutive entries of group `g` from index `first` on; there is at least one, and all are
+-- below `end`
 pub record ReadsTerms (e : EngineState) (g first end : ℕ) (ts : List ℕ) : Type 0 where
   pub have : Tells e (λ m. HaveTerms (m g) first ts)
   pub some : 0 < length ts
   pub within : first + length ts ≤ end
 
--- so many terms of a group's entries were read from an index on, all below an end, and appended to the entries of a log
+-- `p` is `o` with `count` more entries in its log. These have no data, and the terms of the entries of group `g` from
+-- index `first` on, below `end`.
 pub record AddsTerms (e : EngineState) (g first end count : ℕ) (o p : State) : Type 0 where
   pub terms : List ℕ
   pub read : ReadsTerms e g first end terms
   pub number : count ≡ length terms
   pub now : p ≡ record o { log = o.log ++ alone terms }
 
--- the terms of the entries below an index were read, and this is the outline of a voter with exactly these
+-- The terms of all entries of group `g` after the base of `s` and below index `next` were read. `o` is the outline of a
+-- voter with the state `s` and these entries.
 pub record KnowsTerms (e : EngineState) (g : ℕ) (s : VoterState) (next : ℕ) (o : State) : Type 0 where
   pub terms : List ℕ
   pub have : Tells e (λ m. HaveTerms (m g) (s.base_index + 1) terms)

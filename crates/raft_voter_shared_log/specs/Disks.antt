@@ -1,14 +1,15 @@
--- A store on a disk is closed, there is a crash or not, and it is opened again.
+-- A store on a disk is closed, and it is opened again, after a crash or without one.
 use Rattle.raft_voter.specs.Service.{CutRound, Service}
 use Rattle.raft_voter_world.specs.Stores.{Disk, FindsVoters, LeavesInFiles, LeavesStanding}
 use Rattle.raft_voter_shared_log.specs.Joining.{GoesOn}
 
--- whatever is known to be left in files, there is no CRC collision in those that are read
+-- for every cut-off round that `files` leave, there is no CRC collision in the files `read`, which are read instead of
+-- them
 abbrev pub Spares : {S F : Type 0} → Disk S F → F → F → Type 0
 Spares d files read = (cut : CutRound) (known : d.leaves files cut) → d.without_chance files cut known read
 
--- An open of the files that the close left, after a crash or without one, finds voters that may follow those of the
--- closed store. This requires that there is no CRC collision.
+-- A store was closed, and its files were opened again, after a crash or without one. If there is no CRC collision in
+-- what was read, the open finds voters that are possible after what the closed store left.
 abbrev pub DisksGoOn : {S F : Type 0} → Service S → Disk S F → Type 0
 DisksGoOn {S} {F} v d = (old new : S) (closed left : F) → LeavesInFiles v d old closed
     → LeavesStanding v d closed left left → Spares d closed left → FindsVoters v d left new → Spares d left left

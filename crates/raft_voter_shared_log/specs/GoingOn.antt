@@ -1,4 +1,5 @@
--- A store that threads shared is closed, and its log is opened again, after a crash or without one.
+-- A store that threads shared is closed, and its log is opened again, after a crash or without one. Voters are possible
+-- after a cut-off round if they took its requests before some position, without the refused ones.
 use Rattle.std.specs.Prelude.{◌≡◌, ℕ, List}
 use Rattle.raft_log_fs.specs.Disk.{Disk}
 use Rattle.raft_log_fs.specs.Image.{IsSound}
@@ -14,8 +15,8 @@ use Rattle.raft_voter_log.specs.Opens.{FindsVoters}
 use Rattle.raft_voter_store.specs.Service.{LeavesAt}
 use Rattle.raft_voter_log.specs.Instance.{ClosesStore}
 
--- Opening any crash image of a log that is left so gives voters that may follow the round, unless there is a CRC
--- collision. They are the same for all settings that name its directories.
+-- A log was left, with voters that are possible after the round `cut`, and then there was a crash. An open of the image
+-- finds such voters, the same for all settings that name the directories. This requires that there is no CRC collision.
 abbrev pub GoesOnBehindACrash :
     {F : Type 0} → (F → Disk) → (F → List ℕ → ℕ → Type 0) → (home : LogDirectories) (d : Disk) (cut : CutRound)
     → IsLeftAmong home d (MayFollow cut) → Type 0
@@ -23,8 +24,9 @@ GoesOnBehindACrash {F} disk tells home d cut left = (old : F) → IsSound (disk 
     → IsCrashOf home left.left.1.lies.state d (disk old)
     → (W : World) × MayFollow cut W × ForAllNaming home (λ config. FindsVoters disk tells config old W (λ X. X ≡ W))
 
--- Opening a log that is left so in place gives voters that may follow the round, unless there is a CRC collision. They
--- are the same for all settings that name its directories.
+-- A log was left, with voters that are possible after the round `cut`, and is opened in place. The open finds such
+-- voters, the same for all settings that name the directories. This requires that there is no CRC collision in the
+-- active files as they are.
 abbrev pub GoesOnInPlace :
     {F : Type 0} (disk : F → Disk) → (F → List ℕ → ℕ → Type 0) → (home : LogDirectories) (closed : F) (cut : CutRound)
     → IsLeftAmong home (disk closed) (MayFollow cut) → Type 0
@@ -33,8 +35,9 @@ GoesOnInPlace disk tells home closed cut left =
     → (W : World) × MayFollow cut W
     × ForAllNaming home (λ config. FindsVoters disk tells config closed W (MayFollow cut))
 
--- A store whose voters follow a round, cut off or not, in its log's directories, is closed. Its log is left so, and
--- opens as above, after a crash and in place.
+-- A store, which runs or has failed, left voters that are possible after the round `cut`, and was closed. Then its
+-- files can be opened with such voters. Opens find such voters both after a crash and in place, unless there is a CRC
+-- collision.
 abbrev pub ClosedStoresGoOn : {F : Type 0} → (F → Disk) → (F → List ℕ → ℕ → Type 0) → Type 0
 ClosedStoresGoOn {F} disk tells = (config : Config) (s : EngineState) (closed : F) (cut : CutRound)
     → LeavesAt (home_of config) s cut → ClosesStore s (disk closed)

@@ -1,4 +1,5 @@
--- Consecutive openings of a store: threads share each, it is settled, and the next one finds what it left.
+-- A store is opened several times, one after another. Threads share each opened store, it is settled when they are
+-- done, and the next open finds what it left.
 use Rattle.std.specs.Prelude.{◌≡◌, ◌≤◌, true, List, [], ◌∷◌, length, map}
 use Rattle.raft_voter.specs.Rounds.{Explains, World, fresh_world}
 use Rattle.raft_voter.specs.Service.{CutRound, IsOpenAt, MayFollow, Service}
@@ -6,62 +7,65 @@ use Rattle.raft_voter_shared.specs.Journal.{IsLegal}
 use Rattle.raft_voter_shared.specs.Openings.{Session, TookUpTo, all_cuts, all_rounds}
 use Rattle.raft_voter_shared.specs.Standing.{is_last, standing}
 
--- One opening: the store as it was opened, what settling it returned, and the store as it was settled.
+-- One opening: the store as it was opened, what settling it returned, and the store as it was settled. Settling returns
+-- a journal of the rounds, how the store failed, and the cut of the round in which it failed.
 pub record Sharing (S : Type 0) : Type 0 where
   pub opened : S
   pub session : Session
   pub settled : S
 
--- the round that its voters follow then: the records with replies, and at most one that was cut off, taken up to some
--- place
+-- The round after which the voters of the store are possible, if it was opened with the voters of `W`. If the store
+-- failed in a round, this is the round. Otherwise it is no round, with the voters after all records.
 abbrev pub behind : World → Session → CutRound
 behind W s = standing W s.journal s.failure
 
--- What settling returns, for any voters that the store served when it was opened:
--- - `legal`: the journal is a legal history of them.
--- - `last`: no record with replies follows the one at which the store failed.
--- - `left`: what is left of the store follows the journal.
+-- What settling a store returns, for any voters that it served when it was opened:
+-- - `legal`: the journal is a legal history that begins with these voters.
+-- - `last`: if the store failed in a round, the record of this round and all later ones were cut off.
+-- - `left`: the store leaves voters that are possible after the journal.
 pub record Settles {S : Type 0} (v : Service S) (x : Sharing S) : Type 0 where
   pub legal : (W : World) → IsOpenAt v x.opened W → IsLegal W x.session.journal
   pub last : is_last x.session.failure x.session.journal ≡ true
   pub left : (W : World) → IsOpenAt v x.opened W → ∥ v.leaves x.settled (behind W x.session) ∥₁
 
--- a store was opened that serves voters which may follow any voters of the other store
+-- store `new` serves voters that are possible after what store `old` left
 abbrev pub GoesOn : {S : Type 0} → Service S → S → S → Type 0
 GoesOn v old new =
     (cut : CutRound) → ∥ v.leaves old cut ∥₁ → ∥ ((X : World) × MayFollow cut X × IsOpenAt v new X) ∥₁
 
--- The voters that the next open shows took the round at which a store failed up to the place of its session. For
--- example, it is the least place up to which they may have taken it.
+-- Which voters the next opened store serves. They took the journal's rounds before the one in which the store failed.
+-- Of this round, they took the requests before the session's cut, without the refused ones.
 abbrev pub ShowsPlace : {S : Type 0} → Service S → Sharing S → S → Type 0
 ShowsPlace v x next = (W X : World) → IsOpenAt v x.opened W → IsOpenAt v next X
     → TookUpTo (behind W x.session) X x.session.place
 
--- if no open follows, it is any place of that round, for example 0
+-- if no open follows, the session's cut may be any position in the round in which the store failed; it is 0 if there is
+-- no such round
 abbrev pub HasPlace : {S : Type 0} → Service S → Sharing S → Type 0
 HasPlace v x = (W : World) → IsOpenAt v x.opened W → x.session.place ≤ length (behind W x.session).requests
 
--- what follows an opening
+-- What follows the opening `x`. The next opening finds voters that are possible after `x`, those up to the cut of `x`.
+-- If there is no next opening, the cut may be any position.
 abbrev pub IsFollowedBy : {S : Type 0} → Service S → Sharing S → List (Sharing S) → Type 0
 IsFollowedBy v x [] = HasPlace v x
 IsFollowedBy v x (y ∷ ys) = GoesOn v x.settled y.opened × ShowsPlace v x y.opened
 
--- consecutive openings
+-- each store was settled, and the next opening continues from what it left
 abbrev pub AreJoined : {S : Type 0} → Service S → List (Sharing S) → Type 0
 AreJoined v [] = Unit {0}
 AreJoined v (x ∷ xs) = Settles v x × IsFollowedBy v x xs × AreJoined v xs
 
--- the first of them serves fresh voters
+-- the store of the first opening serves fresh voters
 abbrev pub BeginsFresh : {S : Type 0} → Service S → List (Sharing S) → Type 0
 BeginsFresh v [] = Unit {0}
 BeginsFresh v (x ∷ xs) = ∥ IsOpenAt v x.opened fresh_world ∥₁
 
--- what settling them returned
+-- the sessions that settling the stores returned, in order
 abbrev pub sessions_of : {S : Type 0} → List (Sharing S) → List Session
 sessions_of xs = map (λ x. x.session) xs
 
--- Voters that never fail explain their journals, one after another. The cut of a round at which a store failed is the
--- place that the next open shows; that of any other round is 0.
+-- Voters that never fail give exactly the replies in all journals, one after another. The cut of a round in which a
+-- store failed is the position that the next open shows. The cut of each other round without replies is 0.
 abbrev pub JoinedOpeningsAreExplained : {S : Type 0} → Service S → Type 0
 JoinedOpeningsAreExplained {S} v = (xs : List (Sharing S)) → BeginsFresh v xs → AreJoined v xs
     → Explains (all_rounds (sessions_of xs)) (all_cuts (sessions_of xs))

@@ -1,4 +1,4 @@
--- Consecutive openings of a log.
+-- A log is opened several times, one after another, as a store that threads share.
 use Rattle.std.specs.Prelude.{◌≡◌, ◌⊎◌, ℕ, List, [], ◌∷◌, map}
 use Rattle.raft_log_fs.specs.Disk.{Disk}
 use Rattle.raft_log_fs.specs.Image.{IsImage, IsSound}
@@ -21,7 +21,7 @@ use Rattle.raft_voter_shared_log.specs.declared.store.LogStore.{LogStore}
 use Rattle.raft_voter_shared_log.specs.Joining.{HasPlace, Settles, Sharing, ShowsPlace, behind, sessions_of}
 use Rattle.raft_voter_shared_log.specs.Opening.{OpensStore}
 
--- a store on a log, whose engine is shown so, as a service
+-- a store on a log, as a service; `shows` gives the state of its engine
 abbrev pub log_service : {F : Type 0} → (LogStore F → EngineState) → Service (LogStore F)
 log_service shows = service_in (λ store. home_of store.config) shows (λ store. outlines_in store.store.outlines)
 
@@ -31,11 +31,11 @@ pub record LogSharing (F : Type 0) : Type 0 where
   pub shared : Sharing (LogStore F)
   pub closed : F
 
--- The directories of the log are those that the settled store's settings name.
+-- The directories of the log, by the settings of the settled store.
 abbrev pub home_behind : {F : Type 0} → LogSharing F → LogDirectories
 home_behind x = home_of x.shared.settled.config
 
--- The store was opened, shared and settled, and closed, as the contracts of its calls say.
+-- A store was opened from the files, shared and settled, and closed, as the contracts of these calls say.
 pub record IsShared {F : Type 0} (disk : F → Disk) (tells : F → List ℕ → ℕ → Type 0) (shows : LogStore F → EngineState)
     (x : LogSharing F) : Type 0 where
   pub opens : OpensStore disk tells x.shared.opened.config x.found (shows x.shared.opened)
@@ -43,66 +43,71 @@ pub record IsShared {F : Type 0} (disk : F → Disk) (tells : F → List ℕ →
   pub settles : Settles (log_service shows) x.shared
   pub closes : ClosesStore (shows x.shared.settled) (disk x.closed)
 
--- The files in which a log was left so are opened after a crash, or as they are. There is no CRC collision in them.
+-- The files `found`, which are opened next, are those that the close left, or a crash image of them. There is no CRC
+-- collision in them.
 abbrev pub IsLeftNext : {F : Type 0} (disk : F → Disk) (home : LogDirectories) (cut : CutRound) (closed found : F)
     → IsLeftAmong home (disk closed) (MayFollow cut) → Type 0
 IsLeftNext disk home cut closed found left = IsCrashOf home left.left.1.lies.state (disk closed) (disk found)
     ⊎ ((found ≡ closed) × StandsWithoutChance home left.left.1.lies.state (disk closed))
 
--- The next opening has settings that name the same directories, and opens what the close left. There is no CRC
--- collision, for any log that may be left there.
+-- The next opening `next` has settings that name the same directories as those of `x`. It opens the files that `x`
+-- left, or a crash image of them. There is no CRC collision in them, whichever log may be in these files.
 pub record ComesNext {F : Type 0} (disk : F → Disk) (x next : LogSharing F) : Type 0 where
   pub named : home_of next.shared.opened.config ≡ home_behind x
   pub sound : IsSound (disk next.found)
   pub spares : (cut : CutRound) (left : IsLeftAmong (home_behind x) (disk x.closed) (MayFollow cut))
       → IsLeftNext disk (home_behind x) cut x.closed next.found left
 
--- what follows an opening
+-- What follows the opening `x`. The next opening opens what `x` left, and finds voters up to the cut of `x`. If there
+-- is no next opening, the cut may be any position.
 abbrev pub IsFollowedInLog : {F : Type 0} → (F → Disk) → (LogStore F → EngineState) → LogSharing F → List (LogSharing F) → Type 0
 IsFollowedInLog disk shows x [] = HasPlace (log_service shows) x.shared
 IsFollowedInLog disk shows x (y ∷ ys) = ComesNext disk x y × ShowsPlace (log_service shows) x.shared y.shared.opened
 
--- consecutive openings of a log
+-- in each opening the store was opened, settled and closed; the next opening continues from the files that it left
 abbrev pub AreLogOpenings :
     {F : Type 0} → (F → Disk) → (F → List ℕ → ℕ → Type 0) → (LogStore F → EngineState) → List (LogSharing F) → Type 0
 AreLogOpenings disk tells shows [] = Unit {0}
 AreLogOpenings disk tells shows (x ∷ xs) =
     IsShared disk tells shows x × IsFollowedInLog disk shows x xs × AreLogOpenings disk tells shows xs
 
--- the first of them is of directories in which no log began
+-- the first opening is that of directories without a log
 abbrev pub BeginsBare : {F : Type 0} → (F → Disk) → List (LogSharing F) → Type 0
 BeginsBare disk [] = Unit {0}
 BeginsBare disk (x ∷ xs) = IsSound (disk x.found) × IsBare x.shared.opened.config (disk x.found)
 
--- the stores that threads shared
+-- the openings of the log as openings of its store
 abbrev pub stores_of : {F : Type 0} → List (LogSharing F) → List (Sharing (LogStore F))
 stores_of xs = map (λ x. x.shared) xs
 
--- Voters that never fail explain their journals, one after another, with the places that the next opens show as cuts.
+-- Voters that never fail give exactly the replies in all journals, one after another. The cuts are the positions that
+-- the next opens show.
 abbrev pub LogOpeningsAreExplained :
     {F : Type 0} → (F → Disk) → (F → List ℕ → ℕ → Type 0) → (LogStore F → EngineState) → Type 0
 LogOpeningsAreExplained {F} disk tells shows = (xs : List (LogSharing F)) → BeginsBare disk xs
     → AreLogOpenings disk tells shows xs
     → Explains (all_rounds (sessions_of (stores_of xs))) (all_cuts (sessions_of (stores_of xs)))
 
--- a log rests on a disk, and means voters that pass the test
+-- disk `d` has a log at rest that stores voters for which `P` holds
 abbrev pub RestsMeaning : LogDirectories → Disk → (World → Type 0) → Type 0
 RestsMeaning home d P = (W : World) × P W × (m : LogMap) × IsDurableAs (log_in home) d m × Means m W
 
--- Any crash image under a store means voters that may follow this round, unless there is a CRC collision.
+-- Each crash image under the open store has a log at rest, with voters that are possible after the round `cut`. This
+-- requires that there is no CRC collision in the image.
 abbrev pub ImagesMean : LogDirectories → EngineState → CutRound → Type 0
 ImagesMean home s cut = (known : LeavesAt home s cut)
     × ((image : Disk) → IsSound image → IsImage s.pipes.disk image → SparesStore home s cut known image
     → RestsMeaning home image (MayFollow cut))
 
--- The same of any crash image of its files, after it is closed.
+-- Each crash image of the files of the closed store has a log at rest, with voters that are possible after the round
+-- `cut`. This requires that there is no CRC collision in the image.
 abbrev pub ClosedImagesMean : LogDirectories → Disk → CutRound → Type 0
 ClosedImagesMean home d cut = (left : IsLeftAmong home d (MayFollow cut))
     × ((image : Disk) → IsCrashOf home left.left.1.lies.state d image → RestsMeaning home image (MayFollow cut))
 
--- What settling returns, whether it fails or not. Any crash image of its files, before or after they are closed, means
--- the voters that the store served at its open, after the records with replies. If the store failed at a record, they
--- also took its requests below some place.
+-- A store was settled, whether it had failed or not. Each crash image under it, before it is closed or after, has the
+-- voters that it served at its open, after the records with replies. If it failed in a round, they also took the
+-- requests of this round before some position. This requires that there is no CRC collision in the image.
 abbrev pub SettledStoresMean : {F : Type 0} → (LogStore F → EngineState) → Type 0
 SettledStoresMean {F} shows = (x : Sharing (LogStore F)) (W : World) → Settles (log_service shows) x
     → IsOpenAt (log_service shows) x.opened W

@@ -1,4 +1,4 @@
--- Opening a store over its log succeeds or fails.
+-- How opening a store over its log ends. A store keeps the outline of each voter: the voter without its entries' data.
 use Rattle.std.specs.Prelude.{◌≡◌, ℕ, false, List, None}
 use Rattle.raft_log_fs.specs.Disk.{Disk}
 use Rattle.raft_log_record_base.specs.declared.errors.Error.{Error}
@@ -14,7 +14,7 @@ use Rattle.raft_voter_outline.specs.State.{State}
 use Rattle.raft_voter_recovery.specs.Reading.{IsUnreadFor, ReadsVoters, cause_of}
 use Rattle.raft_voter_recovery.specs.declared.unread.Unread.{Unread}
 
--- the log of these settings was opened as an engine that shows this, and has no block cached
+-- the log of these settings was opened as an engine with the state `s`, which has no block cached
 pub record OpensEngine {F : Type 0} (disk : F → Disk) (tells : F → List ℕ → ℕ → Type 0) (config : Config)
     (old : F) (s : EngineState) : Type 0 where
   pub pipes : LogPipes
@@ -24,7 +24,8 @@ pub record OpensEngine {F : Type 0} (disk : F → Disk) (tells : F → List ℕ 
   pub none : cache.place ≡ None
   pub is : s ≡ shows pipes tables cache
 
--- The voters were read from an opened engine, and these are their outlines. Together they are a store.
+-- The log of these settings was opened, and its voters were read. The store has an engine with the state `t`, and `os`,
+-- the outlines of the voters.
 pub record OpensVoters {F : Type 0} (disk : F → Disk) (tells : F → List ℕ → ℕ → Type 0) (config : Config)
     (old : F) (t : EngineState) (os : ℕ → State) : Type 0 where
   pub engine : EngineState
@@ -32,7 +33,8 @@ pub record OpensVoters {F : Type 0} (disk : F → Disk) (tells : F → List ℕ 
   pub reads : ReadsVoters engine os
   pub stays : StaysButBlock engine t
 
--- Reading the voters from an opened engine failed for this cause, and the engine was closed again.
+-- The log of these settings was opened, but reading its voters failed with `cause`. If the engine hasn't failed, it was
+-- closed.
 pub record ClosesUnread {F : Type 0} (disk : F → Disk) (tells : F → List ℕ → ℕ → Type 0) (config : Config)
     (cause : Unread) (old back : F) : Type 0 where
   pub engine : EngineState
@@ -42,8 +44,9 @@ pub record ClosesUnread {F : Type 0} (disk : F → Disk) (tells : F → List ℕ
   pub stays : StaysButBlock engine after
   pub closes : has_failed after ≡ false → ClosesLog after.pipes (disk back)
 
--- Opening a store fails: opening its log failed with this error, and out of memory has its own cause; or reading its
--- voters failed.
+-- An open of a store failed with `cause`:
+-- - `unopened`: opening its log failed
+-- - `unread`: reading its voters failed
 pub data FailsToOpenVoters {F : Type 0} (disk : F → Disk) (tells : F → List ℕ → ℕ → Type 0) (config : Config)
     (cause : Unread) (old back : F) : Type 0 where
   unopened : (error : Error) → cause ≡ cause_of error

@@ -1,4 +1,4 @@
--- A round of requests, as a store's loop serves it, and how it ends.
+-- A round of requests, as the store's loop serves it one by one, and how the round ends.
 use Rattle.std.specs.Prelude.{◌≡◌, ◌⊎◌, ◌≤◌, ℕ, Bool, false, List, length, slice_get, Some, take}
 use Rattle.raft_log_fs.specs.Causes.{IsLater}
 use Rattle.raft_log_record_base.specs.declared.errors.Error.{Error}
@@ -14,8 +14,9 @@ use Rattle.raft_voter_durability_laws.specs.Standing.{AreOutlines, Keeps}
 use Rattle.raft_voter_durability_laws.specs.Requests.{Broke, TurnedDown}
 use Rattle.raft_voter_durability_laws.specs.Ends.{Answered, GaveUp, Unsynced, Went}
 
--- A round came so far, and the next request was turned down with this error. The disk after the call is no earlier than
--- the one after the request, so a failure of the request is counted in the call.
+-- The first requests of the round `qs` got the replies `told`, and the next request `q` was rejected with an error. The
+-- disk at the end of the call is no earlier than after that request. So a failed file call at the request is counted in
+-- the call.
 pub record TurnsDown (qs : List (ℕ × Request)) (told : List Reply) (q : ℕ × Request) (s t : EngineState) (os : ℕ → State)
     : Type 0 where
   pub wrote : Bool
@@ -27,18 +28,20 @@ pub record TurnsDown (qs : List (ℕ × Request)) (told : List Reply) (q : ℕ �
   pub turned : TurnedDown q error mid next outlines
   pub later : IsLater next.pipes.disk t.pipes.disk
 
--- Why each place is refused: its request is out of range, or it was turned down after those before it.
+-- Each reply `Refused` has a reason. Either its request is out of range; or the request was rejected with an error,
+-- after the requests before it were served.
 abbrev pub AreExcused : List (ℕ × Request) → List Reply → EngineState → EngineState → (ℕ → State) → Type 0
 AreExcused qs told s t os = (place : ℕ) (q : ℕ × Request) → slice_get told place ≡ Some Refused
     → slice_get qs place ≡ Some q → (in_range q.1 ≡ false) ⊎ TurnsDown qs (take place told) q s t os
 
--- a round came so far, and each refused place has a cause
+-- the first requests of the round `qs` got the replies `told`, and each reply `Refused` has a reason
 pub record Passes (qs : List (ℕ × Request)) (told : List Reply) (wrote : Bool) (s t : EngineState) (os us : ℕ → State)
     : Type 0 where
   pub went : Went qs told wrote s t os us
   pub excused : AreExcused qs told s t os
 
--- A round came as far as one request, at which the engine failed.
+-- The first requests of the round `qs` got the replies `told`, each `Refused` for a reason. The engine failed at the
+-- next request.
 pub record StopsAt (qs : List (ℕ × Request)) (told : List Reply) (s t : EngineState) (os : ℕ → State) : Type 0 where
   pub wrote : Bool
   pub mid : EngineState
@@ -48,13 +51,14 @@ pub record StopsAt (qs : List (ℕ × Request)) (told : List Reply) (s t : Engin
   pub at : slice_get qs (length told) ≡ Some request
   pub broke : Broke request mid t outlines
 
--- the round was served, for any voters that the engine kept and that had these outlines
+-- for all voters that the log stored before, with the outlines `os`, the round ended with the replies `told`
 abbrev pub RoundIsAnswered : List (ℕ × Request) → List Reply → EngineState → EngineState → (ℕ → State) → (ℕ → State) → Type 0
 RoundIsAnswered qs told s t os us =
     (home : LogDirectories) (V : World) → Keeps home s V → AreOutlines os V → Answered home V qs told s t us
 
--- The round was cut off, for any voters that the engine kept and that had these outlines: it was abandoned at a
--- request, or its sync failed. The refused places are those of its replies, each for a cause.
+-- The round was cut off. For all voters that the log stored before, with the outlines `os`, either the engine failed at
+-- a request, or the sync at the end failed. `refused` are the positions of the replies `Refused`, and each has a
+-- reason.
 pub record CutsRoundOff (qs : List (ℕ × Request)) (refused : List ℕ) (s t : EngineState) (os : ℕ → State) : Type 0 where
   pub told : List Reply
   pub few : length told ≤ length qs
@@ -63,7 +67,8 @@ pub record CutsRoundOff (qs : List (ℕ × Request)) (refused : List ℕ) (s t :
   pub left : (home : LogDirectories) (V : World) → Keeps home s V → AreOutlines os V
       → GaveUp home V qs told s t ⊎ Unsynced home V qs told s t
 
--- one request was served or turned down: a round that came so far continues after it
+-- If a round got as far as the request `q`, with the replies `told`, it gets past `q`, with the replies `now`. `wrote`
+-- is false only if the round wrote no record before `q`; `more` is false only if it wrote none up to and with `q`.
 abbrev pub GoesOn : ℕ × Request → Bool → Bool → List Reply → List Reply → EngineState → EngineState → (ℕ → State) → (ℕ → State) → Type 0
 GoesOn q wrote more told now t u us ws = (qs : List (ℕ × Request)) (s : EngineState) (os : ℕ → State)
     → Passes qs told wrote s t os us → slice_get qs (length told) ≡ Some q → Passes qs now more s u os ws

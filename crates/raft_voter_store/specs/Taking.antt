@@ -1,4 +1,4 @@
--- Failing to serve one request.
+-- A request that wasn't served.
 use Rattle.std.specs.Prelude.{◌≡◌, ◌⊎◌, ℕ}
 use Rattle.raft_log_record_base.specs.declared.errors.Error.{Error}
 use Rattle.raft_log_record_base.specs.declared.errors.Error.TheVariants as errors
@@ -7,7 +7,8 @@ use Rattle.raft_voter_messages.specs.declared.request.Request.{Request}
 use Rattle.raft_voter_outline.specs.State.{State}
 use Rattle.raft_voter_durability_laws.specs.Requests.{Broke, TurnedDown}
 
--- a request wasn't served, and no outline changed: it was turned down, or the engine failed at it
+-- The request `q` wasn't served, and no outline changed. Either it was rejected with `error`; or the engine failed at
+-- it, and the error is `Failed`.
 abbrev pub FailsToTake : ℕ × Request → Error → EngineState → EngineState → (ℕ → State) → (ℕ → State) → Type 0
 FailsToTake q error s t os us =
     (us ≡ os) × (TurnedDown q error s t os ⊎ ((error ≡ errors.Failed) × Broke q s t os))

@@ -1,4 +1,4 @@
--- Writing a change.
+-- Writing the change that a request makes to its voter.
 use Rattle.std.specs.Prelude.{◌≡◌, ◌<◌, ◌^◌, ℕ, false}
 use Rattle.raft_log_record_base.specs.declared.errors.Error.{Error}
 use Rattle.raft_log_record_base.specs.declared.errors.Error.TheVariants as errors
@@ -10,14 +10,16 @@ use Rattle.raft_voter_messages.specs.declared.request.Request.{Request}
 use Rattle.raft_voter_outline.specs.declared.outline.decision.Change.{Change}
 use Rattle.raft_voter_durability_laws.specs.Requests.{SaysChange}
 
--- what was decided for a request of a group was written in a batch that says it
+-- the change `c` for the request `q` was encoded in a batch, which was written without a sync
 pub record WritesChange (q : ℕ × Request) (c : Change) (s t : EngineState) : Type 0 where
   pub batch : Batch
   pub len : ℕ
   pub says : SaysChange q.0 q.1 c batch
   pub writes : WritesBytes batch false len s t
 
--- Writing it failed: out of memory before; or the engine failed to write a batch that says it.
+-- Writing the change `c` for the request `q` failed with `error`:
+-- - `unsaid`: memory ran out before the write, and nothing changed
+-- - `unwritten`: the write of the batch that encodes it failed, though its record has fewer than 2^56 bytes
 pub data FailsToWriteChange (q : ℕ × Request) (c : Change) (error : Error) (s t : EngineState) : Type 0 where
   unsaid : error ≡ errors.Memory → t ≡ s → FailsToWriteChange q c error s t
   unwritten : (batch : Batch) → SaysChange q.0 q.1 c batch → record_len batch.items batch.entries < 2 ^ 56

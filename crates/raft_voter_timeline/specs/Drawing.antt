@@ -1,6 +1,7 @@
 -- The picture of a run.
-use Rattle.std.specs.Prelude.{◌≡◌, ℕ, List, map}
+use Rattle.std.specs.Prelude.{◌≡◌, ℕ, Bool, List, map}
 use Rattle.raft_voter_messages.specs.declared.round.Round.{Round}
+use Rattle.raft_voter.specs.Rounds.{fresh_world}
 use Rattle.raft_voter.specs.Service.{Service}
 use Rattle.raft_voter_world.specs.declared.event.Event.{Event}
 use Rattle.raft_voter_world.specs.declared.report.WorldReport.{WorldReport}
@@ -10,11 +11,15 @@ use Rattle.raft_voter_timeline.specs.declared.line.Line.{Line}
 use Rattle.raft_voter_timeline.specs.declared.line.Mark.{Mark}
 use Rattle.raft_voter_timeline.specs.Marks.{all_marks, event_mark, marks_of}
 use Rattle.raft_voter_timeline.specs.Picture.{ShowsLines}
+use Rattle.raft_voter_timeline.specs.Writes.{AreWrites}
 
--- a picture of events with these marks and of their rounds' results: it shows lines with exactly the marks of both
+-- A picture of events with these marks and of their rounds' results: it shows lines with exactly the marks of both.
+-- Which rounds wrote is what fresh voters would write that take what the rounds took.
 pub record DrawsRounds (events : List Mark) (rounds : List Round) (cuts picture : List ℕ) : Type 0 where
   pub lines : List Line
-  pub marked : marks_of lines ≡ all_marks events rounds cuts
+  pub writes : List Bool
+  pub wrote : AreWrites fresh_world rounds cuts writes
+  pub marked : marks_of lines ≡ all_marks events rounds writes cuts
   pub shown : ShowsLines lines picture
 
 -- a picture of a run of these events from these files on, with the rounds and the cuts of the run's report

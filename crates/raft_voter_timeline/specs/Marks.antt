@@ -23,6 +23,7 @@ mark_name marks.Taken = codes "taken"
 mark_name marks.Refused = codes "refused"
 mark_name marks.Lost = codes "lost"
 mark_name marks.Durable = codes "durable"
+mark_name marks.Unchanged = codes "unchanged"
 mark_name marks.Cut = codes "cut"
 
 -- the marks of lines, from top to bottom
@@ -56,16 +57,19 @@ abbrev pub head_mark : Outcome → Mark
 head_mark (outcomes.Answered replies) = marks.Answered
 head_mark outcomes.Cut = marks.CutOff
 
--- the end of what a round took: all of it is durable, or its cut is here
-abbrev pub end_mark : Outcome → Mark
-end_mark (outcomes.Answered replies) = marks.Durable
-end_mark outcomes.Cut = marks.Cut
+-- The end of what a round took. If the round got replies, the mark says whether it wrote, and so synced before them. If
+-- it was cut off, its cut is here.
+abbrev pub end_mark : Outcome → Bool → Mark
+end_mark (outcomes.Answered replies) true = marks.Durable
+end_mark (outcomes.Answered replies) false = marks.Unchanged
+end_mark outcomes.Cut wrote = marks.Cut
 
--- a round that was taken up to a place: how it ended, the requests before that place, their end, and the lost requests
-abbrev pub round_marks : Round → ℕ → List Mark
-round_marks round up_to =
+-- a round that was taken up to a place, and wrote or didn't: how it ended, the requests before that place, their end,
+-- and the lost requests
+abbrev pub round_marks : Round → Bool → ℕ → List Mark
+round_marks round wrote up_to =
     head_mark round.outcome ∷ fates round.refused marks.Taken 0 (take up_to round.requests)
-    ++ end_mark round.outcome ∷ fates round.refused marks.Lost up_to (drop up_to round.requests)
+    ++ end_mark round.outcome wrote ∷ fates round.refused marks.Lost up_to (drop up_to round.requests)
 
 -- the place up to which a round with this outcome and this many requests was taken: all of it, or up to the next cut
 abbrev pub place_of : Outcome → List ℕ → ℕ → ℕ
@@ -88,9 +92,9 @@ abbrev pub cuts_behind : Round → List ℕ → List ℕ
 cuts_behind round cuts = behind_outcome round.outcome cuts
 
 -- The marks of a picture, from top to bottom: one for each event, in order. In place of a round's event come the marks
--- of the next round that was served, with the next of the cuts.
-abbrev pub all_marks : List Mark → List Round → List ℕ → List Mark
-all_marks [] rounds cuts = []
-all_marks (marks.Round ∷ ms) (round ∷ rounds) cuts =
-    round_marks round (taken_up_to round cuts) ++ all_marks ms rounds (cuts_behind round cuts)
-all_marks (mark ∷ ms) rounds cuts = mark ∷ all_marks ms rounds cuts
+-- of the next round that was served, with whether it wrote, and with the next of the cuts.
+abbrev pub all_marks : List Mark → List Round → List Bool → List ℕ → List Mark
+all_marks [] rounds writes cuts = []
+all_marks (marks.Round ∷ ms) (round ∷ rounds) (wrote ∷ writes) cuts =
+    round_marks round wrote (taken_up_to round cuts) ++ all_marks ms rounds writes (cuts_behind round cuts)
+all_marks (mark ∷ ms) rounds writes cuts = mark ∷ all_marks ms rounds writes cuts

@@ -1,5 +1,5 @@
 -- Which rounds write.
-use Rattle.std.specs.Prelude.{◌≡◌, ◌≢◌, ◌⊎◌, ◌==◌, ℕ, Bool, false, List, [], ◌∷◌}
+use Rattle.std.specs.Prelude.{◌≡◌, ◌≢◌, ◌⊎◌, ◌==◌, ◌||◌, ℕ, Bool, false, if◌then◌else◌, List, [], ◌∷◌}
 use Rattle.std.specs.Bool.{Decides}
 use Rattle.raft_voter_messages.specs.declared.request.Request.{Request}
 use Rattle.raft_voter_messages.specs.declared.round.Round.{Round}
@@ -33,6 +33,13 @@ AreOutlines outlines W = (g : ℕ) → outlines g ≡ without_bytes (W g)
 abbrev pub Takes : (ℕ → State) → (ℕ → State) → List (ℕ × Request) → Bool → Type 0
 Takes old new qs wrote =
     (W : World) → AreOutlines old W → Decides wrote (Changes W qs) × AreOutlines new (after W qs)
+
+-- outlines of voters become those after a request, if it is taken; `now` says whether this or an earlier request
+-- changed a voter
+pub record TakesIf (old new : ℕ → State) (q : ℕ × Request) (taken wrote now : Bool) : Type 0 where
+  pub changed : Bool
+  pub takes : Takes old new (if taken then q ∷ [] else []) changed
+  pub now_is : now ≡ (changed || wrote)
 
 -- one group's outline takes a request, and the other groups' outlines are unchanged
 pub record StepsOutlines (old new : ℕ → State) (q : ℕ × Request) : Type 0 where

@@ -1,11 +1,11 @@
 //! Which rounds write, decided by the outlines of voters that take what the rounds took.
-ghost use Rattle.std.specs.Prelude.{◌≡◌, ◌∷◌, [], IfOk, None, OnOk};
-ghost use Rattle.raft_voter.specs.Rounds.{fresh_world, taken_below};
+ghost use Rattle.std.specs.Prelude.{◌≡◌, ◌&&◌, ◌∷◌, [], IfOk, nat_lt, not, OnOk};
+ghost use Rattle.raft_voter.specs.Rounds.{fresh_world, is_among, taken_from};
 ghost use Rattle.raft_voter_outline.specs.Decisions.{OutlineBecomes};
 ghost use Rattle.raft_voter_outline.specs.Kept.{outlines_in};
 ghost use Rattle.raft_voter_outline.specs.Outlines.{ChangesEach};
 ghost use Rattle.raft_voter_outline.specs.State.{fresh};
-ghost use Rattle.raft_voter_timeline.specs.Writes.{AreWrites, StepsOutlines, Takes};
+ghost use Rattle.raft_voter_timeline.specs.Writes.{AreWrites, StepsOutlines, Takes, TakesIf};
 
 use crate::rounds::{cuts_behind, taken_up_to};
 use raft_voter_messages::{Memory, Request, Round};
@@ -24,8 +24,10 @@ pub fn writes_of(alloc: Global, rounds: &[Round], cuts: &[usize]) -> Result<Vec<
     let mut cuts = cuts;
     let mut writes = Vec::new(alloc);
     for round in rounds {
+        let requests = round.requests.as_slice();
+        let refused = round.refused.as_slice();
         let up_to = taken_up_to(round, cuts);
-        writes.push(take_round(alloc, &mut outlines, round, up_to)?)?;
+        writes.push(take_all(alloc, &mut outlines, requests, refused, up_to)?)?;
         cuts = cuts_behind(round, cuts);
     }
     Ok(writes)
@@ -33,21 +35,48 @@ pub fn writes_of(alloc: Global, rounds: &[Round], cuts: &[usize]) -> Result<Vec<
 
 /// The outlines take a round's requests up to this place, except those that were refused. Returns whether a voter
 /// changed.
-fn take_round(
+fn take_all(
     alloc: Global,
     outlines: &mut Outlines,
-    round: &Round,
+    requests: &[(u64, Request)],
+    refused: &[usize],
     up_to: usize,
 ) -> Result<bool, Memory>
     ensures { IfOk result (λ wrote. Takes (outlines_in outlines.old) (outlines_in outlines.new)
-        (taken_below round.now up_to) wrote) }
+        (taken_from 0 up_to refused.now requests.now) wrote) }
 {
     let mut wrote = false;
-    for (place, (group, request)) in round.requests.as_slice().iter().enumerate() {
-        if place < up_to && !round.refused.as_slice().contains(&place) {
-            let more = take(alloc, outlines, *group, request)?;
-            wrote = more || wrote;
-        }
+    for (place, (group, request)) in requests.iter().enumerate() {
+        let taken = is_taken(place, up_to, refused);
+        wrote = take_if(alloc, outlines, *group, request, taken, wrote)?;
+    }
+    Ok(wrote)
+}
+
+/// Whether a round took the request at a place: it is below the end of what was taken, and wasn't refused.
+fn is_taken(place: usize, up_to: usize, refused: &[usize]) -> bool
+    ensures { result ≡ (nat_lt place up_to && not (is_among refused.now place)) }
+{
+    place < up_to && !refused.contains(&place)
+}
+
+/// A group's outline takes a request, if its round took it. Returns whether a voter has changed in the round by then.
+fn take_if(
+    alloc: Global,
+    outlines: &mut Outlines,
+    group: u64,
+    request: &Request,
+    taken: bool,
+    wrote: bool,
+) -> Result<bool, Memory>
+    ensures { IfOk result (λ now. TakesIf (outlines_in outlines.old) (outlines_in outlines.new)
+        (group, request.now) taken wrote now) }
+{
+    if !taken {
+        return Ok(wrote);
+    }
+    if take(alloc, outlines, group, request)? {
+        return Ok(true);
     }
     Ok(wrote)
 }
@@ -62,7 +91,7 @@ fn take(
     ensures { IfOk result (λ wrote. Takes (outlines_in outlines.old) (outlines_in outlines.new)
         ((group, request.now) ∷ []) wrote) }
 {
-    let Decision { answer: _, change } = outlines.decide(group, request);
+    let Decision { answer: _answer, change } = outlines.decide(group, request);
     let Some(change) = change else {
         return Ok(false);
     };

@@ -4,7 +4,6 @@ use Rattle.std.specs.Prelude.{◌⊎◌, ◌&&◌, ◌+◌, OnSome, drop, nat_lt
 use Rattle.std.specs.Borrow.{MutBor}
 use Rattle.std.specs.Bool.{Decides}
 use Rattle.std.proofs.lemmas.Bool.{cases_Bool}
-use Rattle.std.proofs.lemmas.Grind.{common_steps}
 use Rattle.raft_voter_messages.specs.declared.request.Request.{Request}
 use Rattle.raft_voter_messages.specs.declared.round.Round.{Round}
 use Rattle.raft_voter_outline.specs.declared.outline.decision.Change.{Change}
@@ -17,7 +16,7 @@ use Rattle.raft_voter_outline.specs.Rules.{next}
 use Rattle.raft_voter_outline.specs.State.{State, fresh}
 use Rattle.raft_voter.specs.Rounds.{World, after, after_one, fresh_world, is_among, taken_below, taken_from}
 use Rattle.raft_voter_timeline.specs.Marks.{cuts_behind, taken_up_to}
-use Rattle.raft_voter_timeline.specs.Writes.{AreOutlines, AreWrites, Changes, StepsOutlines, Takes, TakesIf}
+use Rattle.raft_voter_timeline.specs.Writes.{AreOutlines, AreWrites, StepsOutlines, Takes, TakesIf}
 
 -- One request.
 

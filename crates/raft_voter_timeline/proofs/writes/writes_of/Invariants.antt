@@ -1,4 +1,4 @@
-use Rattle.std.proofs.Common.{◌≡◌, ◌++◌, Bool, List, drop}
+use Rattle.std.proofs.Common.{◌++◌, Bool, List, drop}
 use Rattle.raft_voter.specs.Rounds.{World, fresh_world}
 use Rattle.raft_voter_outline.specs.Kept.{outlines_in}
 use Rattle.raft_voter_timeline.specs.Writes.{AreOutlines, AreWrites}

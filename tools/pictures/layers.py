@@ -1,121 +1,145 @@
 #!/usr/bin/env python3
-"""tools/pictures/layers.py: draws docs/pictures/layers.svg, the columns and layers of crates. Refused where a library
-or a program of crates.txt isn't in it; names that crates.txt doesn't have are told."""
+"""tools/pictures/layers.py [--check]: draws docs/pictures/layers.svg, the columns and layers of crates; with `--check` it
+writes nothing, and fails if the picture that is there differs from what it would draw.
+
+Each library and program of crates.txt is in one box, except those of tests and cases. It fails if one is missing or drawn
+twice, if crates.txt lacks a drawn name, and if a crate uses one of a box that begins higher.
+"""
 import os
+import sys
 
 from shapes import BLUE, GREY, INK, ROOT, Picture, width_of
 
-# x, y, width, height, fill, title, what it is, prefix of the crates' names, these, what the layers above cite
+WIDTH, HEIGHT = 1080, 898
+# sizes of type, and how far apart lines are
+TITLE, WORDS, CRATE, STEP = 14, 11.5, 12, 17
+# x, y, width, height, fill, title, what it is, prefix of the crates' names, these, what crates above cite
 BOXES = [
-    (16, 50, 384, 96, "#ffffff", "Sessions", "session text in, judged transcript out", "",
-     ["raftvoters", "raftvoters_refused", "raft_voter_program"], "WritesSession"),
-    (16, 154, 384, 92, "#f6e3f0", "World", "what happens to a store and its disk; many threads", "raft_voter_",
-     ["world", "session", "run", "log", "shared", "shared_log"], "run_world, openings_are_explained"),
-    (408, 154, 254, 92, "#ffffff", "A node", "voters over a real directory", "",
-     ["raftnode", "raft_voter_node"], None),
-    (16, 254, 646, 92, "#fbe4e4", "Store", "the voters of many groups on one log; one sync a round", "raft_voter_",
-     ["store", "opening_laws", "reading", "standing_laws", "outlines", "records", "record_laws", "meaning_laws"],
-     "RoundIsAnswered, RoundService"),
-    (670, 202, 394, 144, "#ffffff", "Programs on a log", "over an engine, in memory or in a directory",
-     "raft_log_",
-     [("ten_lines", "a key saved and read again"), ("append_lines", "lines of input, kept"),
-      ("ctl", "dump, check, stat, fork"), ("operator", "its library")], None),
-    (200, 354, 662, 80, "#dbe9fb", "Engine", "write, sync, read, purge, close: each is a step of its log", "raft_log_",
-     ["engine", "engine_core", "engine_laws"], "Holds, WritesBytes"),
-    (200, 442, 326, 92, "#e4f0fd", "Purges", "copies are written before files go", "raft_log_",
-     ["purge", "purge_rules", "purge_parts"], "HoldsSettled"),
-    (534, 442, 328, 92, "#e4f0fd", "Opens", "files found, read, cut; closed logs copied", "raft_log_",
-     ["open_scan", "open_found", "open_builder", "open_directory", "open_laws", "closed"], "OpensDirectory"),
-    (200, 542, 326, 108, "#e2f4ee", "Tables", "where each group's entries and values stand", "raft_log_table_",
-     ["runs", "lists", "one", "all", "segments", "contexts"], "IsReadyFor, replay_segments"),
-    (534, 542, 328, 108, "#e3f1f7", "Files of a log", "two queues: append, sync, rotate, purge", "raft_log_file_",
-     ["format", "settings", "laws", "writer", "reader", "queue", "layout", "pipe", "pair", "blocks", "listeners"],
-     "PipeLog"),
-    (16, 354, 176, 296, "#ece6f8", "Voter", "Raft's receiver; its judge", "",
-     ["raft_voter", "raft_voter_outline", "raft_voter_messages", "raft_voter_plain"], "Voter::step, judge"),
-    (16, 658, 176, 108, "#f3f0fa", "Lists", "under voter and records", "", ["raft_lists"], "Items"),
-    (200, 658, 190, 108, "#fdf5d7", "Meaning", "no file, no byte", "raft_log_",
-     ["model_laws", "machine_laws", "directory_laws"], "IsAt"),
-    (398, 658, 216, 108, "#e5f5e0", "Records", "bytes", "raft_log_record_",
-     ["checksum", "base", "items", "frames", "marks", "lists", "batches"], "records_are_read_back"),
-    (622, 658, 442, 108, "#eaeef2", "File systems", "what is asked of one, what a crash may leave, and one in memory",
-     "", ["raft_log_fs", "raft_log_fs_state", "raft_log_fs_memory"], "FileSystem, IsImage"),
-    (870, 354, 194, 296, "#fdebd8", "Real directories", "a FileSystem over real files", "",
-     ["raft_log_fs_os", "raft_log_fs_os"], "held_by"),
+    (16, 48, 430, 86, "#ffffff", "Sessions", "session text in, judged transcript out", "",
+     ["raftvoters", "raftvoters_timeline", "raft_voter_program"], "WritesSession"),
+    (454, 48, 256, 86, "#ffffff", "A node", "voters over a real directory", "",
+     ["raftnode", "raft_voter_node"], ""),
+    (718, 48, 346, 86, "#ffffff", "Proved callers", "short examples, with contracts", "",
+     ["raft_examples", "raft_crash_examples", "raft_log_file_uses"], ""),
+    (16, 142, 694, 86, "#f6e3f0", "World", "events on a store and its disk; threads that share a store", "raft_voter_",
+     ["world", "session", "timeline", "log", "shared", "shared_log"], "run_world, openings_are_explained"),
+    (16, 236, 694, 86, "#fbe4e4", "Store", "the voters of many groups on one log; one sync a round", "raft_voter_",
+     ["store", "recovery", "durability_laws", "records"], "RoundIsAnswered, CutsRoundOff"),
+    (718, 142, 346, 180, "#ffffff", "Programs on a log", "over an engine, in memory or in a directory", "raft_log_",
+     [("ctl", "dump, check, stat, fork, unpad"), ("operator", "its library"),
+      ("ten_lines", "saves a key, and reads it"), ("append_lines", "keeps lines of input")], ""),
+    (16, 330, 180, 434, "#ece6f8", "Voter", "the receiver of Raft", "raft_",
+     ["voter", "voter_outline", "voter_messages", "voter_plain"], "Voter::step, judge, one_vote_per_term,"
+     " terms_never_fall, matched_entries_stand, repeat_is_idempotent, group_isolation"),
+    (204, 330, 652, 86, "#dbe9fb", "Engine", "write, sync, read, purge, close", "raft_log_",
+     ["engine", "engine_core"], "LogEngine::write, LogEngine::purge_expired_files"),
+    (204, 424, 276, 103, "#e4f0fd", "Purge", "copies what is live, then deletes files", "raft_log_",
+     ["purge", "purge_policy", "purge_copy"], "PurgesAndCounts"),
+    (488, 424, 368, 103, "#e4f0fd", "Open", "recovers files; checks and forks logs", "raft_log_",
+     ["recovery_scan", "recovery_read", "recovery", "open", "recovery_laws", "offline", "inspection"],
+     "OpensDirectory, crashed_engines_open"),
+    (204, 535, 652, 86, "#eef5fd", "Laws of an engine", "which map an engine represents, and what each call does to it",
+     "raft_log_", ["engine_laws"], "Represents, IsRecoverableAs, WritesBytes"),
+    (204, 629, 276, 135, "#e2f4ee", "Tables", "where entries and values are", "raft_log_",
+     ["extents", "memtable_index", "memtable", "memtables", "replay", "replay_context", "tables"],
+     "IsReadyFor, replay_segments"),
+    (488, 629, 368, 135, "#e3f1f7", "Files of a log", "two queues: append, sync, rotate, delete", "raft_log_",
+     ["file_format", "file_settings", "file_writer", "file_reader", "active_file", "file_pipe", "dual_pipes",
+      "block_cache", "file_listeners", "files"], "PipeLog"),
+    (864, 330, 200, 434, "#fdebd8", "Directories", "real files", "raft_log_",
+     ["fs_os", "fs_traced", "directory_copies"], "DirectoryFileSystem"),
+    (16, 772, 180, 118, "#f3f0fa", "Lists", "seen as their elements", "", ["raft_lists"], "Items"),
+    (204, 772, 216, 118, "#fdf5d7", "Meaning", "no file, no byte", "raft_log_",
+     ["model_laws", "machine_laws"], "IsAt"),
+    (428, 772, 262, 118, "#e5f5e0", "Records", "bytes of batches", "raft_log_",
+     ["record_checksum", "record_base", "record_items", "record_frames", "record_batches", "records"],
+     "records_are_read_back"),
+    (698, 772, 366, 118, "#eaeef2", "File systems", "calls, crash images; one in memory", "raft_log_",
+     ["fs", "fs_state", "fs_memory"], "FileSystem, IsImage"),
 ]
-# crates that hand on others, and those beside the columns
-FACES = ["raft_log_records", "raft_log_tables", "raft_log_files"]
-BESIDE = ["_tests", "_uses", "_player"]
+# crates that are in no box: those of tests, of cases, and of the commands that cases have
+TESTS = ("raft_cases", "_tests", "_cases", "_commands")
+# words outside the boxes' own lines: x, y, colour, lines
+NOTES = [
+    (874, 448, GREY, ["An open locks the", "directory until the file", "system is dropped."]),
+    (880, 684, INK, ["Trusted: the operating", "system keeps what it", "synced. Details are on", "the page of fs_os."]),
+]
 
 
 def draw_box(picture, box):
     """A box with its title, what it is, its crates and what is cited of it."""
     x, y, w, h, fill, title, what, prefix, names, cited = box
     picture.box(x, y, w, h, fill)
-    picture.text(x + 10, y + 18, title, 13, bold=True, room=w - 20)
+    picture.text(x + 10, y + 20, title, TITLE, bold=True, room=w - 20)
     if prefix:
-        room = w - 26 - width_of(title, 13, bold=True)
-        picture.text(x + w - 10, y + 17, prefix + "..", 9.5, GREY, name="name", room=room, end=True)
-    picture.text(x + 10, y + 34, what, 10.5, GREY, room=w - 20)
-    at = y + 53
-    for name in names if isinstance(names[0], tuple) else []:
-        picture.text(x + 10, at, name[0], 10.5, name="crate")
-        picture.text(x + 110, at, name[1], 10.5, GREY, room=w - 120)
-        at += 17
-    if not isinstance(names[0], tuple):
-        at = picture.names(x + 10, at, names, w - 20, 10.5, kind="crate")
+        room = w - 26 - width_of(title, TITLE, bold=True)
+        picture.text(x + w - 10, y + 19, prefix + "..", 10.5, GREY, name="front", room=room, end=True)
+    picture.text(x + 10, y + 38, what, WORDS, GREY, room=w - 20)
+    at = y + 58
+    if isinstance(names[0], tuple):
+        for name, words in names:
+            picture.text(x + 10, at, name, CRATE, name="crate")
+            picture.text(x + 112, at, words, WORDS, GREY, room=w - 122)
+            at += STEP
+    else:
+        at = picture.names(x + 10, at, names, w - 20, CRATE, step=STEP, kind="crate")
     if cited:
-        picture.text(x + 10, at + 1, cited, 10.5, BLUE, name="name", room=w - 20)
-    if at + (5 if cited else -11) > y + h:
+        at = picture.names(x + 10, at + 1, cited.split(", "), w - 20, 11.5, BLUE, step=STEP)
+    if at - STEP + 5 > y + h:
         raise SystemExit(f"no room in '{title}'")
 
 
-def missing(listed, drawn):
-    """The crates that should be drawn and aren't."""
-    beside = [name for name in listed if any(name.endswith(end) for end in BESIDE)]
-    return sorted(set(listed) - set(drawn) - set(beside) - set(FACES))
-
-
-# words beside the boxes' own: x, y, how far apart, colour, lines
-NOTES = [
-    (880, 478, 16, GREY, ["locked while it is open;", "each change is made of", "the real files too, and",
-                          "noted in a trace"]),
-    (886, 584, 16, INK, ["trusted: the operating", "system keeps what a sync", "was answered for; more",
-                         "on the crate's page"]),
-    (26, 492, 16, GREY, ["one vote a term;", "terms never fall;", "matched entries stand;", "a repeated request gets",
-                         "the same reply;", "no group sees another"]),
-    (670, 70, 16, GREY, ["Black: crates; the front of their names stands in the corner."]),
-    (670, 90, 16, BLUE, ["Blue: contracts and laws that the layers above cite."]),
-    (670, 110, 16, GREY, ["Three faces hand on a column: raft_log_records,", "raft_log_tables, raft_log_files.",
-                          "The fourth, raft_log_engine, hands on all of the log.",
-                          "Beside the columns: tests (.._tests), proved callers",
-                          "(.._uses), players of scripts (.._player)."]),
-]
-
-
-def draw_notes(picture):
-    """The words beside the boxes' own."""
-    picture.box(878, 568, 178, 74, "#ffffff")
-    for x, y, step, ink, lines in NOTES:
+def draw(boxes):
+    """The whole picture."""
+    picture = Picture(WIDTH, HEIGHT + 84)
+    picture.text(16, 30, "The crates: a box uses those below and beside it, none above", 15, bold=True)
+    for box in boxes:
+        draw_box(picture, box)
+    picture.box(872, 662, 184, 94, "#ffffff")
+    for x, y, ink, lines in NOTES:
         for line, words in enumerate(lines):
-            picture.text(x, y + step * line, words, 10.5, ink, room=1064 - x)
+            picture.text(x, y + STEP * line, words, WORDS, ink, room=1056 - x)
+    at = HEIGHT + 18
+    picture.text(16, at, "Black: the crates. A box names the front of their names in its corner.", WORDS, room=1048)
+    picture.text(16, at + STEP, "Blue: the main types, calls, contracts and laws of a box.", WORDS, BLUE, room=1048)
+    faces = "The crates records, tables, files and engine of raft_log_.. only re-export crates below them."
+    picture.text(16, at + 2 * STEP, faces, WORDS, GREY, room=1048)
+    picture.text(16, at + 3 * STEP, "Not drawn: crates of tests and of cases.", WORDS, GREY, room=1048)
+    return picture
+
+
+def listed():
+    """The crates of crates.txt, each with those that it uses."""
+    with open(os.path.join(ROOT, "crates.txt"), encoding="utf-8") as lines:
+        heads = [line.partition(":") for line in lines if ":" in line and line[0] != "#"]
+    return {head.split()[0]: rest.split() for head, _, rest in heads}
+
+
+def check_boxes(boxes, crates):
+    """Fails unless the boxes have the crates of the list, each once, and none uses one of a box that begins higher."""
+    drawn = [(box[7] + (name if isinstance(name, str) else name[0]), box[1]) for box in boxes for name in box[8]]
+    tops = dict(drawn)
+    names = [name for name, _ in drawn]
+    wrong = [f"not in crates.txt: {name}" for name in sorted(set(names) - set(crates))]
+    wrong += [f"in two boxes: {name}" for name in sorted(set(names)) if names.count(name) > 1]
+    wrong += [f"in no box: {name}" for name in sorted(set(crates) - set(names)) if not name.endswith(TESTS)]
+    wrong += [f"drawn as a crate of tests: {name}" for name in sorted(set(names)) if name.endswith(TESTS)]
+    wrong += [f"{name} uses {used}, which is drawn above it" for name in sorted(set(names) & set(crates)) for used in crates[name] if used in tops and tops[used] < tops[name]]
+    if wrong:
+        raise SystemExit("\n".join(wrong))
 
 
 def main():
-    """Draws the picture."""
-    picture = Picture(1080, 782)
-    picture.text(16, 32, "The crates: a box stands on those below it, and knows nothing of those above", 15, bold=True)
-    for box in BOXES:
-        draw_box(picture, box)
-    draw_notes(picture)
-    with open(os.path.join(ROOT, "crates.txt")) as lines:
-        listed = [line.split()[0].strip(":") for line in lines if ":" in line and line[0] != "#"]
-    drawn = [box[7] + (name if isinstance(name, str) else name[0]) for box in BOXES for name in box[8]]
-    for name in sorted(set(drawn) - set(listed)):
-        print(f"not in crates.txt: {name}")
-    if missing(listed, drawn):
-        raise SystemExit(f"not drawn: {missing(listed, drawn)}")
-    picture.save("layers.svg")
+    """Draws the picture, or checks the one that is there."""
+    check_boxes(BOXES, listed())
+    picture = draw(BOXES)
+    if sys.argv[1:] == ["--check"]:
+        if not picture.is_saved("layers.svg"):
+            raise SystemExit("docs/pictures/layers.svg differs from what tools/pictures/layers.py draws: run it")
+    elif sys.argv[1:]:
+        raise SystemExit("usage: tools/pictures/layers.py [--check]")
+    else:
+        picture.save("layers.svg")
 
 
 main()

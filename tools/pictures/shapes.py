@@ -14,7 +14,7 @@ NARROW, WIDE, NAME = 0.36, 0.86, 0.603
 
 
 def width_of(text, size, name=False, bold=False):
-    """About how wide a text is, and no less."""
+    """About how wide a text is, at least."""
     if name:
         return NAME * size * len(text)
     letters = sum(NARROW if c in " ijl.,:;'|!()" else WIDE if c in "mwMWQO" else 0.64 for c in text)
@@ -42,7 +42,7 @@ class Picture:
         self.parts.append(f'<text x="{x}" y="{y}" font-size="{size}" fill="{ink}" {kind}{more}>{escape(text)}</text>')
 
     def names(self, x, y, names, room, size=11, ink=INK, step=15, kind="name"):
-        """Names one after another, in as many lines as they need; the answer is where the next line stands."""
+        """Names one after another, in as many lines as they need; returns where the next line goes."""
         line = ""
         for name in names:
             longer = f"{line} · {name}" if line else name
@@ -62,9 +62,21 @@ class Picture:
         points = f"{to_x},{to_y} {left[0]},{left[1]} {right[0]},{right[1]}"
         self.parts.append(f'<polygon points="{points}" fill="{ink}"/>')
 
-    def save(self, file):
-        """Writes the picture to docs/pictures."""
+    def svg(self):
+        """The picture's text."""
         head = f'<svg xmlns="http://www.w3.org/2000/svg" width="{self.width}" height="{self.height}"'
         head += f' viewBox="0 0 {self.width} {self.height}">'
-        with open(os.path.join(ROOT, "docs", "pictures", file), "w") as out:
-            out.write("\n".join([head, *self.parts, "</svg>", ""]))
+        return "\n".join([head, *self.parts, "</svg>", ""])
+
+    def save(self, file):
+        """Writes the picture to docs/pictures."""
+        with open(os.path.join(ROOT, "docs", "pictures", file), "w", encoding="utf-8") as out:
+            out.write(self.svg())
+
+    def is_saved(self, file):
+        """Whether docs/pictures has exactly this picture."""
+        path = os.path.join(ROOT, "docs", "pictures", file)
+        if not os.path.exists(path):
+            return False
+        with open(path, encoding="utf-8") as there:
+            return there.read() == self.svg()

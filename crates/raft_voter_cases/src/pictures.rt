@@ -4,7 +4,7 @@ use crate::texts::{numbers_of, refused, replies_of};
 use raft_cases::{CaseFault, Command};
 use raft_voter_messages::{Items, Outcome, Reply, Request, Round};
 use raft_voter_session::read_session;
-use raft_voter_timeline::{Line, lines_of, push_escaped, titles_of};
+use raft_voter_timeline::{Line, lines_of, push_escaped, titles_of, writes_of};
 use raft_voter_world::Event;
 use std::alloc::{AllocError, Global};
 use std::collections::VecDeque;
@@ -43,7 +43,11 @@ fn picture(alloc: Global, command: &mut Command) -> Result<String, CaseFault> {
         return Err(CaseFault::Memory);
     };
     let rounds = rounds_of(alloc, session.events, outcomes.as_str())?;
-    match lines_of(alloc, titles, rounds.as_slice(), cuts.as_slice()) {
+    let Ok(writes) = writes_of(alloc, rounds.as_slice(), cuts.as_slice()) else {
+        return Err(CaseFault::Memory);
+    };
+    let (rounds, writes) = (rounds.as_slice(), writes.as_slice());
+    match lines_of(alloc, titles, rounds, writes, cuts.as_slice()) {
         Ok(lines) => Ok(line_words(alloc, lines.as_slice())?),
         Err(_) => Err(CaseFault::Memory),
     }

@@ -1,3 +1,4 @@
 pub mod Escaping
 pub mod Gaining
 pub mod Drawn
+pub mod Writing

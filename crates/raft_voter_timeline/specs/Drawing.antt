@@ -1,7 +1,8 @@
 -- The picture of a run: one line for each event. A round has a line for its outcome, one for each request, and one for
 -- the end of what was taken.
-use Rattle.std.specs.Prelude.{◌≡◌, ℕ, List, map}
+use Rattle.std.specs.Prelude.{◌≡◌, ℕ, Bool, List, map}
 use Rattle.raft_voter_messages.specs.declared.round.Round.{Round}
+use Rattle.raft_voter.specs.Rounds.{fresh_world}
 use Rattle.raft_voter.specs.Service.{Service}
 use Rattle.raft_voter_world.specs.declared.event.Event.{Event}
 use Rattle.raft_voter_world.specs.declared.report.WorldReport.{WorldReport}
@@ -11,12 +12,15 @@ use Rattle.raft_voter_timeline.specs.declared.line.Line.{Line}
 use Rattle.raft_voter_timeline.specs.declared.line.Mark.{Mark}
 use Rattle.raft_voter_timeline.specs.Marks.{all_marks, event_mark, marks_of}
 use Rattle.raft_voter_timeline.specs.Picture.{ShowsLines}
+use Rattle.raft_voter_timeline.specs.Writes.{AreWrites}
 
 -- The picture shows lines with exactly these marks: those of the events, and in place of each round's event those of
--- the next of `rounds`, with its cut.
+-- the next of `rounds`, with its cut. `writes` says which rounds changed a voter, starting with fresh voters.
 pub record DrawsRounds (events : List Mark) (rounds : List Round) (cuts picture : List ℕ) : Type 0 where
   pub lines : List Line
-  pub marked : marks_of lines ≡ all_marks events rounds cuts
+  pub writes : List Bool
+  pub wrote : AreWrites fresh_world rounds cuts writes
+  pub marked : marks_of lines ≡ all_marks events rounds writes cuts
   pub shown : ShowsLines lines picture
 
 -- The picture shows a run of these events that began with these files, with the rounds and cuts of its report.

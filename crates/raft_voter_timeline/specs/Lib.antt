@@ -1,4 +1,5 @@
 pub mod Escape
 pub mod Marks
+pub mod Writes
 pub mod Picture
 pub mod Drawing

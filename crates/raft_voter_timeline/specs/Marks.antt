@@ -23,6 +23,7 @@ mark_name marks.Taken = codes "taken"
 mark_name marks.Refused = codes "refused"
 mark_name marks.Lost = codes "lost"
 mark_name marks.Durable = codes "durable"
+mark_name marks.Unchanged = codes "unchanged"
 mark_name marks.Cut = codes "cut"
 
 -- the marks of these lines, from top to bottom
@@ -56,17 +57,19 @@ abbrev pub head_mark : Outcome → Mark
 head_mark (outcomes.Answered replies) = marks.Answered
 head_mark outcomes.Cut = marks.CutOff
 
--- the mark of the line after the requests that were taken: all are durable, or the round's cut is there
-abbrev pub end_mark : Outcome → Mark
-end_mark (outcomes.Answered replies) = marks.Durable
-end_mark outcomes.Cut = marks.Cut
+-- The mark of the line after the requests that were taken. If the round got replies, it says whether the round wrote, and
+-- so synced before it replied. If the round was cut off, its cut is there.
+abbrev pub end_mark : Outcome → Bool → Mark
+end_mark (outcomes.Answered replies) true = marks.Durable
+end_mark (outcomes.Answered replies) false = marks.Unchanged
+end_mark outcomes.Cut wrote = marks.Cut
 
--- The marks of a round whose requests before position `up_to` were taken: its first line, these requests, the line
--- after them, and the lost requests.
-abbrev pub round_marks : Round → ℕ → List Mark
-round_marks round up_to =
+-- The marks of a round whose requests before position `up_to` were taken, and which wrote or didn't: its first line, these
+-- requests, the line after them, and the lost requests.
+abbrev pub round_marks : Round → Bool → ℕ → List Mark
+round_marks round wrote up_to =
     head_mark round.outcome ∷ fates round.refused marks.Taken 0 (take up_to round.requests)
-    ++ end_mark round.outcome ∷ fates round.refused marks.Lost up_to (drop up_to round.requests)
+    ++ end_mark round.outcome wrote ∷ fates round.refused marks.Lost up_to (drop up_to round.requests)
 
 -- The position up to which a round of `count` requests was taken. This is `count` if it got replies, and otherwise the
 -- first of `cuts`, at most `count`.
@@ -90,9 +93,10 @@ abbrev pub cuts_behind : Round → List ℕ → List ℕ
 cuts_behind round cuts = behind_outcome round.outcome cuts
 
 -- The marks of a picture, from top to bottom, one for each event. Each round's event is replaced by the marks of the
--- next of `rounds`, which uses the first of `cuts` if it was cut off.
-abbrev pub all_marks : List Mark → List Round → List ℕ → List Mark
-all_marks [] rounds cuts = []
-all_marks (marks.Round ∷ ms) (round ∷ rounds) cuts =
-    round_marks round (taken_up_to round cuts) ++ all_marks ms rounds (cuts_behind round cuts)
-all_marks (mark ∷ ms) rounds cuts = mark ∷ all_marks ms rounds cuts
+-- next of `rounds`. The next of `writes` says whether that round wrote, and the first of `cuts` is its cut if it was cut
+-- off.
+abbrev pub all_marks : List Mark → List Round → List Bool → List ℕ → List Mark
+all_marks [] rounds writes cuts = []
+all_marks (marks.Round ∷ ms) (round ∷ rounds) (wrote ∷ writes) cuts =
+    round_marks round wrote (taken_up_to round cuts) ++ all_marks ms rounds writes (cuts_behind round cuts)
+all_marks (mark ∷ ms) rounds writes cuts = mark ∷ all_marks ms rounds writes cuts

@@ -7,6 +7,7 @@ use crate::line::Line;
 use crate::picture::svg_of;
 use crate::rounds::lines_of;
 use crate::titles::titles_of;
+use crate::writes::writes_of;
 use raft_voter::{Memory, Transcript, judge};
 use raft_voter_world::{Event, VoterDisk, VoterStorage, run_world};
 use std::alloc::Global;
@@ -70,6 +71,8 @@ fn picture_of(
     ensures { IfOk result (λ picture.
         DrawsRounds (marks_of titles.items) transcript.now.rounds cuts.now (string_bytes picture)) }
 {
-    let lines = lines_of(alloc, titles, transcript.rounds.as_slice(), cuts)?;
+    let rounds = transcript.rounds.as_slice();
+    let writes = writes_of(alloc, rounds, cuts)?;
+    let lines = lines_of(alloc, titles, rounds, writes.as_slice(), cuts)?;
     svg_of(alloc, heading, lines.as_slice())
 }

@@ -14,6 +14,7 @@ text { font: 13px 'DejaVu Sans Mono', Menlo, Consolas, 'Liberation Mono', monosp
 .crash text { fill: #a40e26; font-weight: bold; }
 .armed text { fill: #a40e26; }
 .durable text, .answered text { fill: #1a6334; }
+.unchanged text { fill: #57606a; }
 .cut text, .cut-off text { fill: #9a4a00; }
 .lost text { fill: #8c7a68; text-decoration: line-through; }
 .lost text:last-of-type { fill: #9a4a00; text-decoration: none; }
@@ -41,6 +42,7 @@ const SHAPES: &str = "<defs>
 <g id=\"lost\">
 <use href=\"#gone\"/><rect x=\"55\" y=\"-9\" width=\"10\" height=\"10\" fill=\"#ffffff\" stroke=\"#bc6a1a\" stroke-width=\"2\"/></g>
 <g id=\"durable\"><use href=\"#strip\"/><rect x=\"44\" y=\"3\" width=\"1040\" height=\"4\" fill=\"#2da44e\"/></g>
+<g id=\"unchanged\"><use href=\"#strip\"/><rect x=\"44\" y=\"5\" width=\"1040\" height=\"2\" fill=\"#8c959f\"/></g>
 <g id=\"cut\"><use href=\"#strip\"/><path d=\"M16 5h1068\" stroke=\"#bc6a1a\" stroke-width=\"3\" stroke-dasharray=\"10 5\"/></g>
 </defs>
 ";
@@ -54,9 +56,10 @@ const LEGEND: &str = "<g class=\"legend\">
 <circle cx=\"414\" cy=\"54\" r=\"6\" fill=\"#ffffff\" stroke=\"#a40e26\" stroke-width=\"2\" stroke-dasharray=\"3 2\"/>
 <text x=\"430\" y=\"58\">fault set for a later call</text>
 <path d=\"M652 44v3l-9 6h18l-9 6v5\" fill=\"none\" stroke=\"#a40e26\" stroke-width=\"2.5\"/><text x=\"670\" y=\"58\">crash</text>
-<rect x=\"16\" y=\"74\" width=\"40\" height=\"4\" fill=\"#2da44e\"/><text x=\"64\" y=\"80\">synced, and then answered</text>
+<rect x=\"742\" y=\"53\" width=\"40\" height=\"2\" fill=\"#8c959f\"/><text x=\"790\" y=\"58\">nothing to sync</text>
+<rect x=\"16\" y=\"74\" width=\"40\" height=\"4\" fill=\"#2da44e\"/><text x=\"64\" y=\"80\">synced before the replies</text>
 <path d=\"M290 76h40\" stroke=\"#bc6a1a\" stroke-width=\"3\" stroke-dasharray=\"10 5\"/>
-<text x=\"338\" y=\"80\">cut: as far as the next open shows a round that has no replies</text>
+<text x=\"338\" y=\"80\">cut: the next open finds what is above; the rest is lost</text>
 <path d=\"M850 68v12m-4 -4l4 5l4 -5\" fill=\"none\" stroke=\"#8c959f\" stroke-width=\"2\"/><text x=\"864\" y=\"80\">time</text>
 </g>
 ";

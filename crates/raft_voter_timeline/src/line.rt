@@ -29,8 +29,10 @@ pub enum Mark {
     Refused,
     /// A request that was lost with its round.
     Lost,
-    /// The end of a round that got replies: what was taken is durable.
+    /// The end of a round that wrote: it synced what it took, and then got replies.
     Durable,
+    /// The end of a round that got replies and changed no voter: it had nothing to sync.
+    Unchanged,
     /// The cut of a round that was cut off: the requests below are lost.
     Cut,
 }
@@ -51,6 +53,7 @@ impl Mark {
             Mark::Refused => "refused",
             Mark::Lost => "lost",
             Mark::Durable => "durable",
+            Mark::Unchanged => "unchanged",
             Mark::Cut => "cut",
         }
     }

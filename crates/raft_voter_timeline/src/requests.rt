@@ -41,7 +41,7 @@ fn push_append(words: &mut String, term: u64, prev_index: u64, count: usize) -> 
     let noun = if count == 1 { "entry" } else { "entries" };
     write!(
         words,
-        "append, term {term}, {count} {noun} behind {prev_index}"
+        "append, term {term}, {count} {noun} after {prev_index}"
     )?;
     Ok(())
 }

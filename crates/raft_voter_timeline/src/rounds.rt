@@ -9,19 +9,23 @@ use std::alloc::Global;
 use std::collections::VecDeque;
 
 /// Returns the lines of a picture, from top to bottom: those of the events. The lines of the next round replace the
-/// line of a round's event. Each round that was cut off uses the next cut.
+/// line of a round's event. `writes` says for each round whether it wrote. Each round that was cut off uses the next
+/// cut.
 ///
 /// Fails with `Memory` if there is no room for them.
 pub fn lines_of(
     alloc: Global,
     mut titles: VecDeque<Line>,
     rounds: &[Round],
+    writes: &[bool],
     cuts: &[usize],
 ) -> Result<Vec<Line>, Memory>
-    ensures { IfOk result (λ lines. marks_of lines.items ≡ all_marks (marks_of titles.items) rounds.now cuts.now) }
+    ensures { IfOk result (λ lines.
+        marks_of lines.items ≡ all_marks (marks_of titles.items) rounds.now writes.now cuts.now) }
 {
     let mut lines = Vec::new(alloc);
     let mut rounds = rounds;
+    let mut writes = writes;
     let mut cuts = cuts;
     let mut number = 0usize;
     while let Some(title) = titles.pop_front() {
@@ -29,12 +33,18 @@ pub fn lines_of(
             lines.push(title)?;
             continue;
         }
-        let Some((round, behind)) = rounds.split_first() else {
+        let Some((round, later_rounds)) = rounds.split_first() else {
             lines.push(title)?;
             continue;
         };
-        push_round(alloc, &mut lines, number, round, taken_up_to(round, cuts))?;
-        rounds = behind;
+        let Some((wrote, later_writes)) = writes.split_first() else {
+            lines.push(title)?;
+            continue;
+        };
+        let up_to = taken_up_to(round, cuts);
+        push_round(alloc, &mut lines, number, round, *wrote, up_to)?;
+        rounds = later_rounds;
+        writes = later_writes;
         cuts = cuts_behind(round, cuts);
         number = number.saturating_add(1);
     }
@@ -43,7 +53,7 @@ pub fn lines_of(
 
 /// Returns the place up to which a round was taken: all of it if it got replies, otherwise up to the next of these
 /// cuts.
-fn taken_up_to(round: &Round, cuts: &[usize]) -> usize
+pub fn taken_up_to(round: &Round, cuts: &[usize]) -> usize
     ensures { result ≡ taken_up_to round.now cuts.now }
 {
     let count = round.requests.len();
@@ -55,7 +65,7 @@ fn taken_up_to(round: &Round, cuts: &[usize]) -> usize
 }
 
 /// Returns the cuts of the rounds after this one.
-fn cuts_behind<'a>(round: &Round, cuts: &'a [usize]) -> &'a [usize]
+pub fn cuts_behind<'a>(round: &Round, cuts: &'a [usize]) -> &'a [usize]
     ensures { result.now ≡ cuts_behind round.now cuts.now }
 {
     match (&round.outcome, cuts.split_first()) {
@@ -71,15 +81,16 @@ fn push_round(
     lines: &mut Vec<Line>,
     number: usize,
     round: &Round,
+    wrote: bool,
     up_to: usize,
 ) -> Result<(), Memory>
     requires { up_to ≤ length round.now.requests }
-    ensures { OnOk result (marks_of lines.new.items ≡ marks_of lines.old.items ++ round_marks round.now up_to) }
+    ensures { OnOk result (marks_of lines.new.items ≡ marks_of lines.old.items ++ round_marks round.now wrote up_to) }
 {
     let (above, below) = round.requests.as_slice().split_at(up_to);
     lines.push(head_line(alloc, number, round)?)?;
     push_requests(alloc, lines, round, Mark::Taken, 0, above)?;
-    lines.push(end_line(alloc, round, up_to)?)?;
+    lines.push(end_line(alloc, round, wrote, up_to)?)?;
     push_requests(alloc, lines, round, Mark::Lost, up_to, below)
 }
 
@@ -95,11 +106,12 @@ fn head_line(alloc: Global, number: usize, round: &Round) -> Result<Line, Memory
 }
 
 /// Returns the line where what was taken of a round ends.
-fn end_line(alloc: Global, round: &Round, up_to: usize) -> Result<Line, Memory>
-    ensures { IfOk result (λ line. line.mark ≡ end_mark round.now.outcome) }
+fn end_line(alloc: Global, round: &Round, wrote: bool, up_to: usize) -> Result<Line, Memory>
+    ensures { IfOk result (λ line. line.mark ≡ end_mark round.now.outcome wrote) }
 {
     match &round.outcome {
-        Outcome::Answered(_) => Line::new(alloc, Mark::Durable, "durable", ""),
+        Outcome::Answered(_) if wrote => Line::new(alloc, Mark::Durable, "durable", ""),
+        Outcome::Answered(_) => Line::new(alloc, Mark::Unchanged, "nothing to sync", ""),
         Outcome::Cut => {
             let text = format!(in alloc; "cut {up_to}: taken above, lost below")?;
             Line::new(alloc, Mark::Cut, text.as_str(), "")

@@ -57,15 +57,15 @@ abbrev pub head_mark : Outcome → Mark
 head_mark (outcomes.Answered replies) = marks.Answered
 head_mark outcomes.Cut = marks.CutOff
 
--- The mark of the line after the requests that were taken. If the round got replies, it says whether the round wrote, and
--- so synced before it replied. If the round was cut off, its cut is there.
+-- The mark of the line after the requests that were taken. If the round got replies, it says whether the round wrote,
+-- and so synced before it replied. If the round was cut off, its cut is there.
 abbrev pub end_mark : Outcome → Bool → Mark
 end_mark (outcomes.Answered replies) true = marks.Durable
 end_mark (outcomes.Answered replies) false = marks.Unchanged
 end_mark outcomes.Cut wrote = marks.Cut
 
--- The marks of a round whose requests before position `up_to` were taken, and which wrote or didn't: its first line, these
--- requests, the line after them, and the lost requests.
+-- The marks of a round whose requests before position `up_to` were taken, and which wrote or didn't: its first line,
+-- these requests, the line after them, and the lost requests.
 abbrev pub round_marks : Round → Bool → ℕ → List Mark
 round_marks round wrote up_to =
     head_mark round.outcome ∷ fates round.refused marks.Taken 0 (take up_to round.requests)
@@ -93,7 +93,7 @@ abbrev pub cuts_behind : Round → List ℕ → List ℕ
 cuts_behind round cuts = behind_outcome round.outcome cuts
 
 -- The marks of a picture, from top to bottom, one for each event. Each round's event is replaced by the marks of the
--- next of `rounds`. The next of `writes` says whether that round wrote, and the first of `cuts` is its cut if it was cut
+-- next of `rounds`. The next of `writes` says whether that round wrote. The first of `cuts` is its cut if it was cut
 -- off.
 abbrev pub all_marks : List Mark → List Round → List Bool → List ℕ → List Mark
 all_marks [] rounds writes cuts = []

@@ -1,5 +1,5 @@
 -- What storing entries with a key does to a log.
-use Rattle.std.specs.Prelude.{◌≡◌, ℕ, List, true}
+use Rattle.std.specs.Prelude.{ℕ, List, true}
 use Rattle.raft_log_engine.specs.raft_log_record_batches.specs.Batch.{Batch, Puts, empty_batch}
 use Rattle.raft_log_engine.specs.raft_log_record_batches.specs.Entries.{AddsEntries}
 use Rattle.raft_log_engine.specs.raft_log_record_batches.specs.Places.{AddsBytes}

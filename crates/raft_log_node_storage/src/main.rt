@@ -11,12 +11,12 @@ mod stored;
 
 use log::Log;
 use playing::play;
-use raft_log_engine::MemoryFileSystem;
+use raft_log_engine::{FileSystem, MemoryFileSystem};
 use raft_log_fs_os::{DirectoryFileSystem, FileDevice, make_directory, open_directories};
 use std::env;
 use std::env::Env;
 use std::fs::File;
-use std::io::Eprint;
+use std::io::{Eprint, Print};
 use std::process::ExitCode;
 use std::rt::Files;
 use std::thread::Threads;
@@ -46,19 +46,31 @@ fn exit<R: Eprint>(rt: &R, done: anyhow::Result<()>) -> ExitCode {
     }
 }
 
+/// Plays a node's life on a log in memory.
+fn in_memory<R: Threads + Log + Sync + Print + AllocGlobal>(rt: &R) -> anyhow::Result<()> {
+    let files = MemoryFileSystem::new(rt.alloc());
+    play(rt, "raft", files)
+}
+
+/// Plays a node's life on the log in a directory, over these files.
+fn serve<R: Threads + Log + Sync + Print + AllocGlobal, F: FileSystem + Sync + Drop>(
+    rt: &R,
+    directory: &str,
+    files: F,
+) -> anyhow::Result<()> {
+    play(rt, directory, files)
+}
+
 // An open lends its file system to threads. One over real directories is therefore passed on here, where the runtime
 // isn't a parameter.
 fn main(rt: HostRuntime) -> ExitCode {
     let directory = match directory(&rt) {
         Ok(Some(directory)) => directory,
-        Ok(None) => {
-            let files = MemoryFileSystem::new(rt.alloc());
-            return exit(&rt, play(&rt, "raft", files));
-        }
+        Ok(None) => return exit(&rt, in_memory(&rt)),
         Err(error) => return exit(&rt, Err(error)),
     };
     match files(&rt, directory.as_str()) {
-        Ok(files) => exit(&rt, play(&rt, directory.as_str(), files)),
+        Ok(files) => exit(&rt, serve(&rt, directory.as_str(), files)),
         Err(error) => exit(&rt, Err(error)),
     }
 }

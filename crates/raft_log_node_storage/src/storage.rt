@@ -106,20 +106,24 @@ pub fn compact<P: PipeLog, R: Log>(
 
 /// The hard state: the stored one, or that of a new node.
 pub fn hard_state<P: PipeLog>(engine: &LogEngine<P>) -> Result<HardState> {
-    let stored = engine.get(GROUP, STATE)?;
-    let state = stored.and_then(|bytes| HardState::decode(bytes.as_slice()));
-    Ok(state.unwrap_or(HardState {
-        term: 0,
-        vote: 0,
-        commit: 0,
-    }))
+    let Some(bytes) = engine.get(GROUP, STATE)? else {
+        return Ok(HardState::new());
+    };
+    match HardState::decode(bytes.as_slice()) {
+        Some(state) => Ok(state),
+        None => Ok(HardState::new()),
+    }
 }
 
 /// The base: the stored one, or 0 before the first compaction.
 pub fn base<P: PipeLog>(engine: &LogEngine<P>) -> Result<Base> {
-    let stored = engine.get(GROUP, BASE)?;
-    let base = stored.and_then(|bytes| Base::decode(bytes.as_slice()));
-    Ok(base.unwrap_or(Base { index: 0, term: 0 }))
+    let Some(bytes) = engine.get(GROUP, BASE)? else {
+        return Ok(Base { index: 0, term: 0 });
+    };
+    match Base::decode(bytes.as_slice()) {
+        Some(base) => Ok(base),
+        None => Ok(Base { index: 0, term: 0 }),
+    }
 }
 
 /// The index of the last entry, or of the base if there is none.

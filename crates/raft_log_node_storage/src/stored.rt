@@ -23,6 +23,15 @@ pub struct Base {
 }
 
 impl HardState {
+    /// The state of a new node.
+    pub fn new() -> HardState {
+        HardState {
+            term: 0,
+            vote: 0,
+            commit: 0,
+        }
+    }
+
     /// The state in these bytes, if they are one.
     pub fn decode(bytes: &[u8]) -> Option<HardState> {
         let (term, rest) = split_number(bytes)?;

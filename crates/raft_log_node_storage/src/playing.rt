@@ -1,0 +1,129 @@
+//! A node's life: appends, a conflict, a compaction, a purge, and a second open.
+
+use crate::storage::{append, base, compact, entry, hard_state, last_index};
+use crate::stored::{Base, HardState};
+use log::Log;
+use raft_log_engine::{Config, Engine, FileSystem, LogEngine, LogQueue, PipeLog};
+use std::io::Print;
+use std::thread::Threads;
+
+/// Opens the log in a directory over these files, with small files, so that few entries fill several.
+fn open<R: Threads + Log + Sync + AllocGlobal, F: FileSystem + Sync + Drop>(
+    rt: &R,
+    directory: &str,
+    files: F,
+) -> anyhow::Result<Engine<F>> {
+    let mut config = Config::default(rt.alloc());
+    config.dir = String::from_str(rt.alloc(), directory)?;
+    config.target_file_size.0 = 256;
+    config.purge_threshold.0 = 512;
+    match Engine::open_with_file_system(rt, rt.alloc(), config, files) {
+        Ok(engine) => Ok(engine),
+        Err(refused) => Err(refused.error.into()),
+    }
+}
+
+/// Prints all that a log has: hard state, base, entries, and Append's files.
+fn show<R: Print + AllocGlobal, P: PipeLog>(
+    rt: &R,
+    engine: &mut LogEngine<P>,
+    after: &str,
+) -> anyhow::Result<()> {
+    let HardState { term, vote, commit } = hard_state(engine)?;
+    let base = base(engine)?;
+    let (first, last) = engine.file_span(LogQueue::Append)?;
+    println!(rt;
+        "after {after}: term {term}, vote {vote}, commit {commit}; files {first} to {last}"
+    )?;
+    println!(rt; "  base: {} of term {}", base.index, base.term)?;
+    for index in base.index.saturating_add(1)..last_index(engine)?.saturating_add(1) {
+        if let Some((term, data)) = entry(rt.alloc(), engine, index)? {
+            println!(rt; "  {index} of term {term}: {data}")?;
+        }
+    }
+    Ok(())
+}
+
+/// A leader appends three entries. Then the leader of the next term replaces the last two of them by one.
+fn conflict<R: Log + Print + AllocGlobal, P: PipeLog>(
+    rt: &R,
+    engine: &mut LogEngine<P>,
+) -> anyhow::Result<()> {
+    let state = hard_state(engine)?;
+    let next = last_index(engine)?.saturating_add(1);
+    let old = HardState {
+        term: state.term.saturating_add(1),
+        vote: 2,
+        commit: next,
+    };
+    append(
+        rt,
+        rt.alloc(),
+        engine,
+        next,
+        &["set x 1", "set y 2", "set z 3"],
+        &old,
+    )?;
+    show(rt, engine, "three entries")?;
+    let new = HardState {
+        term: old.term.saturating_add(1),
+        vote: 0,
+        commit: next,
+    };
+    append(
+        rt,
+        rt.alloc(),
+        engine,
+        next.saturating_add(1),
+        &["set y 4"],
+        &new,
+    )?;
+    show(rt, engine, "a conflict")
+}
+
+/// A leader appends entries, each by itself. Each of them is committed.
+fn fill<R: Log + AllocGlobal, P: PipeLog>(rt: &R, engine: &mut LogEngine<P>) -> anyhow::Result<()> {
+    for _ in 0..8 {
+        let next = last_index(engine)?.saturating_add(1);
+        let state = HardState {
+            commit: next,
+            ..hard_state(engine)?
+        };
+        append(rt, rt.alloc(), engine, next, &["set x 5"], &state)?;
+    }
+    Ok(())
+}
+
+/// A snapshot has all entries but the last two: they are dropped, and the files purged that no entry needs any more.
+fn snapshot<R: Log + AllocGlobal, P: PipeLog>(
+    rt: &R,
+    engine: &mut LogEngine<P>,
+) -> anyhow::Result<()> {
+    let index = last_index(engine)?.saturating_sub(2);
+    if let Some((term, _)) = entry(rt.alloc(), engine, index)? {
+        compact(rt, rt.alloc(), engine, &Base { index, term })?;
+    }
+    engine.purge_expired_files(rt)?;
+    Ok(())
+}
+
+/// Plays the life of a node on the log in a directory, over these files.
+pub fn play<R: Threads + Log + Sync + Print + AllocGlobal, F: FileSystem + Sync + Drop>(
+    rt: &R,
+    directory: &str,
+    files: F,
+) -> anyhow::Result<()> {
+    let mut engine = open(rt, directory, files)?;
+    show(rt, &mut engine, "an open")?;
+    conflict(rt, &mut engine)?;
+    fill(rt, &mut engine)?;
+    show(rt, &mut engine, "eight entries")?;
+    snapshot(rt, &mut engine)?;
+    show(rt, &mut engine, "a snapshot and a purge")?;
+    let closed = engine.close(rt);
+    closed.result?;
+    let mut engine = open(rt, directory, closed.files)?;
+    show(rt, &mut engine, "a second open")?;
+    engine.close(rt).result?;
+    Ok(())
+}

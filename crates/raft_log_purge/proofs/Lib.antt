@@ -9,7 +9,7 @@ pub mod OneFile
 pub mod Owed
 pub mod Past
 pub mod Picked
-pub mod Purged
+pub mod PurgedBounds
 pub mod StandingPast
 pub mod Turning
 pub mod Weights

@@ -1,24 +1,17 @@
 //! An engine to which several boxed listeners listen.
-use crate::hearing::{Hearer, Notes};
-use crate::opening::hearer;
-use crate::store::Files;
-use crate::text::Outcome;
-use crate::writing::write;
 use log::Log;
 use raft_log_engine::{
     Closed, Config, Engine, Error, EventListener, Listeners, LogBatch, Nobody, OpenRefused,
 };
+use raft_log_engine_commands::answers::Outcome;
+use raft_log_engine_commands::write_batch;
+use raft_log_pipe_commands::{Files, Hearer, Notes};
 use std::alloc::Global;
 use std::sync::Arc;
 use std::thread::Threads;
 
-/// A listener of this number.
-fn numbered(notes: &Arc<Notes>, number: u64) -> Result<Hearer, Error> {
-    hearer(notes, number, None).map_err(|_| Error::Memory)
-}
-
 /// Opens a log to which listeners 1 and 2 listen, in this order, each in a box; writes a batch; and closes the log. Shows
-/// what they heard at the open and of the batch. The files are handed back.
+/// how many bytes the record has. The files are handed back, unless memory ran out before the open.
 pub fn hear_boxed<R: Threads + Log + Sync>(
     rt: &R,
     alloc: Global,
@@ -44,11 +37,11 @@ fn open_boxed<R: Threads + Log + Sync>(
 ) -> Result<(Outcome, Files), Error> {
     let mut boxes: Vec<Box<dyn EventListener>> = Vec::new(alloc);
     for number in [1, 2] {
-        boxes.push(Box::new(alloc, numbered(notes, number)?)?)?;
+        boxes.push(Box::new(alloc, Hearer::new(notes, number, None)?)?)?;
     }
     match Engine::open_with(rt, alloc, config, files, Listeners::new(boxes, Nobody)) {
         Ok(mut engine) => {
-            let outcome = write(rt, alloc, &mut engine, batch, true);
+            let outcome = write_batch(rt, alloc, &mut engine, batch, true);
             let Closed { files, .. } = engine.close(rt);
             Ok((outcome, files))
         }

@@ -1,17 +1,15 @@
 //! A log is opened: by an engine, by one to which nobody listens, or as pipes alone.
-use crate::hearing::{Hearer, Notes};
-use crate::piping::Pipes;
-use crate::store::{Files, Store};
+use crate::store::Store;
 use log::Log;
 use raft_cases::{CaseFault, Command};
 use raft_log_dual_pipes::DualPipes;
 use raft_log_engine::{
     Config, DualPipesBuilder, Engine, LogEngine, LogQueue, OpenRefused, ReplayThreads, Result,
 };
+use raft_log_pipe_commands::{Files, Hearer, Pipes};
 use raft_log_recovery_scan::RecoveryConfig;
 use raft_log_replay_context::MemTableRecoverContextFactory;
 use std::alloc::Global;
-use std::sync::Arc;
 use std::thread::Threads;
 
 /// How a log is opened.
@@ -36,14 +34,16 @@ impl Kind {
             let rewrite = command.number_or("rewrite-workers", 1)?;
             return Ok(Kind::Pipes(append as usize, rewrite as usize));
         }
-        Ok(Kind::Engine(match command.has("scoped")? {
-            true => ReplayThreads::Scoped,
-            false => ReplayThreads::Rayon,
+        Ok(Kind::Engine(if command.has("scoped")? {
+            ReplayThreads::Scoped
+        } else {
+            ReplayThreads::Rayon
         }))
     }
 }
 
-/// A log that was opened, and how many entries and values were read of Append and of Rewrite where pipes were opened.
+/// A log that was opened, and how many entries and values were read of Append and of Rewrite if pipes were
+/// opened.
 #[derive(Drop)]
 pub struct Opened {
     /// The log.
@@ -162,17 +162,4 @@ fn read_queue<R: Threads + Log + Sync>(
         Ok(context) => Ok(context.written()),
         Err(error) => Err(error),
     }
-}
-
-/// A listener of this number, which notes what it hears.
-pub fn hearer(
-    notes: &Arc<Notes>,
-    number: u64,
-    holds: Option<u64>,
-) -> std::result::Result<Hearer, CaseFault> {
-    Ok(Hearer {
-        number,
-        holds,
-        notes: notes.clone()?,
-    })
 }

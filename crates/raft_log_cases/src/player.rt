@@ -1,30 +1,26 @@
 //! The commands of an engine's cases.
 use crate::boxed::hear_boxed;
-use crate::filling::{fill, filled};
-use crate::hearing::Notes;
-use crate::opening::{Kind, hearer, open};
-use crate::reading::play_read;
+use crate::opening::{Kind, Opened, open};
 use crate::rewriting::sweep_rewrites;
-use crate::scanning::play_scan;
-use crate::settings::read_settings;
-use crate::store::{Store, closed};
+use crate::store::Store;
 use crate::sweeping::sweep;
-use crate::text::{answer, done, failed, truth};
-use crate::watched::Gate;
-use crate::words::add_word;
-use crate::writing::play_change;
 use log::Log;
 use raft_cases::{CaseFault, Column, Command};
-use raft_log_engine::{LogBatch, LogEngine, OpenRefused, PipeLog, fork};
+use raft_log_engine::{LogBatch, OpenRefused, fork};
+use raft_log_engine_commands::answers::{answer, done, failed, truth};
+use raft_log_engine_commands::{add_word, play_on_engine, read_settings};
+use raft_log_pipe_commands::{Gate, Hearer, Notes};
 use std::alloc::{AllocError, Global};
+use std::fs::File;
 use std::mem;
-use std::sync::Arc;
+use std::rt::Files;
+use std::sync::{Arc, Wait};
 use std::thread::Threads;
+use std::time::Clock;
 
 /// Plays the commands of a case on its log.
 #[derive(Drop)]
-pub struct Player<'a, R> {
-    rt: &'a R,
+pub struct Player {
     alloc: Global,
     store: Store,
     /// The batch that commands fill, and that `write` writes.
@@ -32,11 +28,27 @@ pub struct Player<'a, R> {
     notes: Arc<Notes>,
 }
 
-impl<'a, R: Threads + Log + Sync> Player<'a, R> {
-    /// Without files. `rt` starts threads, and takes what is logged.
-    pub fn new(rt: &'a R, alloc: Global) -> Result<Player<'a, R>, AllocError> {
+impl Column for Player {
+    fn begin(&mut self) -> Result<(), CaseFault> {
+        self.restart()
+    }
+
+    fn answer<
+        R: Threads + Wait + Clock + Log + Sync + Files<File = File> + AllocGlobal + Clone + Drop,
+    >(&mut self, rt: &R, command: &mut Command) -> Result<String, CaseFault> {
+        let name = String::from_str(self.alloc, command.name())?;
+        match name.as_str() {
+            "sweep" => sweep(rt, self.alloc, command),
+            "sweep-rewrites" => sweep_rewrites(rt, self.alloc, self, command),
+            _ => self.play(rt, command),
+        }
+    }
+}
+
+impl Player {
+    /// Without files.
+    pub fn new(alloc: Global) -> Result<Player, AllocError> {
         Ok(Player {
-            rt,
             alloc,
             store: Store::new(alloc),
             batch: LogBatch::default(alloc)?,
@@ -53,7 +65,11 @@ impl<'a, R: Threads + Log + Sync> Player<'a, R> {
     }
 
     /// Plays a command that no sweep plays: a sweep has its own.
-    pub fn play(&mut self, command: &mut Command) -> Result<String, CaseFault> {
+    pub fn play<R: Threads + Log + Sync>(
+        &mut self,
+        rt: &R,
+        command: &mut Command,
+    ) -> Result<String, CaseFault> {
         if let Some(added) = add_word(self.alloc, &mut self.batch, command)? {
             return done(self.alloc, added);
         }
@@ -62,10 +78,10 @@ impl<'a, R: Threads + Log + Sync> Player<'a, R> {
         }
         let name = String::from_str(self.alloc, command.name())?;
         match name.as_str() {
-            "open" => self.open(command),
-            "close" => self.close(),
-            "fork" => self.fork(command),
-            "hear-boxed" => self.hear_boxed(command),
+            "open" => self.open(rt, command),
+            "close" => self.close(rt),
+            "fork" => self.fork(rt, command),
+            "hear-boxed" => self.hear_boxed(rt, command),
             "heard" => Ok(self.notes.take(self.alloc)?),
             "reads" => Ok(self.store.take_reads(self.alloc)?),
             "gate" => self.set_gate(command),
@@ -75,32 +91,18 @@ impl<'a, R: Threads + Log + Sync> Player<'a, R> {
                 self.batch = LogBatch::default(self.alloc)?;
                 Ok(String::new(self.alloc))
             }
-            _ => self.play_on_log(command),
-        }
-    }
-
-    /// Plays a command on the log that is open.
-    fn play_on_log(&mut self, command: &mut Command) -> Result<String, CaseFault> {
-        let (rt, alloc) = (self.rt, self.alloc);
-        let batch = &mut self.batch;
-        match &mut self.store {
-            Store::Closed(_) => Err(CaseFault::UnknownCommand),
-            Store::Piped(pipes) => match pipes.play(rt, alloc, command)? {
-                Some(answer) => Ok(answer),
-                None => Err(CaseFault::UnknownCommand),
-            },
-            Store::Open(engine) => match command.name() == "path" {
-                true => Ok(String::from_str(alloc, engine.path())?),
-                false => play_on_engine(rt, alloc, engine, batch, command),
-            },
-            Store::Alone(engine) => play_on_engine(rt, alloc, engine, batch, command),
+            _ => self.play_on_log(rt, command),
         }
     }
 
     /// Opens the log.
-    fn open(&mut self, command: &mut Command) -> Result<String, CaseFault> {
+    fn open<R: Threads + Log + Sync>(
+        &mut self,
+        rt: &R,
+        command: &mut Command,
+    ) -> Result<String, CaseFault> {
         let kind = Kind::read(command)?;
-        let hearer = hearer(&self.notes, 1, command.number_if("holds-back")?)?;
+        let hearer = Hearer::new(&self.notes, 1, command.number_if("holds-back")?)?;
         let config = match read_settings(self.alloc, command)? {
             Ok(config) => config,
             Err(error) => return Ok(failed(self.alloc, &error)?),
@@ -108,11 +110,11 @@ impl<'a, R: Threads + Log + Sync> Player<'a, R> {
         let Some(files) = self.store.take_files(self.alloc) else {
             return Ok(format!(in self.alloc; "error a log is open")?);
         };
-        match open(self.rt, self.alloc, kind, config, files, hearer) {
-            Ok(opened) => {
-                self.store = opened.store;
-                let _read = self.store.files().take_reads();
-                match opened.read {
+        match open(rt, self.alloc, kind, config, files, hearer) {
+            Ok(Opened { store, read }) => {
+                self.store = store;
+                let _reads = self.store.files().take_reads();
+                match read {
                     Some((append, rewrite)) => Ok(format!(in self.alloc;
                         "{append} of append, {rewrite} of rewrite"
                     )?),
@@ -127,15 +129,15 @@ impl<'a, R: Threads + Log + Sync> Player<'a, R> {
     }
 
     /// Closes the log.
-    fn close(&mut self) -> Result<String, CaseFault> {
+    fn close<L: Log>(&mut self, rt: &L) -> Result<String, CaseFault> {
         let store = mem::replace(&mut self.store, Store::new(self.alloc));
-        let ended = store.close(self.rt, self.alloc);
-        self.store = Store::Closed(ended.files);
-        Ok(closed(self.alloc, ended.result)?)
+        let closed = store.close(rt, self.alloc);
+        self.store = Store::Closed(closed.files);
+        done(self.alloc, closed.result)
     }
 
     /// Copies a log that is closed into the directory `to`.
-    fn fork(&mut self, command: &mut Command) -> Result<String, CaseFault> {
+    fn fork<L: Log>(&mut self, rt: &L, command: &mut Command) -> Result<String, CaseFault> {
         let target = command.text("to")?;
         let config = match read_settings(self.alloc, command)? {
             Ok(config) => config,
@@ -144,14 +146,18 @@ impl<'a, R: Threads + Log + Sync> Player<'a, R> {
         let Store::Closed(files) = &mut self.store else {
             return Ok(format!(in self.alloc; "error a log is open")?);
         };
-        match fork(self.rt, self.alloc, &config, files, target.as_str()) {
+        match fork(rt, self.alloc, &config, files, target.as_str()) {
             Ok(_) => Ok(String::new(self.alloc)),
             Err(error) => Ok(failed(self.alloc, &error)?),
         }
     }
 
     /// Opens a log to which two boxed listeners listen, writes the batch, and closes the log.
-    fn hear_boxed(&mut self, command: &mut Command) -> Result<String, CaseFault> {
+    fn hear_boxed<R: Threads + Log + Sync>(
+        &mut self,
+        rt: &R,
+        command: &mut Command,
+    ) -> Result<String, CaseFault> {
         let config = match read_settings(self.alloc, command)? {
             Ok(config) => config,
             Err(error) => return Ok(failed(self.alloc, &error)?),
@@ -160,7 +166,7 @@ impl<'a, R: Threads + Log + Sync> Player<'a, R> {
             return Ok(format!(in self.alloc; "error a log is open")?);
         };
         let (outcome, files) = hear_boxed(
-            self.rt,
+            rt,
             self.alloc,
             config,
             files,
@@ -192,43 +198,25 @@ impl<'a, R: Threads + Log + Sync> Player<'a, R> {
             None => Err(CaseFault::UnknownCommand),
         }
     }
-}
 
-/// Plays a command on an engine.
-fn play_on_engine<L: Log, P: PipeLog>(
-    rt: &L,
-    alloc: Global,
-    engine: &mut LogEngine<P>,
-    batch: &mut LogBatch,
-    command: &mut Command,
-) -> Result<String, CaseFault> {
-    let name = String::from_str(alloc, command.name())?;
-    match name.as_str() {
-        "fill" => return fill(rt, alloc, engine, command),
-        "filled" => return filled(alloc, engine, command),
-        "scan" => return play_scan(alloc, engine, command),
-        _ => {}
-    }
-    if let Some(answer) = play_change(rt, alloc, engine, batch, command)? {
-        return Ok(answer);
-    }
-    match play_read(alloc, engine, command)? {
-        Some(answer) => Ok(answer),
-        None => Err(CaseFault::UnknownCommand),
-    }
-}
-
-impl<'a, R: Threads + Log + Sync> Column for Player<'a, R> {
-    fn begin(&mut self) -> Result<(), CaseFault> {
-        self.restart()
-    }
-
-    fn answer(&mut self, command: &mut Command) -> Result<String, CaseFault> {
-        let name = String::from_str(self.alloc, command.name())?;
-        match name.as_str() {
-            "sweep" => sweep(self.rt, self.alloc, command),
-            "sweep-rewrites" => sweep_rewrites(self.alloc, self, command),
-            _ => self.play(command),
+    /// Plays a command on the log that is open.
+    fn play_on_log<L: Log>(&mut self, rt: &L, command: &mut Command) -> Result<String, CaseFault> {
+        let alloc = self.alloc;
+        let batch = &mut self.batch;
+        match &mut self.store {
+            Store::Closed(_) => Err(CaseFault::UnknownCommand),
+            Store::Piped(pipes) => match pipes.play(rt, alloc, command)? {
+                Some(answer) => Ok(answer),
+                None => Err(CaseFault::UnknownCommand),
+            },
+            Store::Open(engine) => {
+                if command.name() == "path" {
+                    Ok(String::from_str(alloc, engine.path())?)
+                } else {
+                    play_on_engine(rt, alloc, engine, batch, command)
+                }
+            }
+            Store::Alone(engine) => play_on_engine(rt, alloc, engine, batch, command),
         }
     }
 }

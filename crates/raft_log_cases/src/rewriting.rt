@@ -22,11 +22,12 @@ struct Plan {
 }
 
 /// Plays `sweep-rewrites`: for each of `steps`, which are joined by `+`, and for each way to rewrite Append, a line. The
-/// log is opened by `open`; the steps are played, and after that one Append is rewritten. What `end` answers is asked
+/// log is opened by `open`. The steps are played, and after that one Append is rewritten. What `end` answers is asked
 /// after the log is closed and opened, and again after a whole rewrite, a close and an open.
-pub fn sweep_rewrites<'a, R: Threads + Log + Sync>(
+pub fn sweep_rewrites<R: Threads + Log + Sync>(
+    rt: &R,
     alloc: Global,
-    player: &mut Player<'a, R>,
+    player: &mut Player,
     command: &mut Command,
 ) -> Result<String, CaseFault> {
     let plan = Plan {
@@ -35,14 +36,8 @@ pub fn sweep_rewrites<'a, R: Threads + Log + Sync>(
         end: command.text("end")?,
     };
     let mut text = String::new(alloc);
-    for number in 0..plan.steps.len().saturating_mul(REWRITES.len()) {
-        let step = number / REWRITES.len();
-        let rewrite = REWRITES
-            .get(number % REWRITES.len())
-            .copied()
-            .unwrap_or("rewrite-append");
-        let row = row(alloc, player, &plan, step, rewrite)?;
-        text.push_str(row.as_str())?;
+    for step in 0..plan.steps.len() {
+        push_rows(rt, alloc, player, &plan, step, &mut text)?;
     }
     Ok(text)
 }
@@ -56,25 +51,42 @@ fn split(alloc: Global, list: &str) -> Result<Vec<String>, AllocError> {
     Ok(steps)
 }
 
-/// The line of a rewrite after a step.
-fn row<'a, R: Threads + Log + Sync>(
+/// Appends the lines of the rewrites after a step.
+fn push_rows<R: Threads + Log + Sync>(
+    rt: &R,
     alloc: Global,
-    player: &mut Player<'a, R>,
+    player: &mut Player,
+    plan: &Plan,
+    step: usize,
+    text: &mut String,
+) -> Result<(), CaseFault> {
+    for rewrite in REWRITES {
+        let row = row(rt, alloc, player, plan, step, rewrite)?;
+        text.push_str(row.as_str())?;
+    }
+    Ok(())
+}
+
+/// The line of a rewrite after a step.
+fn row<R: Threads + Log + Sync>(
+    rt: &R,
+    alloc: Global,
+    player: &mut Player,
     plan: &Plan,
     step: usize,
     rewrite: &str,
 ) -> Result<String, CaseFault> {
     player.restart()?;
-    play_text(alloc, player, plan.open.as_str())?;
+    play_text(rt, alloc, player, plan.open.as_str())?;
     for (number, text) in plan.steps.iter().enumerate() {
-        play_text(alloc, player, text.as_str())?;
+        play_text(rt, alloc, player, text.as_str())?;
         if number == step {
-            play_text(alloc, player, rewrite)?;
+            play_text(rt, alloc, player, rewrite)?;
         }
     }
-    let first = reopened(alloc, player, plan)?;
-    play_text(alloc, player, "rewrite-append")?;
-    let second = reopened(alloc, player, plan)?;
+    let first = reopened(rt, alloc, player, plan)?;
+    play_text(rt, alloc, player, "rewrite-append")?;
+    let second = reopened(rt, alloc, player, plan)?;
     let place = step.saturating_add(1);
     Ok(format!(in alloc;
         "{place} {rewrite}: {}, {}\n",
@@ -84,27 +96,29 @@ fn row<'a, R: Threads + Log + Sync>(
 }
 
 /// What the end is, after the log is closed and opened.
-fn reopened<'a, R: Threads + Log + Sync>(
+fn reopened<R: Threads + Log + Sync>(
+    rt: &R,
     alloc: Global,
-    player: &mut Player<'a, R>,
+    player: &mut Player,
     plan: &Plan,
 ) -> Result<String, CaseFault> {
-    play_text(alloc, player, "close")?;
-    play_text(alloc, player, plan.open.as_str())?;
-    play_text(alloc, player, plan.end.as_str())
+    play_text(rt, alloc, player, "close")?;
+    play_text(rt, alloc, player, plan.open.as_str())?;
+    play_text(rt, alloc, player, plan.end.as_str())
 }
 
 /// Plays a step. One of several commands joined by `;` answers what the last one does.
-fn play_text<'a, R: Threads + Log + Sync>(
+fn play_text<R: Threads + Log + Sync>(
+    rt: &R,
     alloc: Global,
-    player: &mut Player<'a, R>,
+    player: &mut Player,
     text: &str,
 ) -> Result<String, CaseFault> {
     let mut answer = String::new(alloc);
     for word in text.split(';') {
         let line = spaced(alloc, word)?;
         let mut command = Command::parse(alloc, line.as_str())?;
-        answer = player.play(&mut command)?;
+        answer = player.play(rt, &mut command)?;
         command.check_all_taken()?;
     }
     Ok(answer)

@@ -1,14 +1,13 @@
 //! A run of steps on a log of which a call on the files fails, and what may be in the log then.
-use crate::hearing::Notes;
-use crate::opening::{Kind, hearer, open};
-use crate::store::{Files, Store};
-use crate::watched::Watched;
+use crate::opening::{Kind, open};
+use crate::store::Store;
 use log::Log;
 use raft_cases::CaseFault;
 use raft_log_engine::{
     Config, Engine, Fault, FileSystem, LogBatch, MemoryFileSystem, OpenRefused, Remainder,
     ReplayThreads, Result,
 };
+use raft_log_pipe_commands::{Files, Hearer, Notes, Watched};
 use std::alloc::Global;
 use std::mem;
 use std::sync::Arc;
@@ -68,7 +67,7 @@ fn opened<R: Threads + Log + Sync>(
     files: Files,
 ) -> std::result::Result<Store, CaseFault> {
     let kind = Kind::Engine(ReplayThreads::Rayon);
-    let hearer = hearer(notes, 1, None)?;
+    let hearer = Hearer::new(notes, 1, None)?;
     match open(rt, alloc, kind, config.clone()?, files, hearer) {
         Ok(opened) => Ok(opened.store),
         Err(OpenRefused { file_system, .. }) => Ok(Store::Closed(file_system)),
@@ -205,7 +204,7 @@ impl Run {
         }
     }
 
-    /// Opens the log again until an engine works; where the files have stopped, on what a crash leaves of them.
+    /// Opens the log again until an engine works; if the files have stopped, on what a crash leaves of them.
     fn mend<R: Threads + Log + Sync>(
         &mut self,
         rt: &R,

@@ -1,17 +1,12 @@
 //! The log of a case: closed, with an engine, or with pipes alone.
-use crate::hearing::Hearer;
-use crate::piping::Pipes;
-use crate::text::{done, failed};
-use crate::watched::Watched;
 use log::Log;
 use raft_cases::{CaseFault, Command, look_at_files, play_on_files, read_fault, read_remainder};
 use raft_log_dual_pipes::DualPipes;
 use raft_log_engine::{Closed, Engine, Fault, FileSystem, LogEngine, MemoryFileSystem, Result};
+use raft_log_engine_commands::answers::done;
+use raft_log_pipe_commands::{Files, Hearer, Pipes, Watched};
 use std::alloc::{AllocError, Global};
 use std::mem;
-
-/// The files of a case.
-pub type Files = Watched<MemoryFileSystem>;
 
 /// The log of a case.
 #[derive(Drop)]
@@ -89,13 +84,12 @@ impl Store {
 
     /// Takes the files of a log that is closed, and leaves none; none of one that is open.
     pub fn take_files(&mut self, alloc: Global) -> Option<Files> {
-        let store = mem::replace(self, Store::new(alloc));
-        match store {
-            Store::Closed(files) => Some(files),
-            open => {
-                *self = open;
-                None
+        match self {
+            Store::Closed(files) => {
+                let none = Watched::new(MemoryFileSystem::new(alloc));
+                Some(mem::replace(files, none))
             }
+            _ => None,
         }
     }
 
@@ -103,13 +97,5 @@ impl Store {
     pub fn take_reads(&self, alloc: Global) -> std::result::Result<String, AllocError> {
         let (reads, bytes) = self.files().take_reads();
         format!(in alloc; "{reads} reads, {bytes} bytes")
-    }
-}
-
-/// The answer of a close.
-pub fn closed(alloc: Global, outcome: Result<()>) -> std::result::Result<String, AllocError> {
-    match outcome {
-        Ok(()) => Ok(String::new(alloc)),
-        Err(error) => failed(alloc, &error),
     }
 }

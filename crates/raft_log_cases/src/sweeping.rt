@@ -1,10 +1,10 @@
 //! Each call of a run fails in turn.
 use crate::run::{Step, played};
-use crate::settings::read_settings;
-use crate::text::failed;
 use log::Log;
 use raft_cases::{CaseFault, Command};
 use raft_log_engine::Fault;
+use raft_log_engine_commands::answers::failed;
+use raft_log_engine_commands::read_settings;
 use std::alloc::Global;
 use std::thread::Threads;
 

@@ -1,19 +1,17 @@
-//! Who plays which command.
-use crate::arguments::play_on_arguments;
+//! The column: which module plays which command.
 use crate::judging::play_on_transcript;
 use crate::memory::play_in_memory;
 use crate::nodes::play_node;
-use crate::pictures::play_on_pictures;
 use crate::places::Case;
-use crate::requests::request_of;
 use crate::rounds::{end_round, take};
-use crate::sessions::play_sessions;
-use crate::stored::play_on_stored;
 use crate::stores::play_on_store;
 use crate::sweeps::{play_script, record};
 use log::Log;
 use raft_cases::{CaseFault, Column, Command, play_on_files};
+use raft_voter_message_commands::requests::request_of;
+use raft_voter_message_commands::stored::play_on_stored;
 use raft_voter_messages::Items;
+use raft_voter_session_commands::{play_on_arguments, play_on_pictures, play_sessions};
 use std::alloc::Global;
 use std::fs::File;
 use std::rt::Files;
@@ -21,48 +19,45 @@ use std::sync::Wait;
 use std::thread::Threads;
 use std::time::Clock;
 
-/// Plays commands on voters: the runtime, and what the case has.
+/// Plays commands on voters.
 #[derive(Drop)]
-pub struct Cases<'a, R> {
-    rt: &'a R,
+pub struct Cases {
     alloc: Global,
     case: Case,
 }
 
-impl<'a, R> Cases<'a, R> {
+impl Cases {
     /// Before the first case.
-    pub fn new(rt: &'a R, alloc: Global) -> Cases<'a, R> {
+    pub fn new(alloc: Global) -> Cases {
         Cases {
-            rt,
             alloc,
             case: Case::new(alloc),
         }
     }
 }
 
-impl<
-    'a,
-    R: Threads + Wait + Clock + Log + Sync + Files<File = File> + AllocGlobal + Clone + Drop,
-> Column for Cases<'a, R> {
+impl Column for Cases {
     fn begin(&mut self) -> Result<(), CaseFault> {
         self.case = Case::new(self.alloc);
         Ok(())
     }
 
-    fn answer(&mut self, command: &mut Command) -> Result<String, CaseFault> {
-        if let Some(answer) = play_rounds(self.rt, self.alloc, &mut self.case, command)? {
+    fn answer<
+        R: Threads + Wait + Clock + Log + Sync + Files<File = File> + AllocGlobal + Clone + Drop,
+    >(&mut self, rt: &R, command: &mut Command) -> Result<String, CaseFault> {
+        if let Some(answer) = play_rounds(rt, self.alloc, &mut self.case, command)? {
             return Ok(answer);
         }
         if let Some(answer) = play_without_files(self.alloc, &mut self.case, command)? {
             return Ok(answer);
         }
-        if let Some(answer) = play_sessions(self.rt, self.alloc, command)? {
+        if let Some(answer) = play_sessions(rt, self.alloc, command)? {
             return Ok(answer);
         }
-        if let Some(answer) = play_node(self.rt, self.alloc, &mut self.case, command)? {
+        if let Some(answer) = play_node(rt, self.alloc, &mut self.case, command)? {
             return Ok(answer);
         }
-        if let Some(answer) = play_on_store(self.rt, self.alloc, &mut self.case, command)? {
+        if let Some(answer) = play_on_store(rt, self.alloc, &mut self.case, command)? {
             return Ok(answer);
         }
         match play_on_files(self.alloc, &mut self.case.files, command)? {

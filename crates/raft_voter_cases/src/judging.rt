@@ -1,8 +1,8 @@
 //! The judge, on rounds whose outcomes a case gives.
 use crate::places::Case;
-use crate::texts::{numbers_of, replies_of};
 use raft_cases::{CaseFault, Command};
 use raft_voter::judge;
+use raft_voter_message_commands::texts::{numbers_of, replies_of};
 use raft_voter_messages::{Items, Outcome, Request, Round};
 use std::alloc::Global;
 
@@ -24,7 +24,7 @@ pub fn play_on_transcript(
     }
 }
 
-/// `end outcome=REPLY,.. | cut [refused=]`: the round goes into the transcript.
+/// `end outcome=REPLY,.. | cut [refused=]`: adds the round to the transcript.
 pub fn add_round(
     alloc: Global,
     case: &mut Case,

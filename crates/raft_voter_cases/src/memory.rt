@@ -1,18 +1,18 @@
 //! Voters in memory, and outlines.
 use crate::outlines::terms;
 use crate::places::{Case, Place};
-use crate::requests::push_entries;
-use crate::stored::state_of;
-use crate::texts::refused;
 use raft_cases::{CaseFault, Command};
 use raft_voter::{Outline, Voter, Voters};
+use raft_voter_message_commands::requests::push_entries;
+use raft_voter_message_commands::stored::state_of;
+use raft_voter_message_commands::texts::refused;
 use raft_voter_messages::{Entry, Items, StoredFault, VoterState, read_state, state_fits};
 use std::alloc::Global;
 
 /// The greatest base index of an outline that a case makes.
 const MOST_BASE: u64 = 1_000_000;
 
-/// Plays a command that begins voters in memory or an outline, or shows one; none if it is another command.
+/// Plays a command that makes voters in memory or an outline, or shows an outline; none if it is another command.
 pub fn play_in_memory(
     alloc: Global,
     case: &mut Case,

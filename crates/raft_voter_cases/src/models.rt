@@ -1,9 +1,9 @@
-//! Voters in memory that tell what a store's voters have to be.
+//! Models: voters in memory, with which a store's voters are compared.
 use raft_voter::{Voter, Voters};
 use raft_voter_messages::{Memory, Reply, Request};
 use std::alloc::Global;
 
-/// Fresh voters three times: for those that take none of a round, its first request, and two.
+/// Three models of fresh voters. Of a round that is cut off, they take no request, the first one, and the first two.
 pub fn fresh_models(alloc: Global) -> Result<Vec<Voters>, Memory> {
     let mut models = Vec::new(alloc);
     for _ in 0..3 {
@@ -12,7 +12,7 @@ pub fn fresh_models(alloc: Global) -> Result<Vec<Voters>, Memory> {
     Ok(models)
 }
 
-/// A model takes the requests of the first so many places of a round, but for the refused ones.
+/// A model takes the first requests of a round, up to this count, except the refused ones.
 pub fn take_first(
     model: &mut Voters,
     requests: &[(u64, Request)],
@@ -27,7 +27,7 @@ pub fn take_first(
     Ok(())
 }
 
-/// A model takes the requests of a round with replies, except those whose reply is `Refused`. Returns whether its
+/// A model takes the requests of a round that got replies, except those whose reply is `Refused`. Returns whether its
 /// replies are the round's.
 pub fn take_answered(
     model: &mut Voters,

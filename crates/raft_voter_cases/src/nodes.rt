@@ -1,20 +1,21 @@
 //! A node over the files of a case.
 use crate::places::Case;
-use crate::sessions::session_of;
 use crate::settings::config_of;
 use crate::stores::take_files;
-use crate::texts::refused;
 use log::sink::Locked;
 use log::{Level, Log, Logged};
 use raft_cases::{CaseFault, Command};
+use raft_voter_message_commands::texts::refused;
 use raft_voter_node::run;
+use raft_voter_session_commands::session_of;
 use std::alloc::{AllocError, Global};
 use std::sync::Wait;
 use std::thread::Threads;
 use std::time::Clock;
 
-/// Plays `node text=`: runs a node over the files, which is asked this. The answer is what it writes, what it logs, and
-/// with which error it ends. The files that it closes are those of the case then. None if it is another command.
+/// Plays `node text=`: runs a node over the files, whose input is this text. The answer has its output, its log, and
+/// the error with which it ends. The case goes on with the files that the node closes. Returns none if it is another
+/// command.
 pub fn play_node<R: Threads + Wait + Log + Sync + Clock>(
     rt: &R,
     alloc: Global,

@@ -4,8 +4,8 @@ use raft_voter::{Answer, Change, Outline};
 use raft_voter_messages::Request;
 use std::alloc::{AllocError, Global};
 
-/// The outline decides a request, and makes the change that it decided, unless it is to be left undone. The answer says
-/// what was decided.
+/// The outline decides on a request, and makes the change unless it is to be left undone. The answer shows the
+/// decision.
 pub fn decide(
     alloc: Global,
     outline: &mut Outline,
@@ -29,12 +29,12 @@ pub fn decide(
     Ok(changed(alloc, answer.as_str(), &change)?)
 }
 
-/// What was decided: an answer, and the state from then on.
+/// A decision: its answer, and the state after its change.
 fn changed(alloc: Global, answer: &str, change: &Change) -> Result<String, AllocError> {
     format!(in alloc; "{answer}\nchange to {}", change.state)
 }
 
-/// The terms of the entries from one index on, below another, and the index of the base.
+/// The index of the base, and the terms of the entries from one index up to another, without it.
 pub fn terms(alloc: Global, outline: &Outline, from: u64, to: u64) -> Result<String, AllocError> {
     let mut text = format!(in alloc; "base {}:", outline.base_index())?;
     for index in from..to {

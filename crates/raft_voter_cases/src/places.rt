@@ -1,4 +1,4 @@
-//! What a case has: its files, and who takes its requests.
+//! What a case has: its files, and the voters that take its requests.
 use crate::sweeps::Step;
 use raft_log_fs_memory::MemoryFileSystem;
 use raft_voter::{Outline, Voters};
@@ -9,10 +9,10 @@ use std::alloc::Global;
 /// A store of voters whose log is in memory.
 pub type Store = VoterStore<MemoryFileSystem>;
 
-/// Who takes the requests of a case.
+/// What takes the requests of a case.
 #[derive(Drop)]
 pub enum Place {
-    /// Nobody: no store is open.
+    /// Nothing: no store is open.
     Nowhere,
     /// Voters in memory.
     Memory(Voters),
@@ -27,18 +27,18 @@ pub enum Place {
 pub struct Case {
     /// The files, while no store is open on them.
     pub files: MemoryFileSystem,
-    /// Who takes its requests.
+    /// What takes its requests.
     pub place: Place,
     /// The requests of a round that hasn't ended.
     pub round: Option<Items<(u64, Request)>>,
     /// Rounds whose outcome the case gives, for the judge.
     pub transcript: Transcript,
-    /// The steps of a script that is to be swept, once it has begun.
+    /// The steps of a script, once it has begun.
     pub script: Option<Vec<Step>>,
 }
 
 impl Case {
-    /// Without files, and with nobody who takes requests.
+    /// Without files, and with nothing that takes requests.
     pub fn new(alloc: Global) -> Case {
         Case {
             files: MemoryFileSystem::new(alloc),

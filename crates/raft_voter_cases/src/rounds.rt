@@ -1,17 +1,17 @@
-//! Rounds of requests, and who serves them.
+//! Rounds of requests: a store, voters in memory or an outline serves them.
 use crate::judging::add_round;
 use crate::outlines::decide;
 use crate::places::{Case, Place};
 use crate::sweeps::Step;
-use crate::texts::{refused, reply_lines};
 use log::Log;
 use raft_cases::{CaseFault, Command};
 use raft_voter::RoundFault;
+use raft_voter_message_commands::texts::{refused, reply_lines};
 use raft_voter_messages::{Items, Request};
 use std::alloc::{AllocError, Global};
 
-/// Takes a request: into the round that hasn't ended, or by itself. With `check` it only says whether the request is in
-/// range.
+/// Adds a request to the round that has begun, or else serves it alone. With `check` it only says whether the request
+/// is in range.
 pub fn take<R: Log>(
     rt: &R,
     alloc: Global,
@@ -36,7 +36,7 @@ pub fn take<R: Log>(
     serve(rt, alloc, case, requests)
 }
 
-/// `end`: the requests of the round are served together. With `outcome=` the round isn't served, but goes into the
+/// `end`: serves the requests of the round together. With `outcome=` the round isn't served, but is added to the
 /// transcript with this outcome.
 pub fn end_round<R: Log>(
     rt: &R,
@@ -53,7 +53,7 @@ pub fn end_round<R: Log>(
     }
 }
 
-/// Serves a round, or puts it into the script that has begun.
+/// Serves a round, or adds it to the script that has begun.
 fn serve<R: Log>(
     rt: &R,
     alloc: Global,
@@ -78,7 +78,7 @@ fn serve<R: Log>(
     }
 }
 
-/// Why a round was cut off, and the refused places.
+/// Why a round was cut off, and the places of its refused requests.
 fn cut_off(alloc: Global, fault: &RoundFault) -> Result<String, AllocError> {
     let mut text = refused(alloc, fault)?;
     for place in fault.refused.as_slice() {

@@ -24,7 +24,7 @@ pub fn config_of(alloc: Global, command: &mut Command) -> Result<Config, CaseFau
     Ok(config)
 }
 
-/// The same settings for so many workers.
+/// The same settings with this many workers.
 pub fn with_workers(config: &Config, workers: usize) -> Result<Config, AllocError> {
     let mut config = config.clone()?;
     config.recovery_threads = workers;

@@ -1,7 +1,6 @@
 //! A store of voters over the files of a case.
 use crate::places::{Case, Place, Store};
 use crate::settings::config_of;
-use crate::texts::refused;
 use log::Log;
 use raft_cases::{CaseFault, Command, play_on_files, read_bytes};
 use raft_log_file_listeners::Nobody;
@@ -10,6 +9,7 @@ use raft_log_fs::{Fault, FileSystem};
 use raft_log_fs_memory::{MemoryFileSystem, Piece, Remainder};
 use raft_log_record_base::LogQueue;
 use raft_voter::Voter;
+use raft_voter_message_commands::texts::refused;
 use raft_voter_messages::Reply;
 use raft_voter_store::VoterStore;
 use std::alloc::{AllocError, Global};
@@ -44,7 +44,7 @@ pub fn play_on_store<R: Threads + Log + Sync>(
     }
 }
 
-/// The files of a case, on which no store is open from then on.
+/// The files of a case. An open store is closed.
 pub fn take_files<R: Log>(rt: &R, alloc: Global, case: &mut Case) -> MemoryFileSystem {
     match std::mem::replace(&mut case.place, Place::Nowhere) {
         Place::Open(store) => store.close(rt).files,
@@ -52,8 +52,8 @@ pub fn take_files<R: Log>(rt: &R, alloc: Global, case: &mut Case) -> MemoryFileS
     }
 }
 
-/// `open`: opens the store whose log the settings name, by scoped threads if the command says `scoped`; one that is
-/// open is closed before.
+/// `open [scoped]` and settings: closes an open store, and then opens the store whose log the settings name, with
+/// scoped threads if the command says so.
 fn open<R: Threads + Log + Sync>(
     rt: &R,
     alloc: Global,
@@ -95,7 +95,7 @@ fn close<R: Log>(rt: &R, alloc: Global, case: &mut Case) -> Result<String, CaseF
     }
 }
 
-/// `fork target=` and settings: copies the log that the settings name, which no store has open.
+/// `fork target=` and settings: copies the log that the settings name. No store may have it open.
 fn fork<R: Log>(
     rt: &R,
     alloc: Global,
@@ -145,7 +145,7 @@ fn group_words(alloc: Global, groups: &[u64]) -> Result<String, AllocError> {
     Ok(text)
 }
 
-/// Looks at an open store or its files, or arms a fault of these.
+/// Shows an open store or its files, or arms a fault of the files.
 fn look(
     alloc: Global,
     store: &mut Store,
@@ -212,7 +212,7 @@ fn fault_of(command: &mut Command) -> Result<Fault, CaseFault> {
     })
 }
 
-/// `crash keep=`: goes on with the files that a crash leaves of those below an open store; none if no store is open.
+/// `crash keep=`: goes on with the files that a crash leaves of an open store; none if no store is open.
 fn crash(
     alloc: Global,
     case: &mut Case,

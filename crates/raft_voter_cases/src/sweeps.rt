@@ -1,42 +1,42 @@
-//! A script is played again and again, each time with another changing call that fails: whatever a crash then leaves is
-//! opened, and its voters are those of the rounds that got replies, and of some first requests of one that was cut
-//! off.
+//! Plays a script again and again. Each time another changing call fails, and each state that a crash may leave is
+//! opened as a store. Its voters must have taken the rounds that got replies, and the first requests of one that was
+//! cut off.
 mod playing;
 mod remainders;
 
 use crate::places::Case;
 use crate::settings::config_of;
-use crate::texts::refused;
 use log::Log;
 use playing::{Swept, play_armed};
 use raft_cases::{CaseFault, Command};
 use raft_log_file_settings::Config;
 use raft_log_fs::Fault;
+use raft_voter_message_commands::texts::refused;
 use raft_voter_messages::{Items, Request};
 use std::alloc::Global;
 use std::thread::Threads;
 
-/// How many calls a script makes at most.
+/// No script makes this many calls.
 const MOST_CALLS: u64 = 100;
 
-/// How many bytes a write that is refused in part writes.
+/// How many bytes a write that fails in part writes.
 const PART: usize = 40;
 
 /// A step of a script.
 #[derive(Drop)]
 pub enum Step {
-    /// The store is opened with these settings; one that is open is closed before.
+    /// Closes an open store, and opens one with these settings.
     Open(Config),
-    /// A round of these requests, each with its group.
+    /// Serves a round of these requests, each with its group.
     Round(Items<(u64, Request)>),
-    /// What is past the thresholds is purged.
+    /// Purges what is past the thresholds.
     Purge,
-    /// All of Append is rewritten.
+    /// Rewrites all of Append.
     RewriteAppend,
 }
 
-/// Plays `script`, from which on commands are steps that aren't played, and `sweep fail=`, which plays these; none if it
-/// is another command.
+/// Plays `script`, after which commands are added as steps, and `sweep fail=`, which plays these steps; none if it is
+/// another command.
 pub fn play_script<R: Threads + Log + Sync>(
     rt: &R,
     alloc: Global,
@@ -53,7 +53,7 @@ pub fn play_script<R: Threads + Log + Sync>(
     }
 }
 
-/// Puts a command into the script that has begun; none if none has, or the command is no step.
+/// Adds a command to the script; none if no script has begun, or the command is no step.
 pub fn record(
     alloc: Global,
     case: &mut Case,
@@ -72,8 +72,8 @@ pub fn record(
     Ok(Some(String::new(alloc)))
 }
 
-/// `sweep fail=refuse | part | stop | after`: the script is played with each of its calls failing so in turn, up to one
-/// that it doesn't make any more.
+/// `sweep fail=refuse | part | stop | after`: plays the script once for each of its calls, which fails in this way,
+/// until the script makes fewer calls.
 fn sweep<R: Threads + Log + Sync>(
     rt: &R,
     alloc: Global,
@@ -97,7 +97,7 @@ fn sweep<R: Threads + Log + Sync>(
     Ok(refused(alloc, "too many calls")?)
 }
 
-/// The fault of a call that fails so.
+/// The fault of a call that fails in this way.
 fn fault_of(fail: &str, call: u64) -> Option<Fault> {
     match fail {
         "refuse" => Some(Fault::Refuse(call)),

@@ -1,4 +1,4 @@
-//! A script is played once, with voters in memory beside it.
+//! Plays a script once, on a store and on the models.
 use super::Step;
 use super::remainders::all_stand;
 use crate::models::{fresh_models, take_answered, take_first};
@@ -15,11 +15,11 @@ use raft_voter_store::VoterStore;
 use std::alloc::Global;
 use std::thread::Threads;
 
-/// What came of a script that was played with a fault armed.
+/// How a script ended that was played with a fault armed.
 pub enum Swept {
-    /// A call failed, and what a crash leaves holds the voters of one of the models.
+    /// A call failed. What a crash leaves has the voters of one of the models.
     Met,
-    /// No call failed, so all was done; and what a crash leaves holds the voters of one of the models.
+    /// No call failed, and all steps succeeded. What a crash leaves has the voters of one of the models.
     Unmet,
     /// Anything else.
     Wrong(&'static str),
@@ -28,13 +28,13 @@ pub enum Swept {
 /// How the steps so far ended.
 #[derive(Clone, Copy, PartialEq)]
 enum Ended {
-    /// All were done.
+    /// All succeeded.
     Done,
-    /// Something was refused, and what came after it was done.
+    /// A step failed, and those after it succeeded.
     Refused,
-    /// A round was cut off, or an open refused.
+    /// A round was cut off, or an open failed.
     CutOff,
-    /// A reply wasn't the models'.
+    /// A reply differs from the models'.
     Wrong,
 }
 
@@ -48,7 +48,7 @@ struct Player {
     models: Vec<Voters>,
 }
 
-/// Plays a script on files without a log with a fault armed.
+/// Plays a script on files without a log, with a fault armed.
 pub fn play_armed<R: Threads + Log + Sync>(
     rt: &R,
     alloc: Global,
@@ -78,7 +78,8 @@ pub fn play_armed<R: Threads + Log + Sync>(
     Ok(came_of(ended, &player.files, stand))
 }
 
-/// What came of a script, by how it ended, what it left, and whether that holds the voters of one of the models.
+/// How a script ended: by its last step, the files that it left, and whether these have the voters of one of the
+/// models.
 fn came_of(ended: Ended, left: &MemoryFileSystem, stand: bool) -> Swept {
     if ended == Ended::Wrong {
         return Swept::Wrong("a reply is not that of the voters in memory");
@@ -97,7 +98,7 @@ fn came_of(ended: Ended, left: &MemoryFileSystem, stand: bool) -> Swept {
 }
 
 impl Player {
-    /// Plays steps up to a round that is cut off, or an open that is refused.
+    /// Plays steps up to a round that is cut off, or an open that fails.
     fn play<R: Threads + Log + Sync>(&mut self, rt: &R, steps: &[Step]) -> Result<Ended, Memory> {
         let mut ended = Ended::Done;
         for step in steps {
@@ -110,7 +111,7 @@ impl Player {
         Ok(ended)
     }
 
-    /// Plays a step; a purge changes no voter, refused or not.
+    /// Plays a step. A purge changes no voter, even if it fails.
     fn go<R: Threads + Log + Sync>(&mut self, rt: &R, step: &Step) -> Result<Ended, Memory> {
         if let Step::Open(config) = step {
             return self.open(rt, config);
@@ -132,7 +133,7 @@ impl Player {
         Ok(if is_done { Ended::Done } else { Ended::Refused })
     }
 
-    /// Opens the store; one that is open is closed before.
+    /// Closes an open store, and opens one with these settings.
     fn open<R: Threads + Log + Sync>(&mut self, rt: &R, config: &Config) -> Result<Ended, Memory> {
         self.close(rt);
         let config = config.clone()?;
@@ -156,7 +157,7 @@ impl Player {
         }
     }
 
-    /// The models take a round with replies.
+    /// The models take a round that got replies.
     fn answered(
         &mut self,
         requests: &[(u64, Request)],
@@ -175,7 +176,7 @@ impl Player {
         })
     }
 
-    /// Of a round that was cut off the first model takes no request, the next one the first, and so on.
+    /// Of a round that was cut off, the first model takes no request, the second model the first request, and so on.
     fn cut_off(
         &mut self,
         requests: &[(u64, Request)],

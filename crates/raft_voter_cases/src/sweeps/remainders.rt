@@ -11,7 +11,7 @@ use raft_voter_store::VoterStore;
 use std::alloc::{AllocError, Global};
 use std::thread::Threads;
 
-/// Which of the first three changes are kept, where one is lost that came before.
+/// Which of the first three changes are kept, if an earlier one is lost.
 const GAPS: [[bool; 3]; 4] = [
     [false, true, false],
     [false, false, true],
@@ -22,8 +22,8 @@ const GAPS: [[bool; 3]; 4] = [
 /// How many bytes are left of the change after the first ones.
 const PART: usize = 40;
 
-/// Whether the voters are a model's, whatever a crash leaves: all, the first changes with a part of the next one or
-/// without, and changes with gaps. These scripts never leave more than three changes that aren't synced.
+/// Whether the voters are a model's in each state that a crash may leave: all changes, the first ones with or without a
+/// part of the next one, and changes with gaps. These scripts never leave more than three changes that aren't synced.
 pub fn all_stand<R: Threads + Log + Sync>(
     rt: &R,
     alloc: Global,
@@ -70,7 +70,7 @@ fn piece(is_kept: bool) -> Piece {
     if is_kept { Piece::Keep } else { Piece::Lose }
 }
 
-/// Whether the voters that an open by two workers finds of what a crash leaves are those of one of the models.
+/// Whether an open with two workers finds the voters of one of the models in what a crash leaves.
 fn stands<R: Threads + Log + Sync>(
     rt: &R,
     alloc: Global,

@@ -1,6 +1,6 @@
 //! Commands that read from an engine.
+use crate::answers::{Outcome, answer, number_or_none, numbers_in_a_row, truth};
 use crate::number::{Number, Numbers};
-use crate::text::{Outcome, answer, number_or_none, numbers, truth};
 use raft_cases::{CaseFault, Command, show_bytes};
 use raft_log_engine::{LogEngine, LogQueue, PipeLog};
 use raft_log_record_items::{RawEntries, RawMessage};
@@ -23,9 +23,10 @@ pub fn play_read<P: PipeLog>(
         }
         "entry" => {
             let (group, index) = (command.number("group")?, command.number("index")?);
-            match command.has("number")? {
-                true => number_entry(alloc, engine, group, index),
-                false => entry(alloc, engine, group, index),
+            if command.has("number")? {
+                number_entry(alloc, engine, group, index)
+            } else {
+                entry(alloc, engine, group, index)
             }
         }
         "fetch" => fetch(alloc, engine, command)?,
@@ -113,10 +114,11 @@ fn fetch<P: PipeLog>(
     let group = command.number("group")?;
     let (from, below) = (command.number("from")?, command.number("below")?);
     let size = command.number_if("size")?.map(|size| size as usize);
-    match command.has("number")? {
-        true => Ok(fetch_numbers(alloc, engine, group, from, below, size)),
-        false => Ok(fetch_entries(alloc, engine, group, from, below, size)),
-    }
+    Ok(if command.has("number")? {
+        fetch_numbers(alloc, engine, group, from, below, size)
+    } else {
+        fetch_entries(alloc, engine, group, from, below, size)
+    })
 }
 
 /// Entries, one a line, or `none`.
@@ -157,7 +159,7 @@ fn fetch_numbers<P: PipeLog>(
     for number in found.iter() {
         values.push(number.value as u64)?;
     }
-    Ok(numbers(alloc, values.as_slice())?)
+    Ok(numbers_in_a_row(alloc, values.as_slice())?)
 }
 
 /// The first and the last index of a group.
@@ -170,7 +172,7 @@ fn first_last<P: PipeLog>(alloc: Global, engine: &LogEngine<P>, group: u64) -> O
 /// The groups that have something.
 fn groups<P: PipeLog>(alloc: Global, engine: &LogEngine<P>) -> Outcome {
     match engine.raft_groups() {
-        Ok(groups) => Ok(numbers(alloc, groups.as_slice())?),
+        Ok(groups) => Ok(numbers_in_a_row(alloc, groups.as_slice())?),
         Err(error) => Err(error),
     }
 }

@@ -1,6 +1,6 @@
 //! Scans of the keys of a group.
+use crate::answers::{Outcome, answer};
 use crate::number::Number;
-use crate::text::{Outcome, answer};
 use raft_cases::{CaseFault, Command, show_bytes};
 use raft_log_engine::{Error, LogEngine, PipeLog};
 use std::alloc::{AllocError, Global};
@@ -65,13 +65,12 @@ pub fn play_scan<P: PipeLog>(
     };
     let is_reverse = command.has("reverse")?;
     let bounds = (slice_of(&from), slice_of(&below));
-    match command.has("number")? {
-        true => answer(
-            alloc,
-            scan_numbers(alloc, engine, group, bounds, is_reverse, lines),
-        ),
-        false => answer(alloc, scan(alloc, engine, group, bounds, is_reverse, lines)),
-    }
+    let outcome = if command.has("number")? {
+        scan_numbers(alloc, engine, group, bounds, is_reverse, lines)
+    } else {
+        scan(alloc, engine, group, bounds, is_reverse, lines)
+    };
+    answer(alloc, outcome)
 }
 
 /// The bytes of a bound, if there is one.

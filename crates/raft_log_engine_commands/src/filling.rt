@@ -1,6 +1,6 @@
 //! Groups that are filled with made entries, and compared with them.
-use crate::text::done;
-use crate::words::{add_entries, put};
+use crate::answers::done;
+use crate::batches::{add_entries, put};
 use log::Log;
 use raft_cases::{CaseFault, Command};
 use raft_log_engine::{LogBatch, LogEngine, PipeLog, Result};

@@ -1,5 +1,5 @@
 //! Commands that write to an engine, and that purge it.
-use crate::text::{Outcome, answer, done, numbers};
+use crate::answers::{Outcome, answer, done, numbers_in_a_row};
 use log::Log;
 use raft_cases::{CaseFault, Command};
 use raft_log_engine::{LogBatch, LogEngine, PipeLog};
@@ -17,7 +17,7 @@ pub fn play_change<L: Log, P: PipeLog>(
     let text = match name.as_str() {
         "write" => {
             let syncs = command.has("sync")?;
-            answer(alloc, write(rt, alloc, engine, batch, syncs))?
+            answer(alloc, write_batch(rt, alloc, engine, batch, syncs))?
         }
         "sync" => done(alloc, engine.sync(rt))?,
         "compact-to" => {
@@ -37,7 +37,7 @@ pub fn play_change<L: Log, P: PipeLog>(
 }
 
 /// Writes a batch, and shows how many bytes its record has.
-pub fn write<L: Log, P: PipeLog>(
+pub fn write_batch<L: Log, P: PipeLog>(
     rt: &L,
     alloc: Global,
     engine: &mut LogEngine<P>,
@@ -67,7 +67,7 @@ fn compact<L: Log, P: PipeLog>(
 /// Purges both queues, and shows the groups that the caller is asked to compact.
 fn purge<L: Log, P: PipeLog>(rt: &L, alloc: Global, engine: &mut LogEngine<P>) -> Outcome {
     match engine.purge_expired_files(rt) {
-        Ok(groups) => Ok(numbers(alloc, groups.as_slice())?),
+        Ok(groups) => Ok(numbers_in_a_row(alloc, groups.as_slice())?),
         Err(error) => Err(error),
     }
 }

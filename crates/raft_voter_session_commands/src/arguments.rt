@@ -1,4 +1,4 @@
-//! What arguments ask of the program.
+//! What arguments request of the program.
 use raft_cases::{CaseFault, Command, read_bytes};
 use raft_voter_program::{Arguments, has_arguments};
 use std::alloc::{AllocError, Global};
@@ -32,8 +32,8 @@ impl Env for Words {
     }
 }
 
-/// Plays `arguments [words=BYTES,..]`: whether there are arguments after the program's name, and what they ask; none if
-/// it is another command.
+/// Plays `arguments [words=BYTES,..]`: whether there are arguments after the program's name, and what they request;
+/// none if it is another command.
 pub fn play_on_arguments(
     alloc: Global,
     command: &mut Command,
@@ -66,7 +66,7 @@ fn words_of(alloc: Global, command: &mut Command) -> Result<Words, CaseFault> {
     Ok(Words { words })
 }
 
-/// What is asked, in words.
+/// What arguments request, in words.
 fn asked(alloc: Global, arguments: Arguments) -> Result<String, AllocError> {
     match arguments {
         Arguments::Nothing => String::from_str(alloc, "run a session"),

@@ -1,6 +1,6 @@
 //! A listener that notes what it hears.
-use crate::text::queue_name;
 use raft_log_engine::{EventListener, FileBlockHandle, FileId, FileSeq, LogQueue};
+use raft_log_engine_commands::answers::queue_name;
 use std::alloc::{AllocError, Global};
 use std::sync::Arc;
 use std::sync::atomic::AtomicU64;
@@ -77,14 +77,27 @@ fn line_of(alloc: Global, event: u64) -> Result<String, AllocError> {
 #[derive(Drop)]
 pub struct Hearer {
     /// Its number.
-    pub number: u64,
+    number: u64,
     /// The first file that it holds back.
-    pub holds: Option<FileSeq>,
+    holds: Option<FileSeq>,
     /// Where it notes what it hears.
-    pub notes: Arc<Notes>,
+    notes: Arc<Notes>,
 }
 
 impl Hearer {
+    /// A listener of this number, which holds back the files from this one on.
+    pub fn new(
+        notes: &Arc<Notes>,
+        number: u64,
+        holds: Option<FileSeq>,
+    ) -> Result<Hearer, AllocError> {
+        Ok(Hearer {
+            number,
+            holds,
+            notes: notes.clone()?,
+        })
+    }
+
     /// Notes an event of a file.
     fn note(&self, event: u64, file: FileId) {
         let queue = match file.queue {

@@ -38,8 +38,8 @@ pub fn play_on_stored(alloc: Global, command: &mut Command) -> Result<Option<Str
     }))
 }
 
-/// `[term= vote= base= base-term= last= last-term= commit=]`: what isn't said of the last entry and of the commit is as
-/// at the base.
+/// `[term= vote= base= base-term= last= last-term= commit=]`: by default the last entry and the commit are those of the
+/// base.
 pub fn state_of(command: &mut Command) -> Result<VoterState, CaseFault> {
     let base_index = command.number_or("base", 0)?;
     let base_term = command.number_or("base-term", 0)?;
@@ -71,7 +71,7 @@ fn shown(alloc: Global, written: Result<Items<u8>, Memory>) -> Result<String, Ca
     }
 }
 
-/// `read-entry index= bytes=`: the entry that these bytes are at an index.
+/// `read-entry index= bytes=`: the entry at this index that the bytes encode.
 fn read_one(alloc: Global, command: &mut Command) -> Result<String, CaseFault> {
     let index = command.number("index")?;
     let bytes = command.bytes("bytes")?;
@@ -89,8 +89,8 @@ fn show_replies(alloc: Global, command: &mut Command) -> Result<String, CaseFaul
     }
 }
 
-/// `entry-text count=`: the text of the entry at index 12 of term 5 with so many bytes, each another than those beside
-/// it. Says how many letters it has, and whether they are the index, the term and the digits.
+/// `entry-text count=`: the text of the entry at index 12 of term 5 with this many bytes, of which no two neighbours
+/// are equal. Says how many letters it has, and whether they are the index, the term and the digits.
 fn entry_text(alloc: Global, command: &mut Command) -> Result<String, CaseFault> {
     let bytes = numbered(alloc, command.number("count")?)?;
     let mut digits = String::from_str(alloc, "12:5:")?;
@@ -109,7 +109,7 @@ fn entry_text(alloc: Global, command: &mut Command) -> Result<String, CaseFault>
     Ok(format!(in alloc; "{} letters, {word} as expected", text.len())?)
 }
 
-/// So many bytes, each another than those beside it.
+/// This many bytes, of which no two neighbours are equal.
 fn numbered(alloc: Global, count: u64) -> Result<Vec<u8>, AllocError> {
     let mut bytes = Vec::new(alloc);
     for place in 0..count {

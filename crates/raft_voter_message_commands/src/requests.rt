@@ -55,7 +55,7 @@ fn append_of(alloc: Global, command: &mut Command) -> Result<Request, CaseFault>
     })
 }
 
-/// The entries of a command, as many times as it says.
+/// The entries of a command, repeated `times=` times.
 fn entries_of(alloc: Global, command: &mut Command) -> Result<Entries, CaseFault> {
     let mut entries = Items::new(alloc);
     let times = command.number_or("times", 1)?;
@@ -70,7 +70,7 @@ fn entries_of(alloc: Global, command: &mut Command) -> Result<Entries, CaseFault
     Ok(entries)
 }
 
-/// Appends the entries of a list; no if one can't be read.
+/// Appends the entries of a list; false if one can't be read.
 pub fn push_entries(alloc: Global, list: &str, entries: &mut Entries) -> Result<bool, AllocError> {
     for word in list.split(',') {
         match entry_of(alloc, word)? {

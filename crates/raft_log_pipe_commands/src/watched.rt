@@ -1,5 +1,5 @@
 //! A file system that counts its reads, and in which a read of one file can wait for a read of another.
-use raft_log_engine::{Fault, FileSystem, Handle, Permission};
+use raft_log_engine::{Fault, FileSystem, Handle, MemoryFileSystem, Permission};
 use std::io::ErrorKind;
 use std::sync::atomic::AtomicU64;
 use std::sync::atomic::Ordering::SeqCst;
@@ -7,6 +7,9 @@ use std::thread::yield_now;
 
 /// How many turns a read waits at most.
 const TURNS: u64 = 100_000_000;
+
+/// The files of a case.
+pub type Files = Watched<MemoryFileSystem>;
 
 /// A gate: the first read of a file waits until another file is read.
 #[derive(Drop)]

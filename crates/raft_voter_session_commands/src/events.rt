@@ -1,11 +1,11 @@
 //! What the lines of a session say.
-use crate::texts::refused;
 use raft_cases::CaseFault;
+use raft_voter_message_commands::texts::refused;
 use raft_voter_session::read_session;
 use raft_voter_world::{Event, Left};
 use std::alloc::{AllocError, Global};
 
-/// What a session says: its settings, and its events, one a line, or how many events alone; or the line that can't be
+/// The settings of a session and its events, one a line, or only how many events it has; or the line that can't be
 /// read.
 pub fn read_events(
     alloc: Global,

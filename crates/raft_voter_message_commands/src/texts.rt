@@ -53,7 +53,7 @@ pub fn replies_of(alloc: Global, list: &str, mark: char) -> Result<Option<Vec<Re
     Ok(Some(replies))
 }
 
-/// The numbers of a list that a command may have; none of them if it doesn't.
+/// The numbers of a list; none if the command doesn't have it.
 pub fn numbers_of(
     alloc: Global,
     command: &mut Command,
@@ -72,7 +72,7 @@ pub fn numbers_of(
     Ok(numbers)
 }
 
-/// Appends the text of a session: `_` is a space and `;` the end of a line.
+/// Appends the text of a session, in which `_` is a space and `;` the end of a line.
 pub fn push_lines(text: &mut String, spelled: &str) -> Result<(), AllocError> {
     let mut is_first = true;
     for line in spelled.split(';') {
@@ -85,7 +85,7 @@ pub fn push_lines(text: &mut String, spelled: &str) -> Result<(), AllocError> {
     Ok(())
 }
 
-/// Appends a line: `_` is a space.
+/// Appends a line, in which `_` is a space.
 fn push_words(text: &mut String, line: &str) -> Result<(), AllocError> {
     let mut is_first = true;
     for word in line.split('_') {

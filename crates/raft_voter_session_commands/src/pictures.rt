@@ -1,7 +1,7 @@
 //! The picture of a session: its lines, and how texts are escaped.
-use crate::sessions::session_of;
-use crate::texts::{numbers_of, refused, replies_of};
+use crate::spelled::session_of;
 use raft_cases::{CaseFault, Command};
+use raft_voter_message_commands::texts::{numbers_of, refused, replies_of};
 use raft_voter_messages::{Items, Outcome, Reply, Request, Round};
 use raft_voter_session::read_session;
 use raft_voter_timeline::{Line, lines_of, push_escaped, titles_of, writes_of};
@@ -18,7 +18,7 @@ pub fn play_on_pictures(alloc: Global, command: &mut Command) -> Result<Option<S
     }
 }
 
-/// `escape bytes=`: a text as it is written in XML.
+/// `escape bytes=`: a text, escaped for XML.
 fn escape(alloc: Global, command: &mut Command) -> Result<String, CaseFault> {
     let Ok(text) = String::from_utf8(command.bytes("bytes")?) else {
         return Err(CaseFault::unreadable(alloc, "bytes"));
@@ -98,7 +98,7 @@ fn round_of(
     })
 }
 
-/// Lines of a picture: the mark, the words, and what came of it.
+/// Lines of a picture: the mark, the words, and the outcome.
 fn line_words(alloc: Global, lines: &[Line]) -> Result<String, AllocError> {
     let mut text = String::new(alloc);
     for line in lines {

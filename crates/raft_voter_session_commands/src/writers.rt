@@ -7,7 +7,7 @@ use std::io;
 use std::io::{ErrorKind, Read, Write};
 use std::thread::Threads;
 
-/// Gives so many line feeds, one by one, and then fails.
+/// Gives this many line feeds, one by one, and then fails.
 #[derive(Drop)]
 pub struct BrokenReader {
     pub reads: u64,
@@ -27,12 +27,12 @@ impl Read for BrokenReader {
     }
 }
 
-/// Takes so many bytes, and then fails.
+/// Takes this many bytes, and then fails.
 #[derive(Drop)]
 struct BrokenWriter {
     room: usize,
     has_failed: bool,
-    /// Whether it was asked to write after it had failed.
+    /// Whether `write` was called after it had failed.
     is_asked_again: bool,
 }
 
@@ -55,8 +55,8 @@ impl Write for BrokenWriter {
     }
 }
 
-/// Runs a session to writers with room for no byte, one byte, and so on, up to so many; a line for each says how the run
-/// ended, and whether more was written after the writer had failed.
+/// Runs a session to writers with room for no byte, one byte, and so on, below `most`. A line for each says how the run
+/// ended, and whether it went on writing after the writer had failed.
 pub fn rooms<R: Threads + Log + Sync>(
     rt: &R,
     alloc: Global,
@@ -72,7 +72,7 @@ pub fn rooms<R: Threads + Log + Sync>(
     Ok(text)
 }
 
-/// How a run to a writer with this room ends.
+/// How a run ends whose writer has this room.
 fn end_with<R: Threads + Log + Sync>(
     rt: &R,
     alloc: Global,

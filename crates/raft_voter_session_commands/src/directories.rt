@@ -1,6 +1,6 @@
-//! Real directories, in the one where the program runs.
-use crate::texts::refused;
+//! Real directories, inside the one where the program runs.
 use raft_cases::{CaseFault, Command};
+use raft_voter_message_commands::texts::refused;
 use std::alloc::Global;
 use std::fs::File;
 use std::rt::Files;
@@ -43,7 +43,7 @@ fn make_fresh<R: Files<File = File> + AllocGlobal + Clone + Drop>(
     fs::create_dir(rt, path)
 }
 
-/// Cuts so many bytes off a file's end.
+/// Cuts this many bytes off a file's end.
 fn cut<R: Files<File = File> + AllocGlobal>(rt: &R, path: &str, fewer: usize) -> io::Result<()> {
     let mut bytes = fs::read(rt, path)?;
     bytes.truncate(bytes.len().saturating_sub(fewer));

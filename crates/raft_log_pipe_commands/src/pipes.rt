@@ -1,8 +1,6 @@
 //! Pipes without an engine, and the entry block that is kept of them.
 use crate::hearing::Hearer;
-use crate::number::Number;
-use crate::store::Files;
-use crate::text::{Outcome, answer, done, number_or_none, truth};
+use crate::watched::Files;
 use log::Log;
 use raft_cases::{CaseFault, Command, show_bytes};
 use raft_log_block_cache::BlockCache;
@@ -11,66 +9,18 @@ use raft_log_engine::{
     Closed, EnginePipes, EntryIndex, Error, Fault, FileBlockHandle, FileId, LogQueue, PipeLog,
     PurgeHook, Result,
 };
+use raft_log_engine_commands::Number;
+use raft_log_engine_commands::answers::{Outcome, answer, done, number_or_none, truth};
 use raft_log_file_listeners::ToldPipes;
 use raft_log_file_pipe::ReactiveBytes;
 use raft_log_record_base::LogFileContext;
 use std::alloc::Global;
-
-/// Bytes that aren't signed.
-#[derive(Drop)]
-struct Plain {
-    /// The bytes.
-    bytes: Vec<u8>,
-}
-
-impl ReactiveBytes for Plain {
-    type Said = Vec<u8>;
-
-    ghost said = { λ plain. plain.bytes };
-
-    ghost bytes = { λ plain. plain.bytes.items };
-
-    ghost signed = { λ plain context. plain.bytes.items };
-
-    fn sign(&mut self, _context: &LogFileContext) {}
-
-    fn as_bytes(&self) -> &[u8] {
-        &self.bytes
-    }
-}
 
 /// Both pipes of a log, to which a listener and an engine's hook listen, and the entry block that is kept.
 #[derive(Drop)]
 pub struct Pipes {
     pipes: EnginePipes<Files, Hearer>,
     cache: BlockCache,
-}
-
-/// The queue that a command says.
-fn queue(alloc: Global, command: &mut Command) -> std::result::Result<LogQueue, CaseFault> {
-    let queue = command.text("queue")?;
-    match queue.as_str() {
-        "append" => Ok(LogQueue::Append),
-        "rewrite" => Ok(LogQueue::Rewrite),
-        _ => Err(CaseFault::unreadable(alloc, "queue")),
-    }
-}
-
-/// The place that a command says: `count` bytes at `offset` of a file.
-fn place(alloc: Global, command: &mut Command) -> std::result::Result<FileBlockHandle, CaseFault> {
-    Ok(FileBlockHandle {
-        id: FileId::new(queue(alloc, command)?, command.number("file")?),
-        offset: command.number("offset")?,
-        len: command.number("count")? as usize,
-    })
-}
-
-/// A number of 32 bits that a command says.
-fn small(alloc: Global, command: &mut Command, key: &str) -> std::result::Result<u32, CaseFault> {
-    match u32::try_from(command.number(key)?) {
-        Ok(number) => Ok(number),
-        Err(_) => Err(CaseFault::unreadable(alloc, key)),
-    }
 }
 
 impl Pipes {
@@ -108,7 +58,7 @@ impl Pipes {
         let text = match name.as_str() {
             "record" => {
                 let (queue, bytes) = (queue(alloc, command)?, command.bytes("bytes")?);
-                answer(alloc, record(rt, alloc, &mut self.pipes, queue, bytes))?
+                answer(alloc, append(rt, alloc, &mut self.pipes, queue, bytes))?
             }
             "sync" => done(alloc, self.pipes.sync(rt, queue(alloc, command)?))?,
             "rotate" => done(alloc, self.pipes.rotate(alloc, rt, queue(alloc, command)?))?,
@@ -136,8 +86,8 @@ impl Pipes {
         let name = String::from_str(alloc, command.name())?;
         let text = match name.as_str() {
             "read" => answer(alloc, read(alloc, &self.pipes, place(alloc, command)?))?,
-            "files" => files(alloc, &self.pipes)?,
-            "sizes" => sizes(alloc, &self.pipes)?,
+            "files" => show_spans(alloc, &self.pipes)?,
+            "sizes" => show_sizes(alloc, &self.pipes)?,
             "file-at" => file_at(alloc, &self.pipes, command)?,
             "not-ready" => {
                 let queue = queue(alloc, command)?;
@@ -179,18 +129,41 @@ impl Pipes {
     }
 }
 
-/// The entry that a command says: `size` bytes from `from` on, of a block or of none.
-fn entry_of(alloc: Global, command: &mut Command) -> std::result::Result<EntryIndex, CaseFault> {
-    let mut entry = EntryIndex::unplaced(1, small(alloc, command, "size")?);
-    entry.entry_offset = small(alloc, command, "from")?;
-    if command.has("file")? {
-        entry.entries = Some(place(alloc, command)?);
+/// The queue that a command says.
+fn queue(alloc: Global, command: &mut Command) -> std::result::Result<LogQueue, CaseFault> {
+    let queue = command.text("queue")?;
+    match queue.as_str() {
+        "append" => Ok(LogQueue::Append),
+        "rewrite" => Ok(LogQueue::Rewrite),
+        _ => Err(CaseFault::unreadable(alloc, "queue")),
     }
-    Ok(entry)
+}
+
+/// Bytes that aren't signed.
+#[derive(Drop)]
+struct Plain {
+    /// The bytes.
+    bytes: Vec<u8>,
+}
+
+impl ReactiveBytes for Plain {
+    type Content = Vec<u8>;
+
+    ghost said = { λ plain. plain.bytes };
+
+    ghost bytes = { λ plain. plain.bytes.items };
+
+    ghost signed = { λ plain context. plain.bytes.items };
+
+    fn sign(&mut self, _context: &LogFileContext) {}
+
+    fn as_bytes(&self) -> &[u8] {
+        &self.bytes
+    }
 }
 
 /// Appends bytes, and shows where they are.
-fn record<L: Log, P: PipeLog>(
+fn append<L: Log, P: PipeLog>(
     rt: &L,
     alloc: Global,
     pipes: &mut P,
@@ -207,12 +180,21 @@ fn record<L: Log, P: PipeLog>(
     }
 }
 
-/// Lets files go, and shows how many.
+/// Purges files, and shows how many.
 fn purge_to<L: Log, P: PipeLog>(rt: &L, alloc: Global, pipes: &mut P, file: FileId) -> Outcome {
     match pipes.purge_to(alloc, rt, file) {
         Ok(count) => Ok(format!(in alloc; "{count} files")?),
         Err(error) => Err(error),
     }
+}
+
+/// The place that a command says: `count` bytes at `offset` of a file.
+fn place(alloc: Global, command: &mut Command) -> std::result::Result<FileBlockHandle, CaseFault> {
+    Ok(FileBlockHandle {
+        id: FileId::new(queue(alloc, command)?, command.number("file")?),
+        offset: command.number("offset")?,
+        len: command.number("count")? as usize,
+    })
 }
 
 /// The bytes at a place.
@@ -224,14 +206,14 @@ fn read<P: PipeLog>(alloc: Global, pipes: &P, place: FileBlockHandle) -> Outcome
 }
 
 /// The first and the last file of both queues.
-fn files<P: PipeLog>(alloc: Global, pipes: &P) -> std::result::Result<String, CaseFault> {
+fn show_spans<P: PipeLog>(alloc: Global, pipes: &P) -> std::result::Result<String, CaseFault> {
     let (first, last) = pipes.file_span(LogQueue::Append);
     let (start, end) = pipes.file_span(LogQueue::Rewrite);
     Ok(format!(in alloc; "append {first} to {last}, rewrite {start} to {end}")?)
 }
 
 /// How many bytes the files of each queue have.
-fn sizes<P: PipeLog>(alloc: Global, pipes: &P) -> std::result::Result<String, CaseFault> {
+fn show_sizes<P: PipeLog>(alloc: Global, pipes: &P) -> std::result::Result<String, CaseFault> {
     let append = pipes.total_size(LogQueue::Append);
     let rewrite = pipes.total_size(LogQueue::Rewrite);
     Ok(format!(in alloc; "append {append}, rewrite {rewrite}")?)
@@ -252,12 +234,30 @@ fn file_at<P: PipeLog>(
     Ok(format!(in alloc; "{}", pipes.file_at(queue, part, parts))?)
 }
 
+/// A number of 32 bits that a command says.
+fn small(alloc: Global, command: &mut Command, key: &str) -> std::result::Result<u32, CaseFault> {
+    match u32::try_from(command.number(key)?) {
+        Ok(number) => Ok(number),
+        Err(_) => Err(CaseFault::unreadable(alloc, key)),
+    }
+}
+
 /// The bytes of an entry of the block that is kept.
 fn block_entry(alloc: Global, cache: &BlockCache, from: u32, size: u32) -> Outcome {
     match cache.entry(alloc, from, size) {
         Ok(bytes) => Ok(show_bytes(alloc, bytes)?),
         Err(error) => Err(error),
     }
+}
+
+/// The entry that a command says: `size` bytes from `from` on, of a block or of none.
+fn entry_of(alloc: Global, command: &mut Command) -> std::result::Result<EntryIndex, CaseFault> {
+    let mut entry = EntryIndex::unplaced(1, small(alloc, command, "size")?);
+    entry.entry_offset = small(alloc, command, "from")?;
+    if command.has("file")? {
+        entry.entries = Some(place(alloc, command)?);
+    }
+    Ok(entry)
 }
 
 /// An entry of a block as a number; the block is kept then.

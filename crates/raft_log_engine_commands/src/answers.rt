@@ -41,7 +41,7 @@ pub fn number_or_none(alloc: Global, number: Option<u64>) -> Result<String, Allo
 }
 
 /// Numbers in a row, or `none`.
-pub fn numbers(alloc: Global, numbers: &[u64]) -> Result<String, AllocError> {
+pub fn numbers_in_a_row(alloc: Global, numbers: &[u64]) -> Result<String, AllocError> {
     let mut text = String::new(alloc);
     for number in numbers.iter() {
         let word = format!(in alloc; "{number} ")?;

@@ -43,8 +43,8 @@ pub record StandsWithRecords {R : Type 0} (F : Format R) (own : List ℕ → Typ
   pub N : Names
   pub stands : Stands F own base q path id (HoldsLast F q) N d
 
--- the queue is unchanged, or it has rotated into a next file without records; either way its last file holds its
--- records
+-- On disk `d` the queue is `q` as before, or `q` after a rotation: a new active file with `header`, no records, and the
+-- bytes `stale` after its header. In both cases the active file has all records that the queue has there.
 abbrev pub IsLeftTurned : {R : Type 0} → Format R → (List ℕ → Type 0) → Disk → LogFiles R → List ℕ
     → List ℕ → Disk → Type 0
 IsLeftTurned F own base q header stale d = StandsWithRecords F own base q d ⊎

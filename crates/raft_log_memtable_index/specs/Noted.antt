@@ -1,5 +1,5 @@
--- In which files a table's entries and values are. For Rewrite, it is also the first file that must be kept for them
--- to be recovered, because atomic groups can reach over several files.
+-- This file says in which files a memtable's entries and values are. For Rewrite it also says which is the first file
+-- that must be kept to recover them, because atomic groups can reach over several files.
 use Rattle.std.specs.Prelude.{◌≡◌, ℕ, ◌+◌, ◌-◌, ◌<◌, ◌≤◌, ◌⊎◌, min, max, false, List, [], ◌∷◌, length, Option, Some, None, if◌then◌else◌, nat_le, slice_get}
 use Rattle.raft_log_model_laws.specs.Item.{Item}
 use Rattle.raft_log_model_laws.specs.Item.Item.{Run}

@@ -33,7 +33,8 @@ pub record WritesMarks (tables : ℕ → Shown) (v w : LogPipes) : Type 0 where
 abbrev pub WritesItems : List LogItem → LogPipes → LogPipes → Type 0
 WritesItems items v w = (m : MemTables) → AreOwed m items → WritesMarks (shown_of m) v w
 
--- if `items` are the tombstones that the tables owe, writing them to Rewrite failed
+-- Writing `items` to Rewrite failed with `error`, and took the pipes from `v` to `w`. This states nothing if `items`
+-- aren't the tombstones that the tables owe.
 abbrev pub ItemsAreRefused : List LogItem → Error → LogPipes → LogPipes → Type 0
 ItemsAreRefused items error v w = (m : MemTables) → AreOwed m items → (cache : BlockCache)
     → PartIsRefused error (shows v m cache) (shows w m cache)

@@ -37,9 +37,11 @@ RewriteIsUnread r (errors.Corruption text) = (r ≡ None) × (string_bytes text 
 RewriteIsUnread r errors.Memory = Unit {0}
 RewriteIsUnread r _ = ⊥
 
--- Why a batch isn't read after the records `rs`. The error is `Hole` if the batch is a record, and the records with
--- it are not in order. It is `Corruption` with this text if the batch has a broken mark or two marks. It may always
--- be `Memory`.
+-- Why a batch isn't read after the records `rs`. `r` is the record that the batch decodes to, or `None` if its marks
+-- of atomic groups are invalid. The error is
+-- - `Hole` if the indexes of `rs` followed by `r` are not in order;
+-- - `Corruption` with the text `invalid_mark` if `r` is `None`;
+-- - or `Memory`, in any case.
 abbrev pub IsBatchDeclined : List ReadRecord → Option ReadRecord → Error → Type 0
 IsBatchDeclined rs r errors.Hole = IsDisorder rs r
 IsBatchDeclined rs r (errors.Corruption text) = (r ≡ None) × (string_bytes text ≡ invalid_mark)

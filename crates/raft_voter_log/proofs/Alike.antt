@@ -29,7 +29,7 @@ use Rattle.raft_voter_records.specs.Voters.{Means}
 use Rattle.raft_voter_records.proofs.Leading.{empty_maps_are_fresh}
 use Rattle.raft_voter_records.proofs.Owning.{one_world}
 use Rattle.raft_voter_durability_laws.specs.Standing.{AreOutlines}
-use Rattle.raft_voter_log.specs.raft_voter_store.specs.Opening.{OpensVoters}
+use Rattle.raft_voter_store.specs.Opening.{OpensVoters}
 use Rattle.raft_voter_log.specs.StoreWorkers.{AreAlike, WorkersOpenAlike}
 use Rattle.raft_voter_log.specs.StoreWorkers.AreAStores.{bare, rests, of_running, of_left, left}
 use Rattle.raft_voter_log.proofs.Listed.{listed_alike}

@@ -28,8 +28,8 @@ use Rattle.raft_voter.specs.Rounds.{fresh_world}
 use Rattle.raft_voter.specs.Service.{CutRound, MayFollow, uncut}
 use Rattle.raft_voter_durability_laws.specs.Standing.{IsLeftAmong}
 use Rattle.raft_voter_durability_laws.proofs.Keeping.{left_alone}
-use Rattle.raft_voter_log.specs.raft_voter_store.specs.Service.{LeavesAt}
-use Rattle.raft_voter_log.specs.raft_voter_store.specs.Service.LeavesAt.{left as is_left, running}
+use Rattle.raft_voter_store.specs.Service.{LeavesAt}
+use Rattle.raft_voter_store.specs.Service.LeavesAt.{left as is_left, running}
 use Rattle.raft_voter_world.specs.declared.faults.Fault.{Fault}
 use Rattle.raft_voter_world.specs.declared.faults.Fault.TheVariants.{Refuse, Stop}
 use Rattle.raft_voter_log.specs.Faults.{fault_of}

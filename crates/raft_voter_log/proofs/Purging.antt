@@ -15,9 +15,9 @@ use Rattle.raft_voter.specs.Service.{CutRound, IsOpenAt, MayFollow, uncut}
 use Rattle.raft_voter_durability_laws.specs.Calls.{KeepsOrLeaves}
 use Rattle.raft_voter_durability_laws.specs.Standing.{AreOutlines, IsLeftAmong, Keeps}
 use Rattle.raft_voter_durability_laws.proofs.Ending.{left_behind_rounds}
-use Rattle.raft_voter_log.specs.raft_voter_store.specs.Service.{LeavesAt, service_in}
-use Rattle.raft_voter_log.specs.raft_voter_store.specs.Service.LeavesAt.{left, running}
-use Rattle.raft_voter_log.specs.raft_voter_store.specs.Upkeep.{KeepsOrLeavesVoters, KeepsVoters}
+use Rattle.raft_voter_store.specs.Service.{LeavesAt, service_in}
+use Rattle.raft_voter_store.specs.Service.LeavesAt.{left, running}
+use Rattle.raft_voter_store.specs.Upkeep.{KeepsOrLeavesVoters, KeepsVoters}
 use Rattle.raft_voter_log.specs.raft_voter_store.proofs.Serving.{open_in}
 use Rattle.raft_voter_world.specs.Stores.{KeepsVoters as KeepsServed}
 use Rattle.raft_voter_world.specs.declared.faults.Purge.{Purge}

@@ -14,8 +14,8 @@ use Rattle.raft_voter.specs.Service.{CutRound, MayFollow}
 use Rattle.raft_voter_records.proofs.Owning.{one_world}
 use Rattle.raft_voter_durability_laws.specs.Standing.{AreOutlines, IsLeftAmong, Keeps}
 use Rattle.raft_voter_recovery.specs.Reading.{ListsVoters}
-use Rattle.raft_voter_log.specs.raft_voter_store.specs.Service.{LeavesAt, service_in}
-use Rattle.raft_voter_log.specs.raft_voter_store.specs.Service.LeavesAt.{left, running}
+use Rattle.raft_voter_store.specs.Service.{LeavesAt, service_in}
+use Rattle.raft_voter_store.specs.Service.LeavesAt.{left, running}
 use Rattle.raft_voter_world.specs.declared.faults.Fault.{Fault}
 use Rattle.raft_voter_world.specs.declared.faults.Fault.TheVariants.{Refuse, Stop}
 use Rattle.raft_voter_world.specs.Stores.{StaysAsItWas, TellsVoters}

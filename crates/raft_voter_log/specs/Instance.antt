@@ -24,8 +24,8 @@ use Rattle.raft_voter_outline.specs.State.{State}
 use Rattle.raft_voter.specs.declared.service.Cause.{Cause}
 use Rattle.raft_voter.specs.declared.service.Cause.TheVariants.{Memory}
 use Rattle.raft_voter_recovery.specs.declared.unread.Unread.{Unread}
-use Rattle.raft_voter_log.specs.raft_voter_store.specs.Opening.{FailsToOpenVoters, OpensVoters}
-use Rattle.raft_voter_log.specs.raft_voter_store.specs.Service.{LeavesAt}
+use Rattle.raft_voter_store.specs.Opening.{FailsToOpenVoters, OpensVoters}
+use Rattle.raft_voter_store.specs.Service.{LeavesAt}
 use Rattle.raft_voter_world.specs.declared.event.Left.{Left}
 use Rattle.raft_voter_world.specs.declared.faults.Fault.{Fault}
 use Rattle.raft_voter_world.specs.declared.faults.Purge.{Purge}

@@ -16,8 +16,8 @@ use Rattle.raft_voter.specs.Rounds.{World, fresh_world}
 use Rattle.raft_voter.specs.Service.{CutRound, MayFollow, uncut}
 use Rattle.raft_voter_records.specs.Voters.{Means}
 use Rattle.raft_voter_durability_laws.specs.Standing.{IsLeftAmong}
-use Rattle.raft_voter_log.specs.raft_voter_store.specs.Service.{LeavesAt}
-use Rattle.raft_voter_log.specs.raft_voter_store.specs.Service.LeavesAt.{left as is_left, running}
+use Rattle.raft_voter_store.specs.Service.{LeavesAt}
+use Rattle.raft_voter_store.specs.Service.LeavesAt.{left as is_left, running}
 
 -- The files have voters that are possible after the round `cut`:
 -- - `bare`: there is no log yet, so all voters are fresh.

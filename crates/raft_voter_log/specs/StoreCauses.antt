@@ -12,7 +12,7 @@ use Rattle.raft_voter_outline.specs.State.{State}
 use Rattle.raft_voter.specs.Rounds.{World}
 use Rattle.raft_voter_records.specs.Voters.{Means}
 use Rattle.raft_voter_durability_laws.specs.Standing.{AreOutlines, Keeps}
-use Rattle.raft_voter_log.specs.raft_voter_store.specs.Rounds.{CutsRoundOff}
+use Rattle.raft_voter_store.specs.Rounds.{CutsRoundOff}
 
 -- If a round is cut off by the engine, a file call failed during the round.
 abbrev pub CutRoundsHaveFailed : Type 0

@@ -16,7 +16,7 @@ use Rattle.raft_voter.specs.Service.{CutRound, MayFollow}
 use Rattle.raft_voter_records.specs.Voters.{Means}
 use Rattle.raft_voter_durability_laws.specs.Standing.{AreOutlines, IsLeftAmong, Keeps}
 use Rattle.raft_voter_recovery.specs.Reading.{ListsVoters}
-use Rattle.raft_voter_log.specs.raft_voter_store.specs.Opening.{OpensVoters}
+use Rattle.raft_voter_store.specs.Opening.{OpensVoters}
 
 -- What the files of a store may be, without a CRC collision in them:
 -- - `bare`: there is no log yet.

@@ -5,7 +5,7 @@ ghost use Rattle.raft_log_dual_pipes.specs.HoldingBack.{PipesHoldBack};
 ghost use Rattle.raft_log_recovery_laws.specs.ByCalls.{home_of};
 ghost use Rattle.raft_log_record_base.specs.declared.pipe_log.LogQueue.TheVariants.{Append};
 ghost use Rattle.raft_voter_outline.specs.Kept.{outlines_in};
-ghost use Rattle.raft_voter_log.specs.raft_voter_store.specs.Service.{service_in};
+ghost use Rattle.raft_voter_store.specs.Service.{service_in};
 ghost use Rattle.raft_voter_log.specs.Instance.{log_upkeep};
 
 use crate::causes::{purge_cause, unread_cause};

@@ -18,7 +18,7 @@ use Rattle.raft_voter_durability_laws.proofs.Ending.{left_behind_rounds}
 use Rattle.raft_voter_store.specs.Service.{LeavesAt, service_in}
 use Rattle.raft_voter_store.specs.Service.LeavesAt.{left, running}
 use Rattle.raft_voter_store.specs.Upkeep.{KeepsOrLeavesVoters, KeepsVoters}
-use Rattle.raft_voter_log.specs.raft_voter_store.proofs.Serving.{open_in}
+use Rattle.raft_voter_store.proofs.Serving.{open_in}
 use Rattle.raft_voter_world.specs.Stores.{KeepsVoters as KeepsServed}
 use Rattle.raft_voter_world.specs.declared.faults.Purge.{Purge}
 use Rattle.raft_voter_log.specs.Causes.{purge_cause}

@@ -4,7 +4,8 @@ use crate::opening::{Kind, Opened, open};
 use crate::rewriting::sweep_rewrites;
 use crate::store::Store;
 use crate::sweeping::sweep;
-use log::Log;
+use log::sink::Discard;
+use log::{LevelFilter, Log, Logged};
 use raft_cases::{CaseFault, Column, Command};
 use raft_log_engine::{LogBatch, OpenRefused, fork};
 use raft_log_engine_commands::answers::{answer, done, failed, truth};
@@ -36,11 +37,13 @@ impl Column for Player {
     fn answer<
         R: Threads + Wait + Clock + Log + Sync + Files<File = File> + AllocGlobal + Clone + Drop,
     >(&mut self, rt: &R, command: &mut Command) -> Result<String, CaseFault> {
+        // A call of the log may start threads: the logger that they get has to be a type of its own, not the caller's.
+        let quiet = Logged::new(rt, LevelFilter::Off, Discard);
         let name = String::from_str(self.alloc, command.name())?;
         match name.as_str() {
-            "sweep" => sweep(rt, self.alloc, command),
-            "sweep-rewrites" => sweep_rewrites(rt, self.alloc, self, command),
-            _ => self.play(rt, command),
+            "sweep" => sweep(&quiet, self.alloc, command),
+            "sweep-rewrites" => sweep_rewrites(&quiet, self.alloc, self, command),
+            _ => self.play(&quiet, command),
         }
     }
 }

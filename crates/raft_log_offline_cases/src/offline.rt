@@ -5,7 +5,8 @@ use crate::settings::read_settings;
 use crate::sweep::play_sweep;
 use crate::text::refused;
 use crate::{closed, engine, padding};
-use log::Log;
+use log::sink::Discard;
+use log::{LevelFilter, Log, Logged};
 use raft_cases::{CaseFault, Column, Command, play_on_files};
 use raft_log_dual_pipes::OpenRefused;
 use raft_log_engine_core::Engine;
@@ -112,10 +113,12 @@ impl Column for Offline {
     fn answer<
         R: Threads + Wait + Clock + Log + Sync + Files<File = File> + AllocGlobal + Clone + Drop,
     >(&mut self, rt: &R, command: &mut Command) -> Result<String, CaseFault> {
+        // A call of the log may start threads: the logger that they get has to be a type of its own, not the caller's.
+        let quiet = Logged::new(rt, LevelFilter::Off, Discard);
         let name = String::from_str(self.alloc, command.name())?;
         match self.engine.take() {
-            Some(engine) => self.play_open(rt, engine, name.as_str(), command),
-            None => self.play_closed(rt, name.as_str(), command),
+            Some(engine) => self.play_open(&quiet, engine, name.as_str(), command),
+            None => self.play_closed(&quiet, name.as_str(), command),
         }
     }
 }

@@ -6,7 +6,8 @@ use crate::places::Case;
 use crate::rounds::{end_round, take};
 use crate::stores::play_on_store;
 use crate::sweeps::{play_script, record};
-use log::Log;
+use log::sink::Discard;
+use log::{LevelFilter, Log, Logged};
 use raft_cases::{CaseFault, Column, Command, play_on_files};
 use raft_voter_message_commands::requests::request_of;
 use raft_voter_message_commands::stored::play_on_stored;
@@ -45,19 +46,21 @@ impl Column for Cases {
     fn answer<
         R: Threads + Wait + Clock + Log + Sync + Files<File = File> + AllocGlobal + Clone + Drop,
     >(&mut self, rt: &R, command: &mut Command) -> Result<String, CaseFault> {
-        if let Some(answer) = play_rounds(rt, self.alloc, &mut self.case, command)? {
+        // A call of a store may start threads: the logger that they get has to be a type of its own, not the caller's.
+        let quiet = Logged::new(rt, LevelFilter::Off, Discard);
+        if let Some(answer) = play_rounds(&quiet, self.alloc, &mut self.case, command)? {
             return Ok(answer);
         }
         if let Some(answer) = play_without_files(self.alloc, &mut self.case, command)? {
             return Ok(answer);
         }
-        if let Some(answer) = play_sessions(rt, self.alloc, command)? {
+        if let Some(answer) = play_sessions(&quiet, self.alloc, command)? {
             return Ok(answer);
         }
-        if let Some(answer) = play_node(rt, self.alloc, &mut self.case, command)? {
+        if let Some(answer) = play_node(&quiet, self.alloc, &mut self.case, command)? {
             return Ok(answer);
         }
-        if let Some(answer) = play_on_store(rt, self.alloc, &mut self.case, command)? {
+        if let Some(answer) = play_on_store(&quiet, self.alloc, &mut self.case, command)? {
             return Ok(answer);
         }
         match play_on_files(self.alloc, &mut self.case.files, command)? {

@@ -2,7 +2,7 @@
 """tools/pictures/layers.py [--check]: draws docs/pictures/layers.svg, the columns and layers of crates; with `--check` it
 writes nothing, and fails if the picture that is there differs from what it would draw.
 
-Each library and program of crates.txt is in one box, except those of tests and cases. It fails if one is missing or drawn
+Each library and program of crates.txt is in one box, except the crates of tests. It fails if one is missing or drawn
 twice, if crates.txt lacks a drawn name, and if a crate uses one of a box that begins higher.
 """
 import os
@@ -27,7 +27,8 @@ BOXES = [
      ["store", "recovery", "durability_laws", "records"], "RoundIsAnswered, CutsRoundOff"),
     (718, 142, 346, 180, "#ffffff", "Programs on a log", "over an engine, in memory or in a directory", "raft_log_",
      [("ctl", "dump, check, stat, fork, unpad"), ("operator", "its library"),
-      ("ten_lines", "saves a key, and reads it"), ("append_lines", "keeps lines of input")], ""),
+      ("ten_lines", "saves a key, and reads it"), ("append_lines", "keeps lines of input"),
+      ("node_storage", "a Raft node's storage")], ""),
     (16, 330, 180, 434, "#ece6f8", "Voter", "the receiver of Raft", "raft_",
      ["voter", "voter_outline", "voter_messages", "voter_plain"], "Voter::step, judge, one_vote_per_term,"
      " terms_never_fall, matched_entries_stand, repeat_is_idempotent, group_isolation"),
@@ -57,8 +58,8 @@ BOXES = [
     (698, 772, 366, 118, "#eaeef2", "File systems", "calls, crash images; one in memory", "raft_log_",
      ["fs", "fs_state", "fs_memory"], "FileSystem, IsImage"),
 ]
-# crates that are in no box: those of tests, of cases, and of the commands that cases have
-TESTS = ("raft_cases", "_tests", "_cases", "_commands")
+# how the names of crates end that are in no box
+TESTS = "_tests"
 # words outside the boxes' own lines: x, y, colour, lines
 NOTES = [
     (874, 448, GREY, ["An open locks the", "directory until the file", "system is dropped."]),
@@ -104,7 +105,7 @@ def draw(boxes):
     picture.text(16, at + STEP, "Blue: the main types, calls, contracts and laws of a box.", WORDS, BLUE, room=1048)
     faces = "The crates records, tables, files and engine of raft_log_.. only re-export crates below them."
     picture.text(16, at + 2 * STEP, faces, WORDS, GREY, room=1048)
-    picture.text(16, at + 3 * STEP, "Not drawn: crates of tests and of cases.", WORDS, GREY, room=1048)
+    picture.text(16, at + 3 * STEP, "Not drawn: crates of tests, and those of cases/list.txt.", WORDS, GREY, room=1048)
     return picture
 
 

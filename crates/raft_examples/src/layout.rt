@@ -1,7 +1,7 @@
 //! A caller of `raft_log_active_file`: the layout of a queue whose files are in one directory.
 
 ghost use Rattle.std.specs.Prelude.{◌≡◌, [], ◌∷◌, IfOk};
-ghost use Rattle.raft_log_active_file.specs.LayoutLayout.{log_paths};
+ghost use Rattle.raft_log_active_file.specs.QueueFiles.{log_paths};
 
 use raft_log_active_file::{LogLayout, PipeFormat};
 use raft_log_record_base::LogQueue;

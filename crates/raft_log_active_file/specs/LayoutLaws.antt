@@ -9,7 +9,7 @@ use Rattle.raft_log_fs.specs.Touching.{TouchesOnlyNames}
 use Rattle.raft_log_active_file.specs.Beginning.{IsFresh}
 use Rattle.raft_log_file_format.specs.Name.{reserved_suffix, suffix_of}
 use Rattle.raft_log_active_file.specs.Paths.{IsPathWith, IsOwnPath, reserved_suffix_of}
-use Rattle.raft_log_active_file.specs.LayoutLayout.{IsRecordIn, log_format}
+use Rattle.raft_log_active_file.specs.QueueFiles.{IsRecordIn, log_format}
 
 -- it is decidable whether bytes begin with a header of a log file, and whether they begin with a record of one
 abbrev pub LogFilesAreTold : Type 0

@@ -5,8 +5,8 @@ pub mod LastFile
 pub mod Laws
 pub mod Layout
 pub mod LayoutLaws
-pub mod LayoutLayout
-pub mod LayoutLayoutLaws
+pub mod QueueFiles
+pub mod QueueFilesLaws
 pub mod NumberedLaws
 pub mod Opening
 pub mod PathLaws

@@ -69,8 +69,8 @@ impl LogLayout {
 impl PipeFormat for LogLayout {
     ghost use Rattle.std.proofs.Common.{subst, sym};
     ghost use Rattle.std.proofs.lemmas.List.{length-map};
-    ghost use Rattle.raft_log_active_file.specs.LayoutLayout.{log_format, log_paths};
-    ghost use Rattle.raft_log_active_file.specs.LayoutLayoutLaws.{is_layout};
+    ghost use Rattle.raft_log_active_file.specs.QueueFiles.{log_format, log_paths};
+    ghost use Rattle.raft_log_active_file.specs.QueueFilesLaws.{is_layout};
     ghost use Rattle.raft_log_active_file.specs.Paths.{IsOwnPath};
     ghost use Rattle.raft_log_active_file.specs.Layout.{path_of};
 

@@ -14,7 +14,7 @@ use Rattle.raft_log_file_pipe.specs.Reading.{IsReadAt}
 use Rattle.raft_log_file_pipe.specs.declared.pipe_files.PipeFiles.{PipeFiles}
 use Rattle.raft_log_machine_laws.specs.Calls.{Which}
 use Rattle.raft_log_machine_laws.specs.Calls.Which.{InAppend, InRewrite}
-use Rattle.raft_log_active_file.specs.LayoutLayoutLaws.{files_are_told, is_layout}
+use Rattle.raft_log_active_file.specs.QueueFilesLaws.{files_are_told, is_layout}
 use Rattle.raft_log_record_base.specs.declared.pipe_log.LogQueue.TheVariants.{Append, Rewrite}
 use Rattle.raft_log_dual_pipes.specs.Queues.{IsQueueLayout, layout_at}
 use Rattle.raft_log_dual_pipes.specs.State.{RunsQueue, pipe_at, spanned_at}

@@ -18,8 +18,8 @@ use Rattle.raft_log_record_frames.proofs.Made.{four_bytes, header-length}
 use Rattle.raft_log_record_batches.specs.Batch.{Batch, batch_bytes}
 use Rattle.raft_log_file_format.specs.Header.{header_bytes as file_header}
 use Rattle.raft_log_file_format.specs.declared.header.LogFileFormat.{LogFileFormat}
-use Rattle.raft_log_active_file.specs.LayoutLayout.{IsAHeader}
-use Rattle.raft_log_active_file.specs.LayoutLayoutLaws.{is_layout}
+use Rattle.raft_log_active_file.specs.QueueFiles.{IsAHeader}
+use Rattle.raft_log_active_file.specs.QueueFilesLaws.{is_layout}
 use Rattle.raft_log_active_file.specs.declared.record.LogRecord.{LogRecord}
 use Rattle.raft_log_block_cache.specs.Signing.{SaysItself, record_said, signed_for}
 

@@ -7,7 +7,7 @@ use Rattle.raft_log_fs.specs.Disk.{Disk}
 use Rattle.raft_log_record_base.specs.declared.errors.Error.{Error}
 use Rattle.raft_log_record_base.specs.declared.errors.Error.TheVariants as errors
 use Rattle.raft_log_record_base.specs.declared.pipe_log.LogQueue.{LogQueue}
-use Rattle.raft_log_active_file.specs.LayoutLayout.{log_paths}
+use Rattle.raft_log_active_file.specs.QueueFiles.{log_paths}
 use Rattle.raft_log_active_file.specs.declared.record.LogRecord.{LogRecord}
 use Rattle.raft_log_file_pipe.specs.Closing.{IsSettledBy, LeavesClosed, ReservesAll, StaysLeft, greatest_reserved}
 use Rattle.raft_log_file_pipe.specs.Files.{Listed}

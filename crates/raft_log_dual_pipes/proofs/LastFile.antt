@@ -60,7 +60,7 @@ module _ {R : Type 0} (F : Format R) (own : List ℕ → Type 0) (paths : FilePa
       → Tells F own paths begin fault cut after error short new → BehindFault before after error
   tells_behind before middle cut after (faults.CutBack kind) error short new same goes tells = elim tells [
     | inl full ↦ elsewhere_behind before middle cut after error short new same goes full.1
-    | inr other ↦ subst (BehindFault before after) (sym other.1) (goes_on before middle after.active.seq (ap (λ (f : PipeFiles). f.active.seq) other.2 ∙ same) goes)
+    | inr other ↦ subst (BehindFault before after) (sym other.0) (goes_on before middle after.active.seq (ap (λ (f : PipeFiles). f.active.seq) other.1 ∙ same) goes)
   ]
   tells_behind before middle cut after (faults.Failed kind) error short new same goes (is, kept, still) = subst (BehindFault before after) (sym is) tt
 

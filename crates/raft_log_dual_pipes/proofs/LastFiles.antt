@@ -16,8 +16,8 @@ use Rattle.raft_log_file_writer.specs.LogFormat.{Format, IsFormat, NoChanceInFil
 use Rattle.raft_log_file_writer.specs.LogQueue.{LogFiles, recent}
 use Rattle.raft_log_file_writer.proofs.LawsChainLaws.{reads_further}
 use Rattle.raft_log_file_writer.proofs.KeepsSyncedLaws.{record_lies}
-use Rattle.raft_log_active_file.specs.LayoutLayout.{IsRecordIn, log_format, log_paths}
-use Rattle.raft_log_active_file.specs.LayoutLayoutLaws.{is_layout}
+use Rattle.raft_log_active_file.specs.QueueFiles.{IsRecordIn, log_format, log_paths}
+use Rattle.raft_log_active_file.specs.QueueFilesLaws.{is_layout}
 use Rattle.raft_log_active_file.specs.Paths.{IsOwnPath}
 use Rattle.raft_log_active_file.specs.declared.record.LogRecord.{LogRecord}
 use Rattle.raft_log_file_pipe.specs.Files.{IsPipe}

@@ -9,7 +9,7 @@ use Rattle.raft_log_record_base.specs.declared.errors.Error.{Error}
 use Rattle.raft_log_record_base.specs.declared.pipe_log.LogQueue.{LogQueue}
 use Rattle.raft_log_record_base.specs.declared.pipe_log.LogQueue.TheVariants.{Append, Rewrite}
 use Rattle.raft_log_active_file.specs.declared.record.LogRecord.{LogRecord}
-use Rattle.raft_log_active_file.specs.LayoutLayoutLaws.{files_are_told, is_layout, queues_are_apart}
+use Rattle.raft_log_active_file.specs.QueueFilesLaws.{files_are_told, is_layout, queues_are_apart}
 use Rattle.raft_log_file_pipe.specs.Opening.{OpensPipe, OpenLeaves}
 use Rattle.raft_log_file_pipe.specs.declared.pipe_files.PipeFiles.{PipeFiles}
 use Rattle.raft_log_dual_pipes.specs.Own.{log_layout}

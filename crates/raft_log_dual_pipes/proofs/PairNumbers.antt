@@ -53,7 +53,7 @@ module _ {R E V : Type 0} (says : R → Record E V) (layout : QueueLayout R) (to
       → Tells layout.format layout.own layout.paths begin fault cut after errors.NumberRange short new → 10 ^ 16 ≤ suc after.active.seq
   write_ends begin (faults.CutBack kind) cut after q w short new pipe tells = elim tells [
     | inl full ↦ elsewhere_ends begin cut after (settled q) short new full.1 pipe
-    | inr other ↦ (let not_io = other.1 in absurd (cc (not_io)))
+    | inr other ↦ (let not_io = other.0 in absurd (cc (not_io)))
   ]
   write_ends begin (faults.Failed kind) cut after q w short new left tells = (let not_failed = tells.0 in absurd (cc (not_failed)))
 

@@ -8,7 +8,7 @@ use Rattle.raft_log_record_base.specs.declared.errors.Error.TheVariants as error
 use Rattle.raft_log_record_base.specs.declared.pipe_log.LogQueue.{LogQueue}
 use Rattle.raft_log_record_base.specs.declared.pipe_log.LogQueue.TheVariants.{Append, Rewrite}
 use Rattle.raft_log_active_file.specs.declared.record.LogRecord.{LogRecord}
-use Rattle.raft_log_active_file.specs.LayoutLayoutLaws.{files_are_told, is_layout, queues_are_apart}
+use Rattle.raft_log_active_file.specs.QueueFilesLaws.{files_are_told, is_layout, queues_are_apart}
 use Rattle.raft_log_file_pipe.specs.declared.pipe_files.PipeFiles.{PipeFiles}
 use Rattle.raft_log_machine_laws.specs.Calls.{Which}
 use Rattle.raft_log_machine_laws.specs.Calls.Which.{InAppend, InRewrite}

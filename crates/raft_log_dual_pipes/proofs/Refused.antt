@@ -162,7 +162,7 @@ module _ {R E V : Type 0} (says : R → Record E V) (layout : QueueLayout R) (to
       elim tells [
         | inl full ↦ cut_back_tells begin y before cut after q p error old short new first_is turned pipe whole full.1
         | inr told ↦
-            (let (apart, error_is, after_is, new_is) = told in
+            (let (error_is, after_is, new_is) = told in
             subst (λ (e : Error). RefusedOne says layout first base (header_bytes begin.format) y before after q e old new) (sym error_is) (
               settled p,
               (p, turned, cut.recycled.items, short, inl refl),

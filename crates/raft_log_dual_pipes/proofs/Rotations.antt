@@ -11,8 +11,8 @@ use Rattle.raft_log_file_writer.specs.LawsChains.{AreFrames, Refuses, Written, s
 use Rattle.raft_log_file_writer.specs.LogFormat.{Format, HasHeader}
 use Rattle.raft_log_file_writer.specs.LogQueue.{IsPast, LogFiles, Past, recent, rotated}
 use Rattle.raft_log_file_writer.proofs.LawsChainLaws.{spelled-append}
-use Rattle.raft_log_active_file.specs.LayoutLayout.{IsRecordIn, log_format, log_paths}
-use Rattle.raft_log_active_file.specs.LayoutLayoutLaws.{is_layout}
+use Rattle.raft_log_active_file.specs.QueueFiles.{IsRecordIn, log_format, log_paths}
+use Rattle.raft_log_active_file.specs.QueueFilesLaws.{is_layout}
 use Rattle.raft_log_active_file.specs.Paths.{IsOwnPath}
 use Rattle.raft_log_active_file.specs.declared.record.LogRecord.{LogRecord}
 use Rattle.raft_log_file_pipe.specs.Calls.{TurnsBy}

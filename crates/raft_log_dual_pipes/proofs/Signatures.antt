@@ -14,8 +14,8 @@ use Rattle.raft_log_record_frames.specs.Record.{IsFooter, IsRecord}
 use Rattle.raft_log_record_frames.proofs.Footers.{one_signature}
 use Rattle.raft_log_record_frames.proofs.Frames.{one_frame}
 use Rattle.raft_log_active_file.specs.declared.record.LogRecord.{LogRecord}
-use Rattle.raft_log_active_file.specs.LayoutLayout.{IsRecordIn}
-use Rattle.raft_log_active_file.specs.LayoutLayoutLaws.{zeros_hold_none}
+use Rattle.raft_log_active_file.specs.QueueFiles.{IsRecordIn}
+use Rattle.raft_log_active_file.specs.QueueFilesLaws.{zeros_hold_none}
 use Rattle.raft_log_dual_pipes.specs.OldRecords.{AlikeFilesShareRecords, AreApart, OldRecordsBeginNoRecord}
 
 magic_length : length magic ≡ 53

@@ -3,7 +3,7 @@ use Rattle.std.specs.Prelude.{◌≡◌, Result, reverse}
 use Rattle.std.specs.Result.{result_and}
 use Rattle.raft_log_fs.specs.Disk.{Disk}
 use Rattle.raft_log_record_base.specs.declared.errors.Error.{Error}
-use Rattle.raft_log_active_file.specs.LayoutLayout.{log_paths}
+use Rattle.raft_log_active_file.specs.QueueFiles.{log_paths}
 use Rattle.raft_log_file_pipe.specs.Closing.{FinishesAs, FinishesOrNot, ReservesAll, greatest_reserved}
 use Rattle.raft_log_dual_pipes.specs.Closing.{LiesClosed, LiesSettled}
 use Rattle.raft_log_dual_pipes.specs.Pipes.{LogPipes, LogSense, OnePipe, RunsOn, State, queues}

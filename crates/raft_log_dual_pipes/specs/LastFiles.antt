@@ -11,7 +11,7 @@ use Rattle.raft_log_file_format.specs.declared.header.LogFileFormat.{LogFileForm
 use Rattle.raft_log_file_writer.specs.LawsChains.{Refuses, Written}
 use Rattle.raft_log_file_writer.specs.LogFormat.{Format, HasHeader}
 use Rattle.raft_log_file_writer.specs.LogQueue.{LogFiles, NoChanceInLast}
-use Rattle.raft_log_active_file.specs.LayoutLayout.{log_format, log_paths}
+use Rattle.raft_log_active_file.specs.QueueFiles.{log_format, log_paths}
 use Rattle.raft_log_active_file.specs.Paths.{IsOwnPath}
 use Rattle.raft_log_active_file.specs.declared.record.LogRecord.{LogRecord}
 use Rattle.raft_log_file_pipe.specs.Exits.{Adds, Rotates}

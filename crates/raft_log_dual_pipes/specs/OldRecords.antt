@@ -7,7 +7,7 @@ use Rattle.raft_log_file_format.specs.Header.{header_bytes}
 use Rattle.raft_log_file_format.specs.declared.header.LogFileFormat.{LogFileFormat}
 use Rattle.raft_log_file_writer.specs.LawsChains.{AreFrames, Refuses, Written, spelled}
 use Rattle.raft_log_file_writer.specs.LogFormat.{Format}
-use Rattle.raft_log_active_file.specs.LayoutLayout.{log_format}
+use Rattle.raft_log_active_file.specs.QueueFiles.{log_format}
 use Rattle.raft_log_active_file.specs.declared.record.LogRecord.{LogRecord}
 
 -- the low 32 bits of two file numbers differ; these bits are part of the signature of each record

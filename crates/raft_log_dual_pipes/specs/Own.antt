@@ -3,7 +3,7 @@ use Rattle.std.specs.Prelude.{ℕ, ◌<◌, List, length}
 use Rattle.raft_log_model_laws.specs.Item.{Record}
 use Rattle.raft_log_record_base.specs.declared.pipe_log.LogQueue.{LogQueue}
 use Rattle.raft_log_record_base.specs.declared.pipe_log.LogQueue.TheVariants.{Append, Rewrite}
-use Rattle.raft_log_active_file.specs.LayoutLayout.{log_format, log_paths}
+use Rattle.raft_log_active_file.specs.QueueFiles.{log_format, log_paths}
 use Rattle.raft_log_active_file.specs.Paths.{IsOwnPath}
 use Rattle.raft_log_active_file.specs.declared.record.LogRecord.{LogRecord}
 use Rattle.raft_log_dual_pipes.specs.Queues.{QueueLayout, TwoQueues, AreTwoQueues}

@@ -5,7 +5,7 @@ use Rattle.raft_log_record_base.specs.declared.pipe_log.LogQueue.TheVariants.{Ap
 use Rattle.raft_log_file_writer.specs.LogQueue.{LogFiles}
 use Rattle.raft_log_machine_laws.specs.Log.{IsLog}
 use Rattle.raft_log_active_file.specs.declared.record.LogRecord.{LogRecord}
-use Rattle.raft_log_active_file.specs.LayoutLayoutLaws.{files_are_told, is_layout, queues_are_apart}
+use Rattle.raft_log_active_file.specs.QueueFilesLaws.{files_are_told, is_layout, queues_are_apart}
 use Rattle.raft_log_block_cache.specs.raft_log_dual_pipes.specs.Queues.{AreTwoQueues}
 use Rattle.raft_log_block_cache.specs.raft_log_dual_pipes.proofs.OnDiskLaws.{logs_go_on_disks}
 use Rattle.raft_log_block_cache.specs.raft_log_dual_pipes.specs.Closing.{closed_log}

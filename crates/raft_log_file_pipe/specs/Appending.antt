@@ -1,5 +1,5 @@
 -- Appending a record to a pipe: which calls are made, and what they leave.
-use Rattle.std.specs.Prelude.{◌≡◌, ◌≢◌, ◌⊎◌, ℕ, ◌+◌, ◌<◌, ◌≤◌, List, length}
+use Rattle.std.specs.Prelude.{◌≡◌, ◌⊎◌, ℕ, ◌+◌, ◌<◌, ◌≤◌, List, length}
 use Rattle.std.specs.declared.io.ErrorKind.TheVariants.{StorageFull}
 use Rattle.raft_log_fs.specs.Disk.{Disk}
 use Rattle.raft_log_fs.specs.Causes.{IsLater}
@@ -15,7 +15,7 @@ use Rattle.raft_log_active_file.specs.Layout.{FilePaths}
 use Rattle.raft_log_active_file.specs.Exits.{AppendMakes}
 use Rattle.raft_log_active_file.specs.declared.last_file.WriteFault.{WriteFault}
 use Rattle.raft_log_active_file.specs.declared.last_file.WriteFault.TheVariants.{CutBack, Failed}
-use Rattle.raft_log_file_pipe.specs.Placing.{IsPlaced}
+use Rattle.raft_log_file_pipe.specs.Placing.{IsPlaced, IsFull}
 use Rattle.raft_log_file_pipe.specs.Exits.{IsTurned, Rotates, RotationLeaves, Adds, FailsToAdd, SameLists}
 use Rattle.raft_log_file_pipe.specs.declared.pipe_files.PipeFiles.{PipeFiles}
 use Rattle.raft_log_file_pipe.specs.declared.new_files.NewFiles.{NewFiles}
@@ -91,20 +91,33 @@ pub record GoesElsewhere {R F : Type 0} (disk : F → Disk) (tells : F → List 
   pub lists : SameLists middle cut
   pub goes : GoesInto disk tells format own paths begin cut after short new
 
+-- A record's write failed for lack of space, and what was written of it was truncated away. The pipe may have rotated
+-- before the write. It didn't after it, as no directory had any space left.
+pub record StaysFull {R F : Type 0} (disk : F → Disk) (tells : F → List ℕ → ℕ → Type 0)
+    (format : Format R) (own : List ℕ → Type 0) (paths : FilePaths) (begin : NewFiles) (queue : LogQueue)
+    (signed : LogFileContext → List ℕ) (before after : PipeFiles) (old new : F) : Type 0 where
+  pub middle : PipeFiles
+  pub between : Disk
+  pub first : TurnsFirst format own paths begin before middle (disk old) between
+  pub fails : FailsToAdd format own paths (signed (context_of queue middle)) (CutBack StorageFull)
+      middle after between (disk new)
+  pub lists : SameLists middle after
+  pub full : IsFull (tells new) (disk new) paths
+
 -- the number of the active file is the one from before, or at most `count` higher
 abbrev pub GoesOnBy : ℕ → PipeFiles → PipeFiles → Type 0
 GoesOnBy count before after =
     (before.active.seq ≤ after.active.seq) × (after.active.seq ≤ before.active.seq + count)
 
 -- How a failed write ends, by its fault.
--- - `CutBack`, for lack of space: the pipe rotated and the error is `TryAgain`, or the rotation failed.
--- - `CutBack`, otherwise: the error is the write's, and nothing more was done.
+-- - `CutBack`: the error is the write's, and nothing more was done. Or space was lacking, and the pipe rotated and the
+-- error is `TryAgain`, or the rotation failed.
 -- - `Failed`: the error is `Failed`, and nothing more was done.
 abbrev pub Tells : {R : Type 0} → Format R → (List ℕ → Type 0) → FilePaths → NewFiles → WriteFault → PipeFiles
     → PipeFiles → Error → Disk → Disk → Type 0
 Tells F own paths begin (CutBack kind) before after error old new =
     ((kind ≡ StorageFull) × TurnsElsewhere F own paths begin before after error old new)
-    ⊎ ((kind ≢ StorageFull) × (error ≡ errors.Io kind) × (after ≡ before) × (new ≡ old))
+    ⊎ ((error ≡ errors.Io kind) × (after ≡ before) × (new ≡ old))
 Tells F own paths begin (Failed kind) before after error old new =
     (error ≡ errors.Failed) × (after ≡ before) × (new ≡ old)
 

@@ -1,6 +1,6 @@
 -- What each call of a pipe does, on any disk: which file system calls it makes, in order, and the pipe's files after
 -- it. This doesn't require that the files are those of a queue.
-use Rattle.std.specs.Prelude.{◌≡◌, ◌≢◌, ◌⊎◌, ℕ, ◌<◌, ◌≤◌, ◌^◌, false, List, [], ◌∷◌, ◌++◌, length, suc}
+use Rattle.std.specs.Prelude.{◌≡◌, ◌⊎◌, ℕ, ◌<◌, ◌≤◌, ◌^◌, false, List, [], ◌∷◌, ◌++◌, length, suc}
 use Rattle.std.specs.declared.io.ErrorKind.{ErrorKind}
 use Rattle.std.specs.declared.io.ErrorKind.TheVariants.{StorageFull}
 use Rattle.raft_log_fs.specs.Disk.{Disk}
@@ -92,14 +92,14 @@ TurnsElsewhereBy paths format before after error old new =
     ⊎ FailsToTurnBy paths format before after error old new
 
 -- How a failed write ends, by its fault.
--- - `CutBack`, for lack of space: the pipe rotated and the error is `TryAgain`, or the rotation failed.
--- - `CutBack`, otherwise: the error is the write's, and nothing more was done.
+-- - `CutBack`: the error is the write's, and nothing more was done. Or space was lacking, and the pipe rotated and the
+-- error is `TryAgain`, or the rotation failed.
 -- - `Failed`: the error is `Failed`, and nothing more was done.
 abbrev pub TellsBy : FilePaths → LogFileFormat → WriteFault → PipeFiles → PipeFiles → Error → Disk → Disk
     → Type 0
 TellsBy paths format (CutBack kind) before after error old new =
     ((kind ≡ StorageFull) × TurnsElsewhereBy paths format before after error old new)
-    ⊎ ((kind ≢ StorageFull) × (error ≡ errors.Io kind) × (after ≡ before) × (new ≡ old))
+    ⊎ ((error ≡ errors.Io kind) × (after ≡ before) × (new ≡ old))
 TellsBy paths format (Failed kind) before after error old new =
     (error ≡ errors.Failed) × (after ≡ before) × (new ≡ old)
 

@@ -3,7 +3,7 @@ use Rattle.std.specs.Prelude.{◌≡◌, ◌⊎◌, ℕ, ◌<◌, ◌≤◌, Boo
 use Rattle.raft_log_fs.specs.Disk.{Disk}
 use Rattle.raft_log_fs.specs.Arguments.{WrongListing}
 use Rattle.std.specs.declared.io.ErrorKind.{ErrorKind}
-use Rattle.raft_log_active_file.specs.Layout.{plain_place}
+use Rattle.raft_log_active_file.specs.Layout.{FilePaths, plain_place}
 use Rattle.raft_log_file_pipe.specs.Files.{Listed}
 
 -- the free space that is reported for the directory is at least `size` bytes
@@ -25,6 +25,10 @@ TellsRoom tells d size directory false = LacksRoom tells d size directory
 abbrev pub AllLackRoom : (List ℕ → ℕ → Type 0) → Disk → ℕ → List (List ℕ) → Type 0
 AllLackRoom tells d size [] = Unit {0}
 AllLackRoom tells d size (x ∷ xs) = LacksRoom tells d size x × AllLackRoom tells d size xs
+
+-- no directory has any space left
+abbrev pub IsFull : (List ℕ → ℕ → Type 0) → Disk → FilePaths → Type 0
+IsFull tells d paths = AllLackRoom tells d 1 paths.directories
 
 -- `place` is the position of the directory for a new file of `size` bytes: the first one that has room for it. It is 0,
 -- the main directory, if none has room. If there is only one directory, its space isn't checked.

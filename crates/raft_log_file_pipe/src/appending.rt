@@ -4,13 +4,14 @@ ghost use Rattle.std.specs.Prelude.{◌≡◌, ◌<◌, ◌≤◌, ◌^◌, IfEr
 ghost use Rattle.raft_log_fs.specs.Causes.{IsLater};
 ghost use Rattle.raft_log_active_file.specs.declared.last_file.WriteFault.TheVariants.{CutBack};
 ghost use Rattle.std.specs.declared.io.ErrorKind.TheVariants.{StorageFull};
+ghost use Rattle.raft_log_record_base.specs.declared.errors.Error.TheVariants as errors;
 ghost use Rattle.raft_log_file_format.specs.Header.{header_bytes};
-ghost use Rattle.raft_log_file_pipe.specs.Appending.{AppendFails, AppendsAt, GoesElsewhere, GoesInto, GoesOnBy, SaysTryAgain, Tells, TurnsElsewhere, TurnsFirst};
+ghost use Rattle.raft_log_file_pipe.specs.Appending.{AppendFails, AppendsAt, GoesElsewhere, GoesInto, GoesOnBy, SaysTryAgain, StaysFull, Tells, TurnsElsewhere, TurnsFirst};
 ghost use Rattle.raft_log_file_pipe.specs.Exits.{RotationLeaves};
-ghost use Rattle.raft_log_file_pipe.specs.Placing.{IsPlaced};
+ghost use Rattle.raft_log_file_pipe.specs.Placing.{IsFull, IsPlaced};
 ghost use Rattle.raft_log_file_pipe.specs.Doing.{AppendsBy, FailsToAppendBy, FailsToTurnBy, TellsBy, TurnsElsewhereBy, TurnsFirstBy};
 
-use crate::new_files::NewFiles;
+use crate::new_files::{NewFiles, is_full};
 use crate::pipe_files::PipeFiles;
 use crate::reactive_bytes::ReactiveBytes;
 use crate::rotating::rotate;
@@ -84,7 +85,8 @@ fn rotate_for_space<G: PipeFormat, F: FileSystem, L: Log>(
     }
 }
 
-/// Returns the error to report for a failed write. If the write failed for lack of space, the pipe rotates.
+/// Returns the error to report for a failed write. If the write failed for lack of space, the pipe rotates, unless no
+/// directory has any space left.
 fn report_write_fault<G: PipeFormat, F: FileSystem, L: Log>(
     alloc: Global,
     layout: &G,
@@ -99,6 +101,9 @@ fn report_write_fault<G: PipeFormat, F: FileSystem, L: Log>(
     ensures elsewhere { SaysTryAgain result → (fault ≡ CutBack StorageFull)
         × GoesInto F.disk F.tells_space (G.format layout.now) (G.own layout.now) (G.file_paths layout.now)
         new_files.now files.old files.new file_system.old file_system.new }
+    ensures full { result ≡ errors.Io StorageFull → (fault ≡ CutBack StorageFull)
+        × IsFull (F.tells_space file_system.new) (F.disk file_system.new) (G.file_paths layout.now)
+        × (files.new ≡ files.old) × (file_system.new ≡ file_system.old) }
     ensures calls { TellsBy (G.file_paths layout.now) new_files.now.format fault files.old files.new result
         (F.disk file_system.old) (F.disk file_system.new) }
     ensures near { GoesOnBy 1 files.old files.new }
@@ -107,7 +112,7 @@ fn report_write_fault<G: PipeFormat, F: FileSystem, L: Log>(
 {
     match fault {
         WriteFault::CutBack(kind) => {
-            if kind == ErrorKind::StorageFull {
+            if kind == ErrorKind::StorageFull && !is_full(layout, file_system) {
                 return rotate_for_space(alloc, layout, rt, file_system, files, new_files);
             }
             Error::Io(kind)
@@ -121,8 +126,9 @@ fn report_write_fault<G: PipeFormat, F: FileSystem, L: Log>(
 
 /// Appends a record, and returns its location. The pipe rotates first if the active file has reached the target size.
 ///
-/// - `Io`: the write failed; its bytes were truncated away, and everything before them is durable.
-/// - `TryAgain`: the same for lack of space, and the pipe rotated.
+/// - `Io`: the write failed; its bytes were truncated away, and everything before them is durable. Its kind is
+///   `StorageFull` if no directory has any space left.
+/// - `TryAgain`: the same for lack of space in one directory, and the pipe rotated.
 /// - `Memory`, `NumberRange`: the pipe couldn't rotate, and nothing is lost.
 /// - `Failed`: the pipe can't be used any more.
 pub fn append<G: PipeFormat, F: FileSystem, L: Log, B: ReactiveBytes>(
@@ -146,6 +152,9 @@ pub fn append<G: PipeFormat, F: FileSystem, L: Log, B: ReactiveBytes>(
         (G.file_paths layout.now) new_files.now queue (B.signed bytes.old) files.old files.new error
         (F.disk file_system.old) (F.disk file_system.new)) }
     ensures elsewhere { IfErr result (λ error. SaysTryAgain error → GoesElsewhere F.disk F.tells_space
+        (G.format layout.now) (G.own layout.now) (G.file_paths layout.now) new_files.now queue
+        (B.signed bytes.old) files.old files.new file_system.old file_system.new) }
+    ensures full { IfErr result (λ error. error ≡ errors.Io StorageFull → StaysFull F.disk F.tells_space
         (G.format layout.now) (G.own layout.now) (G.file_paths layout.now) new_files.now queue
         (B.signed bytes.old) files.old files.new file_system.old file_system.new) }
     ensures calls { IfOk result (λ block. AppendsBy (G.file_paths layout.now) new_files.now queue

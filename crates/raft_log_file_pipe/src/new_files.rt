@@ -1,7 +1,7 @@
 //! How a pipe begins its files.
 
-ghost use Rattle.std.specs.Prelude.{◌≡◌, false, IfOk, IfErr};
-ghost use Rattle.raft_log_file_pipe.specs.Placing.{IsChosen, TellsRoom};
+ghost use Rattle.std.specs.Prelude.{◌≡◌, false, IfOk, IfErr, IsTrue};
+ghost use Rattle.raft_log_file_pipe.specs.Placing.{IsChosen, IsFull, TellsRoom};
 ghost use Rattle.raft_log_record_base.specs.declared.errors.Error.TheVariants.{Memory};
 ghost use Rattle.raft_log_file_format.specs.Header.{header_bytes};
 ghost use Rattle.raft_log_file_pipe.specs.Headers.{IsAlignmentRefusal};
@@ -85,4 +85,19 @@ pub fn choose_directory<G: PipeFormat, F: FileSystem>(
         }
     }
     Ok(DEFAULT_PATH_ID)
+}
+
+/// Whether no directory has any space left. If memory runs out, that isn't known, and the answer is no.
+pub fn is_full<G: PipeFormat, F: FileSystem>(layout: &G, file_system: &F) -> bool
+    ensures { IsTrue result → IsFull (F.tells_space file_system.now) (F.disk file_system.now)
+        (G.file_paths layout.now) }
+{
+    let paths = layout.paths();
+    for (path_id, path) in paths.iter().enumerate() {
+        match has_room(file_system, path, 1) {
+            Ok(false) => {}
+            _ => return false,
+        }
+    }
+    true
 }

@@ -3,6 +3,7 @@
 ghost use Rattle.std.specs.Prelude.{◌≡◌, ◌↔◌, ◌+◌, ◌-◌, ◌*◌, ◌/◌, ◌^◌, ◌<◌, ◌≤◌, length, min, suc, ℕ, true, false, Ok, Err, IfErr, IfOk, IsErr, IsTrue, OnErr, OnOk};
 ghost use Rattle.raft_log_record_base.specs.declared.errors.Error.TheVariants as errors;
 ghost use Rattle.raft_log_fs.specs.Causes.{IsLater};
+ghost use Rattle.std.specs.declared.io.ErrorKind.TheVariants.{StorageFull};
 
 use crate::appending::append;
 use crate::closing::{finish, reserve_files};
@@ -46,7 +47,7 @@ pub struct PipeSettings {
 
 impl<G: PipeFormat> SinglePipe<G> {
     ghost use Rattle.raft_log_file_format.specs.Header.{header_bytes};
-    ghost use Rattle.raft_log_file_pipe.specs.Appending.{AppendFails, AppendsAt, GoesElsewhere, GoesOnBy, SaysTryAgain};
+    ghost use Rattle.raft_log_file_pipe.specs.Appending.{AppendFails, AppendsAt, GoesElsewhere, GoesOnBy, SaysTryAgain, StaysFull};
     ghost use Rattle.raft_log_file_pipe.specs.Purging.{IsInSpan, IsRaised, PurgeLeaves, Purges, paths_going};
     ghost use Rattle.raft_log_file_pipe.specs.Placing.{IsPlaced};
     ghost use Rattle.raft_log_fs.specs.Exits.{Syncs};
@@ -127,8 +128,9 @@ impl<G: PipeFormat> SinglePipe<G> {
     /// Appends a record, and returns its location. The pipe rotates first if the active file has reached the target
     /// size.
     ///
-    /// - `Io`: the write failed; its bytes were truncated away, and everything before them is durable.
-    /// - `TryAgain`: the same for lack of space, and the pipe rotated.
+    /// - `Io`: the write failed; its bytes were truncated away, and everything before them is durable. Its kind is
+    ///   `StorageFull` if no directory has any space left.
+    /// - `TryAgain`: the same for lack of space in one directory, and the pipe rotated.
     /// - `Memory`, `NumberRange`: the pipe couldn't rotate, and nothing is lost.
     /// - `Failed`: the pipe has failed.
     pub fn append<F: FileSystem, L: Log, B: ReactiveBytes>(
@@ -152,6 +154,10 @@ impl<G: PipeFormat> SinglePipe<G> {
             self.old.settings.new_files self.old.settings.queue (B.signed bytes.old)
             self.old.files self.new.files error (F.disk file_system.old) (F.disk file_system.new)) }
         ensures elsewhere { IfErr result (λ error. SaysTryAgain error → GoesElsewhere F.disk F.tells_space
+            (G.format self.old.layout) (G.own self.old.layout) (G.file_paths self.old.layout)
+            self.old.settings.new_files self.old.settings.queue (B.signed bytes.old)
+            self.old.files self.new.files file_system.old file_system.new) }
+        ensures full { IfErr result (λ error. error ≡ errors.Io StorageFull → StaysFull F.disk F.tells_space
             (G.format self.old.layout) (G.own self.old.layout) (G.file_paths self.old.layout)
             self.old.settings.new_files self.old.settings.queue (B.signed bytes.old)
             self.old.files self.new.files file_system.old file_system.new) }

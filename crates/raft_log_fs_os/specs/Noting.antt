@@ -2,7 +2,7 @@
 -- bytes.
 use Rattle.std.specs.Prelude.{ℕ, List, slice_index, ◌==◌, if◌then◌else◌}
 use Rattle.raft_log_fs.specs.Disk.{Wrote, ShortenedTo, GrewTo}
-use Rattle.raft_log_fs_traced.specs.Device.{DeviceCall, Created, Deleted, MadeDirectory, SyncedDirectory, Changed, Synced, WroteBack}
+use Rattle.raft_log_fs_traced.specs.Device.{DeviceCall, Created, Deleted, MadeDirectory, SyncedDirectory, Changed, Undone, Synced, WroteBack}
 
 -- the call with this number as its kind; `file`, `number` (an offset or a size) and `text` (a path or bytes) are its
 -- arguments
@@ -16,7 +16,9 @@ call_of_kind kind file number text =
     else (if kind == 5 then Changed file (ShortenedTo number)
     else (if kind == 6 then Changed file (GrewTo number)
     else (if kind == 7 then Synced file
-    else WroteBack file number text)))))))
+    else (if kind == 8 then WroteBack file number text
+    else (if kind == 9 then Undone file (Wrote number text)
+    else Undone file (GrewTo number))))))))))
 
 -- the call that three numbers (its kind, a file, and an offset or a size) and `text` (a path or bytes) encode
 abbrev pub call_of : List ℕ → List ℕ → DeviceCall

@@ -1,11 +1,11 @@
 //! The operating system's files, as a device.
 ghost use Rattle.raft_log_fs_state.specs.declared.storage.Storage.{Storage};
 
-use super::growing::{grow, write_long, write_pieces};
-use super::open_file::{OpenFile, report};
+use super::growing::{extend, grow, write_pieces};
+use super::open_file::{OpenFile, report, warn_of_space};
 use super::record::Record;
 use raft_log_fs_state::Storage;
-use raft_log_fs_traced::Device;
+use raft_log_fs_traced::{Attempt, Device};
 use std::alloc::Global;
 use std::collections::BTreeMap;
 use std::fs::{File, OpenOptions};
@@ -33,6 +33,10 @@ const SYNCED: u64 = 7;
 
 const WRITTEN_BACK: u64 = 8;
 
+const UNDONE_WRITE: u64 = 9;
+
+const UNDONE_GROWTH: u64 = 10;
+
 /// The most bytes that one system call writes, and the size of the buffer of zeros for growing files. Some systems keep
 /// a longer write as one long piece in memory: each short write into that piece, and each sync after it, goes over the
 /// whole piece.
@@ -43,6 +47,8 @@ pub(crate) const PIECE: usize = 1 << 16;
 /// - A method makes one system call, or, for a write or a growth, one for each piece of its bytes. It then notes the
 ///   call; only clauses read the notes.
 /// - A growth, and a write of several pieces that makes the file longer, is also synced.
+/// - If a file that becomes longer finds no space, it is truncated to its old length. The first time, and the first
+///   time after there was space again, that is printed to standard error, with the directory and the path.
 /// - A call that fails is printed to standard error, with the path.
 #[derive(Drop)]
 pub struct FileDevice<R> {
@@ -50,6 +56,8 @@ pub struct FileDevice<R> {
     files: BTreeMap<usize, OpenFile>,
     locks: Vec<File>,
     zeros: Vec<u8>,
+    // Whether the last attempt to make a file longer found no space.
+    is_full: bool,
     found: Snapshot<Storage>,
     record: Record,
 }
@@ -73,6 +81,7 @@ impl<R: Files<File = File> + Eprint + AllocGlobal + Drop> FileDevice<R> {
             files,
             locks,
             zeros,
+            is_full: false,
             found: Snapshot::of(storage),
             record: Record::new(),
         }
@@ -142,15 +151,32 @@ impl<R: Files<File = File> + Eprint + AllocGlobal + Drop> Device for FileDevice<
         let Some(opened) = self.files.get(&file) else {
             return Err(ErrorKind::NotFound);
         };
-        let written = if bytes.len() > PIECE {
-            write_long(&opened.file, offset, bytes)
-        } else {
-            opened.file.write_all_at(bytes, offset as u64)
-        };
-        written.map_err(|error| report(&self.rt, opened.path.as_str(), "write", error))?;
+        write_pieces(&opened.file, offset, bytes).map_err(|error| report(
+            &self.rt,
+            opened.path.as_str(),
+            "write",
+            error,
+        ))?;
         self.record
             .note(&[WRITTEN, file as u64, offset as u64], bytes);
         Ok(())
+    }
+
+    fn extend(&mut self, file: usize, offset: usize, bytes: &[u8]) -> Result<Attempt, ErrorKind> {
+        let Some(opened) = self.files.get(&file) else {
+            return Err(ErrorKind::NotFound);
+        };
+        let path = opened.path.as_str();
+        let attempt = extend(&opened.file, offset, bytes).map_err(|error| report(
+            &self.rt, path, "write", error,
+        ))?;
+        warn_of_space(&self.rt, path, &attempt, &mut self.is_full);
+        let kind = match attempt {
+            Attempt::Made => WRITTEN,
+            Attempt::Undone(_) => UNDONE_WRITE,
+        };
+        self.record.note(&[kind, file as u64, offset as u64], bytes);
+        Ok(attempt)
     }
 
     fn truncate(&mut self, file: usize, size: usize) -> Result<(), ErrorKind> {
@@ -168,18 +194,21 @@ impl<R: Files<File = File> + Eprint + AllocGlobal + Drop> Device for FileDevice<
         Ok(())
     }
 
-    fn grow(&mut self, file: usize, size: usize) -> Result<(), ErrorKind> {
+    fn grow(&mut self, file: usize, size: usize) -> Result<Attempt, ErrorKind> {
         let Some(opened) = self.files.get(&file) else {
             return Err(ErrorKind::NotFound);
         };
-        grow(&opened.file, &self.zeros, size).map_err(|error| report(
-            &self.rt,
-            opened.path.as_str(),
-            "grow it",
-            error,
+        let path = opened.path.as_str();
+        let attempt = grow(&opened.file, &self.zeros, size).map_err(|error| report(
+            &self.rt, path, "grow it", error,
         ))?;
-        self.record.note(&[GROWN, file as u64, size as u64], &[]);
-        Ok(())
+        warn_of_space(&self.rt, path, &attempt, &mut self.is_full);
+        let kind = match attempt {
+            Attempt::Made => GROWN,
+            Attempt::Undone(_) => UNDONE_GROWTH,
+        };
+        self.record.note(&[kind, file as u64, size as u64], &[]);
+        Ok(attempt)
     }
 
     fn write_back(&mut self, file: usize, offset: usize, bytes: &[u8]) -> Result<(), ErrorKind> {

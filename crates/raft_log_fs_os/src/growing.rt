@@ -1,11 +1,15 @@
-//! Makes a file's new pages durable before anything else is written into them.
+//! Makes files longer, and makes their new pages durable before anything else is written into them.
 //!
 //! On ext4 with its default mount options, a page that was new at a failed sync loses later writes. They and their
 //! syncs succeed, but after the next mount the page reads as zeros. Truncating the page away ends that. A file that
 //! becomes longer is therefore synced at once, before a record is written there; if that fails, it is truncated.
+//!
+//! A file that becomes longer may find no space. It is then truncated to its old length, so that its bytes are known.
 use super::file_device::PIECE;
+use raft_log_fs_traced::Attempt;
 use std::fs::File;
 use std::io;
+use std::io::ErrorKind;
 use std::os::unix::fs::FileExt;
 
 /// Writes bytes into a file from an offset on, a piece at a time. If it fails, some of them may be written.
@@ -17,46 +21,62 @@ pub(crate) fn write_pieces(opened: &File, offset: usize, bytes: &[u8]) -> io::Re
     Ok(())
 }
 
-/// Writes bytes into a file as `write_pieces` does. If that makes the file longer, syncs it too; if this fails, the
-/// file is truncated to its old length.
-pub(crate) fn write_long(opened: &File, offset: usize, bytes: &[u8]) -> io::Result<()> {
+/// Writes bytes into a file from an offset on, past its end. Those past the end come first, so that a lack of space
+/// leaves the file's own bytes as they are. If they are longer than a piece, they are synced.
+pub(crate) fn extend(opened: &File, offset: usize, bytes: &[u8]) -> io::Result<Attempt> {
     let length = opened.metadata()?.len();
-    let written = write_pieces(opened, offset, bytes);
-    if offset.saturating_add(bytes.len()) as u64 <= length {
-        return written;
+    let inside = bytes
+        .len()
+        .min(length.saturating_sub(offset as u64) as usize);
+    let (front, tail) = bytes.split_at(inside);
+    let written = write_tail(opened, offset.wrapping_add(inside), tail);
+    match keep_growth(opened, length, written)? {
+        Attempt::Made => write_pieces(opened, offset, front).map(|_| Attempt::Made),
+        Attempt::Undone(kind) => Ok(Attempt::Undone(kind)),
     }
-    keep_growth(opened, length, written)
 }
 
-/// Grows a file to a size with zeros, which are written in pieces of `zeros`, and syncs it. If this fails, the file is
-/// truncated to its old length. A file that has this size already is unchanged.
-pub(crate) fn grow(opened: &File, zeros: &[u8], size: usize) -> io::Result<()> {
+/// Writes bytes after a file's end, and syncs them if they are longer than a piece.
+fn write_tail(opened: &File, offset: usize, bytes: &[u8]) -> io::Result<()> {
+    write_pieces(opened, offset, bytes)?;
+    if PIECE < bytes.len() {
+        opened.sync_data()
+    } else {
+        Ok(())
+    }
+}
+
+/// Grows a file to a size with zeros, which are written in pieces of `zeros`, and syncs it. A file that has this size
+/// already is unchanged.
+pub(crate) fn grow(opened: &File, zeros: &[u8], size: usize) -> io::Result<Attempt> {
     let length = opened.metadata()?.len();
     if size as u64 <= length {
-        return Ok(());
+        return Ok(Attempt::Made);
     }
     let written = write_zeros(opened, zeros, length as usize, size);
     keep_growth(opened, length, written)
 }
 
-/// Writes zeros into a file from an offset up to a size, a piece at a time.
+/// Writes zeros into a file from an offset up to a size, a piece at a time, and syncs them.
 fn write_zeros(opened: &File, zeros: &[u8], offset: usize, size: usize) -> io::Result<()> {
     for start in (offset..size).step_by(PIECE) {
         let count = zeros.len().min(size.saturating_sub(start));
         opened.write_all_at(&zeros[..count], start as u64)?;
     }
-    Ok(())
+    opened.sync_data()
 }
 
-/// Syncs a file that has become longer than this length. If its bytes weren't written or can't be synced, truncates it
-/// to this length.
-fn keep_growth(opened: &File, length: u64, written: io::Result<()>) -> io::Result<()> {
-    let kept = match written {
-        Ok(()) => opened.sync_data(),
-        Err(error) => Err(error),
+/// Ends the growth of a file that had this length. If it failed, truncates the file to this length. If the cause was a
+/// lack of space and the file could be truncated, the growth is undone; else the error is returned.
+fn keep_growth(opened: &File, length: u64, grown: io::Result<()>) -> io::Result<Attempt> {
+    let Err(error) = grown else {
+        return Ok(Attempt::Made);
     };
-    if kept.is_err() {
-        let _cut = opened.set_len(length).is_ok();
+    let cut = opened.set_len(length);
+    match error.kind() {
+        ErrorKind::StorageFull | ErrorKind::QuotaExceeded if cut.is_ok() => {
+            Ok(Attempt::Undone(ErrorKind::StorageFull))
+        }
+        _ => Err(error),
     }
-    kept
 }

@@ -1,7 +1,9 @@
-//! An open file, and the message for a call on it that failed.
+//! An open file, and the messages for a call on it that failed or found no space.
+use raft_log_fs_traced::Attempt;
 use std::fs::File;
 use std::io;
 use std::io::ErrorKind;
+use std::path::Path;
 
 /// An open file with its path.
 #[derive(Drop)]
@@ -15,4 +17,19 @@ pub(crate) struct OpenFile {
 pub(crate) fn report<R: Eprint>(rt: &R, path: &str, task: &str, error: io::Error) -> ErrorKind {
     let _printed = eprintln!(rt; "{path}: can't {task}: {error}").is_ok();
     error.kind()
+}
+
+/// Notes whether an attempt to make a file longer found no space. Prints a warning with the directory and the path to
+/// standard error if it did and the attempt before it didn't.
+pub(crate) fn warn_of_space<R: Eprint>(rt: &R, path: &str, attempt: &Attempt, is_full: &mut bool) {
+    let was_full = *is_full;
+    *is_full = matches!(attempt, Attempt::Undone(_));
+    if *is_full && !was_full {
+        let directory = Path::new(path)
+            .parent()
+            .map_or(".", |parent| parent.as_str());
+        let _printed = eprintln!(rt;
+            "no space left in {directory}: {path} keeps its length"
+        ).is_ok();
+    }
 }

@@ -1,9 +1,9 @@
 -- A write of which the front was made, beside the whole that was asked for.
-use Rattle.std.specs.Prelude.{◌≡◌, ℕ, ◌<◌, ◌≤◌, List, [], ◌∷◌}
+use Rattle.std.specs.Prelude.{◌≡◌, ℕ, ◌+◌, ◌-◌, ◌<◌, ◌≤◌, List, [], ◌∷◌, ◌++◌, length}
 use Rattle.std.specs.List.{AllZip}
-use Rattle.std.proofs.Common.{refl, ap, subst, arith, inl, inr, take, drop}
-use Rattle.std.proofs.lemmas.List.{append-nil, length-append, take-append-drop}
-use Rattle.raft_log_fs.specs.Disk.{Change, Wrote, ShortenedTo, GrewTo, File, changed, overwritten}
+use Rattle.std.proofs.Common.{refl, ◌∙◌, ap, subst, arith, inl, inr, take, drop}
+use Rattle.std.proofs.lemmas.List.{append-nil, length-append, length-replicate, take-append-drop}
+use Rattle.raft_log_fs.specs.Disk.{Change, Wrote, ShortenedTo, GrewTo, File, changed, overwritten, grown, zeros}
 use Rattle.raft_log_fs.specs.Image.{Spares, end_of, IsSoundFile}
 use Rattle.raft_log_fs.specs.Disk.{file_limit}
 use Rattle.raft_log_fs.specs.Calls.{with_change, InPart, after_change}
@@ -16,7 +16,7 @@ use Rattle.raft_log_fs_state.specs.Steps.{after_part}
 pub with_no_rest : (change : Change) → with_rest change [] ≡ change
 with_no_rest (Wrote at bytes) = ap (Wrote at) (append-nil bytes)
 with_no_rest (ShortenedTo size) = refl
-with_no_rest (GrewTo size) = refl
+with_no_rest (GrewTo size) = ap GrewTo (let same : size + 0 ≡ size = omega arith in same)
 
 -- a change of which no more was asked for
 pub after_whole : (change : Change) (file : File) → after_part change [] file ≡ after_change change file
@@ -51,7 +51,11 @@ front_in_part (Wrote at bytes) rest old new torn = record {
   within = λ size fits ends. torn.within size fits (omega (arith, ends, length-append bytes rest));
 }
 front_in_part (ShortenedTo size) rest old new part = part
-front_in_part (GrewTo size) rest old new part = part
+front_in_part (GrewTo size) rest old new part = (
+  part.0,
+  elim part.1 [ inl fits ↦ inl (omega (arith, fits)) | inr none ↦ inr none ],
+  part.2,
+)
 
 pub sound_after_part : (file : File) (change : Change) (rest : List ℕ) → IsSoundFile file → end_of (with_rest change rest) < file_limit → IsSoundFile (after_part change rest file)
 sound_after_part file change rest sound short =
@@ -73,3 +77,10 @@ pub front_torn : (at : ℕ) (bytes : List ℕ) (count : ℕ) (old : List ℕ) �
 front_torn at bytes count old =
     subst (λ (bs : List ℕ). InPart (Wrote at bs) old (overwritten at (take count bytes) old)) (take-append-drop count bytes)
     (front_in_part (Wrote at (take count bytes)) (drop count bytes) old (overwritten at (take count bytes) old) (changed_in_part (Wrote at (take count bytes)) old))
+
+-- a growth of which no zero was added, as the disk has it
+pub unmade_growth : (made rest : ℕ) (file : File) → made ≤ length file.content → after_part (GrewTo made) (zeros rest) file ≡ with_change (GrewTo (made + rest)) file.content file
+unmade_growth made rest file is =
+    let same : grown made file.content ≡ file.content = ap (λ (n : ℕ). file.content ++ zeros n) (let none : made - length file.content ≡ 0 = omega (arith, is) in none) ∙ append-nil file.content in
+    ap (λ (bytes : List ℕ). with_change (GrewTo (made + length (zeros rest))) bytes file) same
+    ∙ ap (λ (n : ℕ). with_change (GrewTo (made + n)) file.content file) (length-replicate {A = ℕ} rest 0)

@@ -31,7 +31,7 @@ made_in-append (u ∷ us) v content =
 change_back : (change : Change) (bytes old : List ℕ) → change_of change (bytes_in change (length bytes) (changed (change_of change bytes) old)) ≡ change_of change bytes
 change_back (Write offset rest) bytes old = ap (change_of (Write offset rest)) (written_back offset bytes old)
 change_back (Shortening size) bytes old = refl
-change_back (Growth size) bytes old = refl
+change_back (Growth size rest) bytes old = refl
 
 -- what is kept of a file with this content and these changes
 abbrev pub held_by : List Stamped → List ℕ → Held

@@ -1,5 +1,5 @@
 -- What each step of the storage makes of its disk and of the order of all changes, and that it stays whole.
-use Rattle.std.specs.Prelude.{◌≡◌, ℕ, ◌<◌, Bool, false, cond, Option, Some, None, List, [], suc, vec_len}
+use Rattle.std.specs.Prelude.{◌≡◌, ℕ, ◌+◌, ◌<◌, ◌++◌, ◌∷◌, min, Bool, false, cond, Option, Some, None, List, [], suc, vec_len}
 use Rattle.std.specs.Option.{option_map}
 use Rattle.std.specs.Map.{update}
 use Rattle.std.specs.Str.{bytes_eq}
@@ -9,9 +9,9 @@ use Rattle.std.proofs.lemmas.List.{get_or_past}
 use Rattle.std.proofs.lemmas.Slice.Eq.{bytes_eq-Decides}
 use Rattle.std.proofs.lemmas.Map.{update_same, update_other}
 use std.Path.{fun_ext}
-use Rattle.raft_log_fs.specs.Disk.{Change, File, HasDirectory, with_file, file_limit}
+use Rattle.raft_log_fs.specs.Disk.{Change, GrewTo, File, zeros, HasDirectory, with_file, file_limit}
 use Rattle.raft_log_fs.specs.Image.{end_of, IsSound}
-use Rattle.raft_log_fs.specs.Calls.{flushed, created, deleted, without, renamed, with_directory}
+use Rattle.raft_log_fs.specs.Calls.{with_change, flushed, created, deleted, without, renamed, with_directory}
 use Rattle.raft_log_fs.proofs.ImageLaws.{disk_ext}
 use Rattle.raft_log_fs.proofs.SoundLaws.{sound_with_file, sound_flushed, sound_created, sound_deleted, sound_renamed, sound_with_directory}
 use Rattle.raft_log_fs.proofs.Updates.{name_apart, file_here, file_apart}
@@ -21,9 +21,9 @@ use Rattle.raft_log_fs_state.specs.declared.storage.Node.TheVariants as node
 use Rattle.raft_log_fs_state.specs.Held.{Held, held, held_of, resting, with_made, all_synced, file_of}
 use Rattle.raft_log_fs_state.specs.Order.{with_stamp, in_order, without_file, Rises, AreStamped}
 use Rattle.raft_log_fs_state.specs.Storage.{file_named, is_directory, node_at, contents_of, unsynced_of, IsStorageSound}
-use Rattle.raft_log_fs_state.specs.Steps.{IsSame, after_part, Makes, SyncsFile, AddsName, DropsName, MovesName, without_replaced}
+use Rattle.raft_log_fs_state.specs.Steps.{IsSame, after_part, size_of, Makes, NotesGrowth, SyncsFile, AddsName, DropsName, MovesName, without_replaced}
 use Rattle.raft_log_fs_state.specs.Changes.{with_rest}
-use Rattle.raft_log_fs_state.proofs.Fronts.{sound_after_part}
+use Rattle.raft_log_fs_state.proofs.Fronts.{sound_after_part, unmade_growth}
 use Rattle.raft_log_fs_state.proofs.RisingLaws.{miss}
 use Rattle.raft_log_fs_state.proofs.OrderLaws.{order_pushed, stamped_pushed, order_dropped, order_added, still_stamped}
 use Rattle.raft_log_fs_state.proofs.StorageLaws.{updated, file_of-with_made, mapped, same_there, put_back}
@@ -126,6 +126,15 @@ whole_makes old new id change rest whole there short made_it files made =
           (stamped_pushed old.made id change rest F G file.0 whole.stamped file.1 (now_here F G id (with_made old.made change rest) file.0 files file.1)
           (now_apart F G id (option_map (with_made old.made change rest) (F id)) files));
     }
+
+-- a growth that failed and added nothing
+pub noted_growth : (old new : Storage) (id made rest size : ℕ) → made ≡ min (size_of ((contents_of old).files id)) size → made + rest ≡ size → Makes id (GrewTo made) (zeros rest) old new
+    → NotesGrowth id size old new
+noted_growth old new id made rest size is all makes_it = record {
+  contents = λ file at. makes_it.contents file at ∙ ap (λ (f : File). with_file id (Some f) (contents_of old))
+      (unmade_growth made rest file (omega (arith, is, ap size_of at)) ∙ ap (λ (n : ℕ). with_change (GrewTo n) file.content file) all);
+  order = λ file at. makes_it.order ∙ ap (λ (n : ℕ). unsynced_of old ++ (id, GrewTo n) ∷ []) (is ∙ ap (λ (o : Option File). min (size_of o) size) at);
+}
 
 -- a sync
 pub syncs : (old new : Storage) (id : ℕ) → ((q : List ℕ) → node_at new q ≡ node_at old q) → (held_of old.files.items id ≡ None → ⊥)

@@ -1,18 +1,18 @@
 -- The changes that a file system in memory stores, as changes of a disk.
-use Rattle.std.specs.Prelude.{◌≡◌, ℕ, ◌++◌, take, drop, List, []}
-use Rattle.raft_log_fs.specs.Disk.{Wrote, ShortenedTo, GrewTo}
+use Rattle.std.specs.Prelude.{◌≡◌, ℕ, ◌+◌, ◌++◌, take, drop, length, List, []}
+use Rattle.raft_log_fs.specs.Disk.{Wrote, ShortenedTo, GrewTo, zeros}
 use Rattle.raft_log_fs.specs.Disk as disk
 use Rattle.raft_log_fs_state.specs.declared.change.Change.{Change}
 use Rattle.raft_log_fs_state.specs.declared.change.Change.TheVariants.{Write, Shortening, Growth}
 use Rattle.raft_log_fs_state.specs.declared.change.Stamped.{Stamped}
 
--- a write with `rest` appended to its bytes; a truncation or growth unchanged
+-- a write or growth with `rest` appended to its bytes or zeros; a truncation unchanged
 abbrev pub with_rest : disk.Change → List ℕ → disk.Change
 with_rest (Wrote at bytes) rest = Wrote at (bytes ++ rest)
 with_rest (ShortenedTo size) rest = ShortenedTo size
-with_rest (GrewTo size) rest = GrewTo size
+with_rest (GrewTo size) rest = GrewTo (size + length rest)
 
--- `landed` is what was done of `asked`: all of it, or, of a failed write, only a prefix of its bytes
+-- `landed` is what was done of `asked`: all of it, or, of a failed write or growth, only a prefix of its bytes or zeros
 abbrev pub IsLanded : disk.Change → disk.Change → Type 0
 IsLanded landed asked = (rest : List ℕ) × (asked ≡ with_rest landed rest)
 
@@ -20,13 +20,13 @@ IsLanded landed asked = (rest : List ℕ) × (asked ≡ with_rest landed rest)
 abbrev pub change_of : Change → List ℕ → disk.Change
 change_of (Write offset rest) bytes = Wrote offset bytes
 change_of (Shortening size) bytes = ShortenedTo size
-change_of (Growth size) bytes = GrewTo size
+change_of (Growth size rest) bytes = GrewTo size
 
--- the bytes that a failed write was asked to write, but didn't; none for other changes
+-- the bytes or zeros that a failed write or growth was asked for, but didn't add; none for other changes
 abbrev pub rest_of : Change → List ℕ
 rest_of (Write offset rest) = rest.items
 rest_of (Shortening size) = []
-rest_of (Growth size) = []
+rest_of (Growth size rest) = zeros rest
 
 -- a stored change as its call asked for it; `bytes` are those that a write wrote
 abbrev pub asked_of : Change → List ℕ → disk.Change
@@ -36,9 +36,9 @@ asked_of change bytes = with_rest (change_of change bytes) (rest_of change)
 abbrev pub bytes_in : Change → ℕ → List ℕ → List ℕ
 bytes_in (Write offset rest) count after = take count (drop offset after)
 bytes_in (Shortening size) count after = []
-bytes_in (Growth size) count after = []
+bytes_in (Growth size rest) count after = []
 
--- A change that was made. `rest` are the bytes that a failed write was also asked to write. `stamp` is the number of
+-- A change that was made. `rest` are the bytes or zeros that a failed write or growth was also asked for. `stamp` is the number of
 -- changes, of any file, that were made before it.
 pub record Made : Type 0 where
   pub stamp : ℕ

@@ -1,8 +1,8 @@
 -- What each change of a file system in memory does to its disk, and to the list of unsynced changes of all files.
-use Rattle.std.specs.Prelude.{◌≡◌, ℕ, ◌+◌, ◌⊎◌, ◌<◌, ◌≤◌, cond, nat_eq, Option, Some, None, List, [], ◌∷◌, ◌++◌, length}
+use Rattle.std.specs.Prelude.{◌≡◌, ℕ, ◌+◌, ◌⊎◌, ◌<◌, ◌≤◌, min, cond, nat_eq, Option, Some, None, List, [], ◌∷◌, ◌++◌, length}
 use Rattle.std.specs.declared.io.ErrorKind.{ErrorKind}
 use Rattle.std.specs.declared.io.ErrorKind.TheVariants.{OutOfMemory, StorageFull}
-use Rattle.raft_log_fs.specs.Disk.{Change, File, Disk, changed, with_file, file_limit}
+use Rattle.raft_log_fs.specs.Disk.{Change, GrewTo, File, Disk, changed, with_file, file_limit}
 use Rattle.raft_log_fs.specs.Image.{end_of}
 use Rattle.raft_log_fs.specs.Calls.{with_change, flushed, deleted, renamed}
 use Rattle.raft_log_fs_state.specs.declared.storage.Storage.{Storage}
@@ -17,17 +17,25 @@ pub record IsSame (old new : Storage) : Type 0 where
   pub contents : contents_of new ≡ contents_of old
   pub order : unsynced_of new ≡ unsynced_of old
 
--- The file after `change` was made. A failed write may have been asked to write `rest` too: the file's list of changes
--- includes these bytes, its content doesn't.
+-- The file after `change` was made. A failed write or growth may have been asked for `rest` too: the file's list of
+-- changes includes these bytes, its content doesn't.
 abbrev pub after_part : Change → List ℕ → File → File
 after_part change rest file = with_change (with_rest change rest) (changed change file.content) file
 
--- File `id`, if it exists, got `change`, and this is the last unsynced change of all files. A failed write may have
--- been asked to write `rest` too.
+-- File `id`, if it exists, got `change`, and this is the last unsynced change of all files. A failed write or growth
+-- may have been asked for `rest` too.
 pub record Makes (id : ℕ) (change : Change) (rest : List ℕ) (old new : Storage) : Type 0 where
   pub contents : (file : File) → (contents_of old).files id ≡ Some file
       → contents_of new ≡ with_file id (Some (after_part change rest file)) (contents_of old)
   pub order : unsynced_of new ≡ unsynced_of old ++ (id, change) ∷ []
+
+-- A growth of file `id` to `size` bytes failed and added no zero: if the file exists, its content is the same, and the
+-- growth is among its unsynced changes.
+pub record NotesGrowth (id size : ℕ) (old new : Storage) : Type 0 where
+  pub contents : (file : File) → (contents_of old).files id ≡ Some file
+      → contents_of new ≡ with_file id (Some (with_change (GrewTo size) file.content file)) (contents_of old)
+  pub order : (file : File) → (contents_of old).files id ≡ Some file
+      → unsynced_of new ≡ unsynced_of old ++ (id, GrewTo (min (length file.content) size)) ∷ []
 
 -- file `id`, if it exists, was synced, and its changes were removed from the unsynced ones
 pub record SyncsFile (id : ℕ) (old new : Storage) : Type 0 where

@@ -26,6 +26,8 @@ pub enum Change {
     Growth {
         /// The file's size then, in bytes.
         size: usize,
+        /// How many zeros of a failed growth were not added.
+        rest: usize,
     },
 }
 
@@ -60,7 +62,7 @@ impl Change {
                 content.shorten(*size);
                 Ok(())
             }
-            Change::Growth { size } => content.grow(*size),
+            Change::Growth { size, rest: _ } => content.grow(*size),
         }
     }
 
@@ -79,7 +81,7 @@ impl Change {
             Change::Write { offset, rest: _ } => {
                 content.write(*offset, &bytes[..count.min(bytes.len())])
             }
-            Change::Shortening { size: _ } | Change::Growth { size: _ } => Ok(()),
+            Change::Shortening { size: _ } | Change::Growth { size: _, rest: _ } => Ok(()),
         }
     }
 
@@ -98,7 +100,7 @@ impl Change {
             Change::Write { offset, rest: _ } => {
                 content.write(*offset, &other[..bytes.len().min(other.len())])
             }
-            Change::Shortening { size: _ } | Change::Growth { size: _ } => {
+            Change::Shortening { size: _ } | Change::Growth { size: _, rest: _ } => {
                 self.carry_out(bytes, content)
             }
         }
@@ -130,7 +132,7 @@ impl Change {
                 size.min(offset.saturating_add(bytes.len())),
             ),
             Change::Shortening { size: left } => (size.min(*left), size),
-            Change::Growth { size: _ } => (size, size),
+            Change::Growth { size: _, rest: _ } => (size, size),
         }
     }
 
@@ -145,7 +147,9 @@ impl Change {
     {
         match self {
             Change::Write { offset, rest: _ } => content.piece(alloc, *offset, length),
-            Change::Shortening { size: _ } | Change::Growth { size: _ } => Ok(Vec::new(alloc)),
+            Change::Shortening { size: _ } | Change::Growth { size: _, rest: _ } => Ok(Vec::new(
+                alloc,
+            )),
         }
     }
 }

@@ -133,6 +133,13 @@ impl Content {
         Ok(())
     }
 
+    // Reserves capacity for a content of this size.
+    pub(crate) fn reserve(&mut self, size: usize) -> Result<(), AllocError>
+        ensures { self.new ≡ self.old }
+    {
+        self.front.reserve(size.saturating_sub(self.front.len()))
+    }
+
     // Truncates the content to a size.
     pub(crate) fn shorten(&mut self, size: usize)
         ensures { self.new ≡ take size self.old }

@@ -58,11 +58,37 @@ impl Stored {
         Ok(())
     }
 
+    // Reserves memory for a change after which there are `size` bytes.
+    fn reserve(&mut self, size: usize) -> Result<(), AllocError>
+        ensures { held self.new ≡ held self.old }
+    {
+        self.changes.reserve(1)?;
+        self.content.reserve(size)
+    }
+
     // Syncs the content.
     fn flush(&mut self)
         ensures { held self.new ≡ all_synced (held self.old) }
     {
         self.changes.clear();
+    }
+}
+
+// Reserves memory for a change of one file after which it has `size` bytes.
+pub(crate) fn reserve(
+    files: &mut Vec<Option<Stored>>,
+    id: usize,
+    size: usize,
+) -> Result<(), AllocError>
+    ensures len { vec_len files.new ≡ vec_len files.old }
+    ensures same { SameHeld files.old.items files.new.items }
+{
+    if files.len() <= id {
+        return Ok(());
+    }
+    match &mut files[id] {
+        Some(stored) => stored.reserve(size),
+        None => Ok(()),
     }
 }
 

@@ -3,7 +3,7 @@ ghost use Rattle.raft_log_fs_state.specs.Listing.{TellsChild};
 
 use crate::change::Change;
 use crate::content::Content;
-use crate::files::{Stored, change_file, flush_file};
+use crate::files::{Stored, change_file, flush_file, reserve};
 use crate::order::sorted_stamps;
 use crate::remainder::Remainder;
 use crate::remains::left_files;
@@ -47,7 +47,7 @@ impl Storage {
     ghost use Rattle.raft_log_fs_state.specs.Listing.{ListsNames};
     ghost use Rattle.raft_log_fs_state.specs.Held.{held_of, IfHeld, PutsHeld, ReadsNumber, ReadsFront};
     ghost use Rattle.raft_log_fs_state.specs.Storage.{file_named, is_directory, node_at, SameNodes, PutsNode, contents_of, unsynced_of, IsStorageSound};
-    ghost use Rattle.raft_log_fs_state.specs.Steps.{IsSame, IsLeftBy, Makes, SyncsFile, AddsName, DropsName, MovesName, size_of, GrowsPast, IsRoomFault};
+    ghost use Rattle.raft_log_fs_state.specs.Steps.{IsSame, IsLeftBy, Makes, NotesGrowth, SyncsFile, AddsName, DropsName, MovesName, size_of, GrowsPast, IsRoomFault};
 
     /// A storage without directories and files.
     pub fn new(alloc: Global) -> Storage
@@ -275,8 +275,48 @@ impl Storage {
         if self.grows_past(id, size, free) {
             return Err(ErrorKind::StorageFull);
         }
-        self.change(id, Change::Growth { size }, &[])
+        self.change(id, Change::Growth { size, rest: 0 }, &[])
             .map_err(|_| ErrorKind::OutOfMemory)
+    }
+
+    /// Notes a growth that fails of a file that exists: of the zeros up to `size`, none is added. Fails only with
+    /// `OutOfMemory`.
+    pub fn fail_to_grow(&mut self, id: usize, size: usize) -> Result<(), ErrorKind>
+        requires there { (held_of self.old.files.items id ≡ None) → ⊥ }
+        requires short { size < file_limit }
+        requires whole { IsStorageSound self.old }
+        ensures ok { OnOk result (NotesGrowth id size self.old self.new) }
+        ensures err { OnErr result (IsSame self.old self.new) }
+        ensures errors { IfErr result (λ error. error ≡ ErrorKind.OutOfMemory) }
+        ensures whole { IsStorageSound self.new }
+    {
+        let made = self.size(id).min(size);
+        let rest = size - made;
+        match self.change(id, Change::Growth { size: made, rest }, &[]) {
+            Ok(()) => Ok(()),
+            Err(_) => Err(ErrorKind::OutOfMemory),
+        }
+    }
+
+    /// Reserves memory for a change after which a file that exists has `size` bytes. If it fails, that is why the
+    /// change would fail:
+    /// - `StorageFull`: `size` is 2^63 or more.
+    /// - `OutOfMemory`: memory ran out.
+    pub fn make_room(&mut self, id: usize, size: usize) -> Result<(), ErrorKind>
+        requires { IsStorageSound self.old }
+        ensures same { IsSame self.old self.new }
+        ensures ok { OnOk result (size < file_limit) }
+        ensures errors { IfErr result (λ error. (error ≡ ErrorKind.OutOfMemory)
+            ⊎ ((error ≡ ErrorKind.StorageFull) × (file_limit ≤ size))) }
+        ensures whole { IsStorageSound self.new }
+    {
+        if LIMIT <= size {
+            return Err(ErrorKind::StorageFull);
+        }
+        match reserve(&mut self.files, id, size) {
+            Ok(()) => Ok(()),
+            Err(_) => Err(ErrorKind::OutOfMemory),
+        }
     }
 
     // Whether a file would grow by more than `free` bytes if it got this size.

@@ -1,3 +1,5 @@
 mod Made
 mod Files
+mod Attempts
+mod UndoneLaws
 pub mod Pieces

@@ -68,12 +68,12 @@ module _ (call : DeviceCall) (old new : Storage) (trace later : Trace) where
   made_of (Err e) was stopped runs follows did ok err goes_on stop = record { follows = follows runs; did = did; ok = ok; err = err; runs = goes_on; stop = stop }
 
 -- what is told is whether the device did it, and a stop isn't told as want of memory
-pub told_ok : (result made : Result (Unit {0}) ErrorKind) (P : Type 0) → IsToldOf made result → OnOk made P → OnOk result P
+pub told_ok : {T : Type 0} (result made : Result T ErrorKind) (P : Type 0) → IsToldOf made result → OnOk made P → OnOk result P
 told_ok (Ok v) (Ok w) P told is = is
 told_ok (Ok v) (Err k) P told is = absurd (told.1)
 told_ok (Err e) made P told is = tt
 
-pub told_err : (result made : Result (Unit {0}) ErrorKind) (P : ErrorKind → Type 0) → IsToldOf made result → OnErr made ((e : ErrorKind) → IsStopKind e → P e) → IfErr result P
+pub told_err : {T : Type 0} (result made : Result T ErrorKind) (P : ErrorKind → Type 0) → IsToldOf made result → OnErr made ((e : ErrorKind) → IsStopKind e → P e) → IfErr result P
 told_err (Ok v) made P told is = tt
 told_err (Err e) (Ok w) P told is = cc
 told_err (Err e) (Err k) P told is = is e told.0.stops
@@ -84,6 +84,12 @@ pub failed_once : {kind : ErrorKind} (part does : Disk → Disk → Type 0) (wro
 failed_once part does wrong error failures kinds contents d new same runs right none (inl (same_kind, is)) =
     failed (ap (λ (k : Disk). k.stopped) same ∙ runs) (subst (λ (k : Disk). IsRight (wrong k)) (sym same) right) d (none d) is
 failed_once part does wrong error failures kinds contents d new same runs right none (inr (told, is)) = stops (ap (λ (k : Disk). k.stopped) same ∙ runs) told.stops d (inl refl) is
+
+-- the same, after some of the call was done
+pub failed_after : {kind : ErrorKind} (part does : Disk → Type 0) (wrong : ErrorKind → Type 0) (error : ErrorKind) (d mid new : Disk) → d.stopped ≡ false → IsRight wrong → part mid
+    → FailsOnce kind error mid new → Refused part does wrong error d new
+failed_after {kind = kind} part does wrong error d mid new runs right some (inl (same_kind, is)) = failed runs right mid some is
+failed_after part does wrong error d mid new runs right some (inr (told, is)) = stops runs told.stops mid (inr (right, inl some)) is
 
 -- Each call, as the model does it.
 
@@ -117,5 +123,5 @@ module _ (call : DeviceCall) (trace later : Trace) (bytes : (held : Held) → af
   file_tried (Err e) (inr is) = λ d at. inr (ap (λ (h : Held). h.kept) (then_done is d at))
 
 -- what a refused call leaves, where it is told as refused
-pub told_then : (made result : Result (Unit {0}) ErrorKind) (e : ErrorKind) (P : ErrorKind → Type 0) → IsToldOf made result → result ≡ Err e → OnErr made ((k : ErrorKind) → IsStopKind k → P k) → P e
-told_then made result e P told is each = subst (λ (r : Result (Unit {0}) ErrorKind). IfErr r P) is (told_err result made P told each)
+pub told_then : {T : Type 0} (made result : Result T ErrorKind) (e : ErrorKind) (P : ErrorKind → Type 0) → IsToldOf made result → result ≡ Err e → OnErr made ((k : ErrorKind) → IsStopKind k → P k) → P e
+told_then {T = T} made result e P told is each = subst (λ (r : Result T ErrorKind). IfErr r P) is (told_err result made P told each)

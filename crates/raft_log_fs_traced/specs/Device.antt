@@ -6,10 +6,13 @@ use Rattle.std.specs.Path.{path_parent}
 use Rattle.std.specs.Str.{bytes_eq}
 use Rattle.std.proofs.Common.{nat_eq}
 use Rattle.raft_log_fs.specs.Disk.{Change, File, Disk, at_rest, with_file}
-use Rattle.raft_log_fs.specs.Calls.{after_change, flushed, deleted, renamed, with_directory}
+use Rattle.raft_log_fs_traced.specs.declared.device.Attempt.{Attempt}
+use Rattle.raft_log_fs_traced.specs.declared.device.Attempt.TheVariants as attempt
+use Rattle.raft_log_fs.specs.Calls.{with_change, after_change, flushed, deleted, renamed, with_directory}
 
 -- A call on a device. A new file gets a number, and later calls name it by that number. A change of a file's bytes is a
--- write, a truncation or a growth. A write-back writes bytes that the file already has at that offset.
+-- write, a truncation or a growth. A change is undone if it found no room: it was tried, and the file was truncated
+-- to its old length. A write-back writes bytes that the file already has at that offset.
 pub data DeviceCall : Type 0 where
   Created : (path : List ℕ) (file : ℕ) → DeviceCall
   Deleted : (path : List ℕ) → DeviceCall
@@ -17,6 +20,7 @@ pub data DeviceCall : Type 0 where
   MadeDirectory : (path : List ℕ) → DeviceCall
   SyncedDirectory : (path : List ℕ) → DeviceCall
   Changed : (file : ℕ) (change : Change) → DeviceCall
+  Undone : (file : ℕ) (change : Change) → DeviceCall
   WroteBack : (file at : ℕ) (bytes : List ℕ) → DeviceCall
   Synced : (file : ℕ) → DeviceCall
 
@@ -63,6 +67,11 @@ abbrev pub with_next : Option File → (File → File) → ℕ → Disk → Disk
 with_next None next file d = d
 with_next (Some state) next file d = with_file file (Some (next state)) d
 
+-- The file after `change` was tried and undone. Its content is as before. The change is among its unsynced changes, so
+-- a crash may leave any part of it.
+abbrev pub undone_change : Change → File → File
+undone_change change file = with_change change file.content file
+
 -- the disk after a call, as later calls see it; a directory sync and a write-back change nothing
 abbrev pub changed_by : DeviceCall → Disk → Disk
 changed_by (Created path file) d = created_as path file d
@@ -71,6 +80,7 @@ changed_by (Renamed from to) d = with_moved (d.names from) from to d
 changed_by (MadeDirectory path) d = with_directory path d
 changed_by (SyncedDirectory path) d = d
 changed_by (Changed file change) d = with_next (d.files file) (after_change change) file d
+changed_by (Undone file change) d = with_next (d.files file) (undone_change change) file d
 changed_by (WroteBack file at bytes) d = d
 changed_by (Synced file) d = with_next (d.files file) flushed file d
 
@@ -103,6 +113,7 @@ after (Renamed from to) held = with_names (Renamed from to) (home to ∷ home fr
 after (MadeDirectory path) held = with_names (MadeDirectory path) (home path ∷ []) held
 after (SyncedDirectory path) held = owing (but_for path held.owed) held
 after (Changed file change) held = with_bytes (Changed file change) held
+after (Undone file change) held = with_bytes (Undone file change) held
 after (WroteBack file at bytes) held = held
 after (Synced file) held = with_bytes (Synced file) held
 
@@ -123,6 +134,11 @@ noted call trace = record { found = trace.found; made = call ∷ trace.made }
 abbrev pub HasBytes : ℕ → ℕ → List ℕ → Disk → Type 0
 HasBytes file at bytes d = (state : File) → d.files file ≡ Some state
     → (at + length bytes ≤ length state.content) × (take (length bytes) (drop at state.content) ≡ bytes)
+
+-- the call that an attempt to change a file ended as: the change, or the change undone
+abbrev pub attempted : ℕ → Change → Attempt → DeviceCall
+attempted file change attempt.Made = Changed file change
+attempted file change (attempt.Undone kind) = Undone file change
 
 -- a call that failed: either it was made on the device, or no call was
 abbrev pub MayBeMade : DeviceCall → Trace → Trace → Type 0

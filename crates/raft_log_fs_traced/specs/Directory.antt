@@ -24,7 +24,7 @@ FailsOnce kind error old new =
     ((error ≡ kind) × (new ≡ counted error old)) ⊎ (IsToldAtStop kind error × (new ≡ at_stop old))
 
 -- what a call returns after a device call: success if that succeeded; otherwise the error of a stop
-abbrev pub IsToldOf : Result (Unit {0}) ErrorKind → Result (Unit {0}) ErrorKind → Type 0
+abbrev pub IsToldOf : {T : Type 0} → Result T ErrorKind → Result T ErrorKind → Type 0
 IsToldOf made result =
     MatchResult made (λ v. result ≡ Ok v) (λ kind. IfErr result (IsToldAtStop kind) × OnOk result ⊥)
 

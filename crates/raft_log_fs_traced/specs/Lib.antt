@@ -2,4 +2,5 @@ pub mod Device
 pub mod Following
 pub mod Directory
 pub mod Space
+pub mod Undoing
 pub mod WritingBack

@@ -1,5 +1,6 @@
--- The space that is set for each directory of a file system over a device.
-use Rattle.std.specs.Prelude.{ℕ, Option, List}
+-- The space of each directory of a file system over a device: what is set for it, and what its files had when one of them
+-- found no space.
+use Rattle.std.specs.Prelude.{◌≡◌, ℕ, min, Option, List}
 use Rattle.std.specs.BTreeMap.{get_by_text}
 use Rattle.raft_log_fs_state.specs.Storage.{contents_of}
 use Rattle.raft_log_fs_memory.specs.Space.{IsFree}
@@ -11,6 +12,15 @@ module _ {D : Type 0} (g : device.Ghosts D) where
   abbrev pub spaces_of : DirectoryFileSystem D g → List ℕ → Option ℕ
   spaces_of system = get_by_text system.spaces
 
-  -- `free` is the free space of `directory`: what its files leave of the space that is set for it
-  abbrev pub TellsFree : DirectoryFileSystem D g → List ℕ → ℕ → Type 0
-  TellsFree system directory free = IsFree (spaces_of system) directory (contents_of system.storage) free
+  -- for each directory in which a file found no space: how many bytes its files had then
+  abbrev pub full_of : DirectoryFileSystem D g → List ℕ → Option ℕ
+  full_of system = get_by_text system.full
+
+  -- `free` is the free space of `directory`: what its files leave of the space that is set for it, or of the bytes that
+  -- they had when one of them found no space, if that is less
+  pub record TellsFree (system : DirectoryFileSystem D g) (directory : List ℕ) (free : ℕ) : Type 0 where
+    pub set : ℕ
+    pub found : ℕ
+    pub of_set : IsFree (spaces_of system) directory (contents_of system.storage) set
+    pub of_found : IsFree (full_of system) directory (contents_of system.storage) found
+    pub least : free ≡ min set found

@@ -1,9 +1,18 @@
 //! The trait of a device.
-ghost use Rattle.std.specs.Prelude.{◌≡◌, ◌+◌, OnOk, OnErr};
+ghost use Rattle.std.specs.Prelude.{◌≡◌, ◌+◌, IfOk, OnOk, OnErr};
 ghost use Rattle.raft_log_fs.specs.Disk.{Wrote, ShortenedTo, GrewTo};
-ghost use Rattle.raft_log_fs_traced.specs.Device.{Created, Deleted, Renamed, MadeDirectory, SyncedDirectory, Changed, Synced, Trace, noted, MayBeMade, WroteBack, HasBytes, held_by};
+ghost use Rattle.raft_log_fs_traced.specs.Device.{Created, Deleted, Renamed, MadeDirectory, SyncedDirectory, Changed, Synced, Trace, noted, attempted, MayBeMade, WroteBack, HasBytes, held_by};
 
 use std::io::ErrorKind;
+
+/// How an attempt to make a file longer ended.
+#[derive(Clone, Copy, Debug)]
+pub enum Attempt {
+    /// The file is longer.
+    Made,
+    /// There was no room for it: the file has the bytes that it had. The kind is that of the system's error.
+    Undone(ErrorKind),
+}
 
 /// What keeps files and directories, as an operating system does. Each method makes one call.
 ///
@@ -47,15 +56,25 @@ pub trait Device {
         ensures err { OnErr result
             (MayBeMade (Changed file (Wrote offset bytes.now)) (trace self.old) (trace self.new)) };
 
+    /// Writes bytes into a file from an offset on, past its end; a gap after its end becomes zeros. If there is no room,
+    /// the file keeps the bytes that it has.
+    fn extend(&mut self, file: usize, offset: usize, bytes: &[u8]) -> Result<Attempt, ErrorKind>
+        ensures ok { IfOk result (λ attempt. trace self.new
+            ≡ noted (attempted file (Wrote offset bytes.now) attempt) (trace self.old)) }
+        ensures err { OnErr result
+            (MayBeMade (Changed file (Wrote offset bytes.now)) (trace self.old) (trace self.new)) };
+
     /// Truncates a file to a size; never makes it longer.
     fn truncate(&mut self, file: usize, size: usize) -> Result<(), ErrorKind>
         ensures ok { OnOk result (trace self.new ≡ noted (Changed file (ShortenedTo size)) (trace self.old)) }
         ensures err { OnErr result
             (MayBeMade (Changed file (ShortenedTo size)) (trace self.old) (trace self.new)) };
 
-    /// Grows a file with zeros to a size; never makes it shorter.
-    fn grow(&mut self, file: usize, size: usize) -> Result<(), ErrorKind>
-        ensures ok { OnOk result (trace self.new ≡ noted (Changed file (GrewTo size)) (trace self.old)) }
+    /// Grows a file with zeros to a size; never makes it shorter. If there is no room, the file keeps the bytes that it
+    /// has.
+    fn grow(&mut self, file: usize, size: usize) -> Result<Attempt, ErrorKind>
+        ensures ok { IfOk result (λ attempt. trace self.new
+            ≡ noted (attempted file (GrewTo size) attempt) (trace self.old)) }
         ensures err { OnErr result
             (MayBeMade (Changed file (GrewTo size)) (trace self.old) (trace self.new)) };
 

@@ -1,6 +1,7 @@
 //! A file system over a device.
 mod calls;
 mod checks;
+mod lengthening;
 mod space;
 
 ghost use Rattle.raft_log_fs.proofs.Props.{IsSound-prop};
@@ -16,12 +17,15 @@ use std::collections::BTreeMap;
 
 /// A file system over a device, whose files are also in memory, each byte once. A change is made in memory first, and
 /// then on the device; if names changed, the device is synced. Reads come from memory. If a device call fails, the file
-/// system stops.
+/// system stops. A file is made longer on the device first: if there is no room for that, the file keeps its bytes, and
+/// the call fails, and the file system runs on.
 #[derive(Drop)]
 pub struct DirectoryFileSystem<D: Device> {
     storage: Storage,
     // How many bytes the files of a directory may have in all, for each directory that has a limit.
     spaces: BTreeMap<String, u64>,
+    // For each directory in which a file found no space: how many bytes its files had then.
+    full: BTreeMap<String, u64>,
     device: D,
     failures: u64,
     kinds: Kinds,
@@ -34,7 +38,7 @@ pub struct DirectoryFileSystem<D: Device> {
 impl<D: Device> DirectoryFileSystem<D> {
     ghost use Rattle.std.specs.Prelude.{◌≡◌, ℕ, List, None};
     ghost use Rattle.raft_log_fs_state.specs.Storage.{contents_of};
-    ghost use Rattle.raft_log_fs_traced.specs.Space.{spaces_of};
+    ghost use Rattle.raft_log_fs_traced.specs.Space.{spaces_of, full_of};
     ghost use Rattle.raft_log_fs_traced.specs.Device.{settled};
     ghost use Rattle.raft_log_fs_traced.specs.Directory.{calls_of, disk_of};
 
@@ -45,11 +49,14 @@ impl<D: Device> DirectoryFileSystem<D> {
         ensures same { disk_of D.Device result ≡ contents_of storage }
         ensures calls { calls_of D.Device result ≡ D.Device.trace device }
         ensures unset { (directory : List ℕ) → spaces_of D.Device result directory ≡ None }
+        ensures found { (directory : List ℕ) → full_of D.Device result directory ≡ None }
     {
         let spaces = BTreeMap::new(storage.alloc);
+        let full = BTreeMap::new(storage.alloc);
         DirectoryFileSystem {
             storage,
             spaces,
+            full,
             device,
             failures: 0,
             kinds: Kinds::new(),

@@ -5,8 +5,9 @@
 pub mod device;
 pub mod directory;
 mod durable;
+pub mod undoing;
 pub mod writing_back;
 
-pub use device::Device;
+pub use device::{Attempt, Device};
 pub use directory::DirectoryFileSystem;
 pub use writing_back::write_back;

@@ -1,5 +1,5 @@
-//! Tests of records and tables that no case can carry: calls whose allocations fail, workers, and laws, which have
-//! nothing to show. All others are the cases of `raft_log_record_cases`.
+//! Tests of records and files that no case can carry: calls whose allocations fail, and laws, which have nothing to
+//! show. All others are the cases of `raft_log_record_cases`.
 #![tactic(auto)]
 
 #[cfg(test)]
@@ -7,8 +7,4 @@ mod directory_laws;
 #[cfg(test)]
 mod model_laws;
 #[cfg(test)]
-mod short_memory;
-#[cfg(test)]
 mod short_memory_of_files;
-#[cfg(test)]
-mod workers;

@@ -7,7 +7,7 @@ use Rattle.raft_log_record_base.specs.declared.pipe_log.LogQueue.TheVariants.{Ap
 use Rattle.raft_log_fs.specs.Disk.{Disk}
 use Rattle.raft_log_file_settings.specs.Sanitized.{prefill_capacity, recycle_capacity}
 use Rattle.raft_log_file_settings.specs.Settings.{settings_of}
-use Rattle.raft_log_active_file.specs.LayoutLayout.{log_paths}
+use Rattle.raft_log_active_file.specs.QueueFiles.{log_paths}
 use Rattle.raft_log_recovery.specs.Readying.{FailsToReady, Readies}
 use Rattle.raft_log_recovery.specs.Directories.{paths_of}
 use Rattle.raft_log_recovery.specs.Recovering.{append_files}

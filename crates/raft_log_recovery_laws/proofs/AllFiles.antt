@@ -13,8 +13,8 @@ use Rattle.raft_log_file_writer.specs.LogQueue.{LogFiles, IsLeftover}
 use Rattle.raft_log_active_file.specs.Layout.{place_of}
 use Rattle.raft_log_active_file.specs.Standing.{Names, Stands}
 use Rattle.raft_log_file_format.specs.Name.{suffix_of}
-use Rattle.raft_log_engine_laws.specs.raft_log_active_file.specs.LayoutLayout.{log_format}
-use Rattle.raft_log_engine_laws.specs.raft_log_active_file.specs.LayoutLayoutLaws.{is_layout}
+use Rattle.raft_log_engine_laws.specs.raft_log_active_file.specs.QueueFiles.{log_format}
+use Rattle.raft_log_engine_laws.specs.raft_log_active_file.specs.QueueFilesLaws.{is_layout}
 use Rattle.raft_log_engine_laws.specs.raft_log_active_file.specs.PathLaws.{one_name}
 use Rattle.raft_log_engine_laws.specs.raft_log_active_file.specs.Paths.{IsOwnPath, IsPathWith}
 use Rattle.raft_log_engine_laws.specs.raft_log_active_file.specs.declared.record.LogRecord.{LogRecord}

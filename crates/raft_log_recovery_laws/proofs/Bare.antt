@@ -19,7 +19,7 @@ use Rattle.raft_log_fs.specs.Image.{IsSound}
 use Rattle.raft_log_fs.proofs.KeptLaws.{kept_directory, IsCalm}
 use Rattle.raft_log_active_file.specs.Beginning.{IsFresh}
 use Rattle.raft_log_file_format.specs.Name.{suffix_of}
-use Rattle.raft_log_engine_laws.specs.raft_log_active_file.specs.LayoutLayout.{log_format}
+use Rattle.raft_log_engine_laws.specs.raft_log_active_file.specs.QueueFiles.{log_format}
 use Rattle.raft_log_engine_laws.specs.raft_log_active_file.specs.Paths.{IsOwnPath, IsPathWith}
 use Rattle.raft_log_machine_laws.specs.Fresh.{nothing_stands}
 use Rattle.raft_log_file_settings.specs.Sanitized.{Clash, IsFileIn, HasNoFault as IsSoundSettings}

@@ -9,7 +9,7 @@ use Rattle.raft_log_file_writer.specs.LogQueue.{IsAbsent}
 use Rattle.raft_log_fs.specs.declared.handle.Permission.{Permission}
 use Rattle.raft_log_fs.specs.declared.handle.Permission.TheVariants.{ReadWrite}
 use Rattle.raft_log_file_format.specs.Name.{IsNamed, suffix_of}
-use Rattle.raft_log_engine_laws.specs.raft_log_active_file.specs.LayoutLayout.{log_format}
+use Rattle.raft_log_engine_laws.specs.raft_log_active_file.specs.QueueFiles.{log_format}
 use Rattle.raft_log_engine_laws.specs.raft_log_active_file.specs.Paths.{IsPathWith}
 use Rattle.raft_log_file_pipe.specs.Files.{Listed}
 use Rattle.raft_log_file_pipe.specs.Opening.{first_number}

@@ -15,8 +15,8 @@ use Rattle.raft_log_file_writer.specs.LogQueue.{IsAbsent, IsThere}
 use Rattle.raft_log_active_file.specs.Layout.{place_of}
 use Rattle.raft_log_active_file.specs.Standing.{IsPlace}
 use Rattle.raft_log_file_format.specs.Name.{IsNamed, suffix_of}
-use Rattle.raft_log_engine_laws.specs.raft_log_active_file.specs.LayoutLayout.{log_format}
-use Rattle.raft_log_engine_laws.specs.raft_log_active_file.specs.LayoutLayoutLaws.{queues_are_apart}
+use Rattle.raft_log_engine_laws.specs.raft_log_active_file.specs.QueueFiles.{log_format}
+use Rattle.raft_log_engine_laws.specs.raft_log_active_file.specs.QueueFilesLaws.{queues_are_apart}
 use Rattle.raft_log_engine_laws.specs.raft_log_active_file.specs.PathLaws.{numbered_is, one_number}
 use Rattle.raft_log_engine_laws.specs.raft_log_active_file.specs.Paths.{IsPathWith}
 use Rattle.raft_log_file_settings.specs.Sanitized.{IsFileName}

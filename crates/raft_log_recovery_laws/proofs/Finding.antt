@@ -15,7 +15,7 @@ use Rattle.raft_log_file_settings.specs.declared.recovery_mode.RecoveryMode.{Rec
 use Rattle.raft_log_active_file.specs.Standing.{Names}
 use Rattle.raft_log_active_file.specs.Layout.{path_of}
 use Rattle.raft_log_active_file.specs.declared.format.File.{File}
-use Rattle.raft_log_engine_laws.specs.raft_log_active_file.specs.LayoutLayout.{log_paths}
+use Rattle.raft_log_engine_laws.specs.raft_log_active_file.specs.QueueFiles.{log_paths}
 use Rattle.raft_log_engine_laws.specs.raft_log_active_file.specs.declared.record.LogRecord.{LogRecord}
 use Rattle.raft_log_file_pipe.specs.Files.{IsSpan}
 use Rattle.raft_log_file_pipe.specs.Opening.{first_number}

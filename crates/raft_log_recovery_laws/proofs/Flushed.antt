@@ -11,8 +11,8 @@ use Rattle.raft_log_file_writer.specs.LogFormat.{CanTellFormat, Format, IsFormat
 use Rattle.raft_log_file_writer.specs.LogQueue.{HeaderStands, HoldsLast, LogFiles, recent}
 use Rattle.raft_log_file_writer.proofs.LawsChainLaws.{frames_back, reads_some}
 use Rattle.raft_log_file_writer.proofs.KeepsSyncedLaws.{at_least_keeps, holds_more, holds_read, left_keeps_part}
-use Rattle.raft_log_engine_laws.specs.raft_log_active_file.specs.LayoutLayout.{log_format}
-use Rattle.raft_log_engine_laws.specs.raft_log_active_file.specs.LayoutLayoutLaws.{files_are_told, is_layout}
+use Rattle.raft_log_engine_laws.specs.raft_log_active_file.specs.QueueFiles.{log_format}
+use Rattle.raft_log_engine_laws.specs.raft_log_active_file.specs.QueueFilesLaws.{files_are_told, is_layout}
 use Rattle.raft_log_recovery_laws.specs.InPlace.{SyncedFilesHoldStill}
 
 module _ {R : Type 0} (F : Format R) (lawful : IsFormat F) (tell : CanTellFormat F) (q : LogFiles R) (file : File) (sound : IsSoundFile file) (chance : NoChanceInFile F q.last q.header q.stale (spelled (recent q)) file file.content) where

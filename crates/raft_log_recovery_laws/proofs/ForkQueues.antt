@@ -10,7 +10,7 @@ use Rattle.raft_log_file_writer.specs.LawsChains.{Written}
 use Rattle.raft_log_fs.proofs.TouchingLaws.{same_file}
 use Rattle.raft_log_active_file.specs.Bridge.{IsFileQueue}
 use Rattle.raft_log_active_file.specs.Standing.{Names}
-use Rattle.raft_log_engine_laws.specs.raft_log_active_file.specs.LayoutLayout.{log_format}
+use Rattle.raft_log_engine_laws.specs.raft_log_active_file.specs.QueueFiles.{log_format}
 use Rattle.raft_log_engine_laws.specs.raft_log_active_file.specs.declared.record.LogRecord.{LogRecord}
 use Rattle.raft_log_dual_pipes.specs.Own.{log_layout}
 use Rattle.raft_log_dual_pipes.specs.State.{AreThere, IsStopped, Spanned}

@@ -3,7 +3,7 @@ use Rattle.std.proofs.Common.{◌≡◌, List, ℕ, sym, ap, subst, ◌∙◌}
 use Rattle.raft_log_file_format.specs.Header.{header_bytes}
 use Rattle.raft_log_file_format.specs.declared.header.LogFileFormat.{LogFileFormat}
 use Rattle.raft_log_file_writer.specs.LogFormat.{HasHeader}
-use Rattle.raft_log_engine_laws.specs.raft_log_active_file.specs.LayoutLayout.{log_format}
+use Rattle.raft_log_engine_laws.specs.raft_log_active_file.specs.QueueFiles.{log_format}
 use Rattle.raft_log_recovery_read.specs.Reading.ReadsBytes.{headless, headed, torn}
 use Rattle.raft_log_recovery_laws.specs.FileReading.{HeaderIsWritten}
 

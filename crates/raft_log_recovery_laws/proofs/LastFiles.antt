@@ -17,7 +17,7 @@ use Rattle.raft_log_active_file.specs.Layout.{IsUnaligned}
 use Rattle.raft_log_file_reader.specs.Opening.{SaysFormat}
 use Rattle.raft_log_record_base.proofs.Grammar.{prefix_free}
 use Rattle.raft_log_active_file.specs.Reopening.{IsReadTo}
-use Rattle.raft_log_engine_laws.specs.raft_log_active_file.specs.LayoutLayout.{IsRecordIn, log_format}
+use Rattle.raft_log_engine_laws.specs.raft_log_active_file.specs.QueueFiles.{IsRecordIn, log_format}
 use Rattle.raft_log_engine_laws.specs.raft_log_active_file.specs.declared.record.LogRecord.{LogRecord}
 use Rattle.raft_log_file_reader.specs.Batches.{context_of}
 use Rattle.raft_log_file_reader.specs.declared.open_file.OpenFile.{OpenFile}

@@ -16,7 +16,7 @@ use Rattle.raft_log_fs.specs.Disk.{Disk, File}
 use Rattle.raft_log_fs.specs.Image.{IsSound}
 use Rattle.raft_log_fs.proofs.KeptLaws.{kept_directory, IsCalm}
 use Rattle.raft_log_file_format.specs.Name.{suffix_of}
-use Rattle.raft_log_engine_laws.specs.raft_log_active_file.specs.LayoutLayout.{log_format}
+use Rattle.raft_log_engine_laws.specs.raft_log_active_file.specs.QueueFiles.{log_format}
 use Rattle.raft_log_engine_laws.specs.raft_log_active_file.specs.PathLaws.{one_name}
 use Rattle.raft_log_engine_laws.specs.raft_log_active_file.specs.Paths.{IsPathWith}
 use Rattle.raft_log_file_settings.specs.Settings.{settings_of, directories_of}

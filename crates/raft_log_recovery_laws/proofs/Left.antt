@@ -4,7 +4,7 @@ use Rattle.std.proofs.Math.Seq.{take-append-add}
 use Rattle.raft_log_model_laws.specs.Groups.{taken}
 use Rattle.raft_log_record_base.specs.declared.pipe_log.LogQueue.TheVariants.{Append, Rewrite}
 use Rattle.raft_log_machine_laws.proofs.Follows.{taken_twice}
-use Rattle.raft_log_engine_laws.specs.raft_log_active_file.specs.LayoutLayoutLaws.{files_are_told, is_layout, queues_are_apart}
+use Rattle.raft_log_engine_laws.specs.raft_log_active_file.specs.QueueFilesLaws.{files_are_told, is_layout, queues_are_apart}
 use Rattle.raft_log_dual_pipes.specs.Queues.{AreTwoQueues}
 use Rattle.raft_log_dual_pipes.specs.OpenOrClosed.{none_open}
 use Rattle.raft_log_dual_pipes.specs.OnDisk.{IsDurableAs}

@@ -2,7 +2,7 @@
 use Rattle.std.proofs.Common.{◌≡◌, ℕ, List}
 use Rattle.raft_log_record_base.specs.declared.pipe_log.LogQueue.TheVariants.{Append}
 use Rattle.raft_log_fs.specs.Disk.{Disk}
-use Rattle.raft_log_engine_laws.specs.raft_log_active_file.specs.LayoutLayout.{log_format, log_paths}
+use Rattle.raft_log_engine_laws.specs.raft_log_active_file.specs.QueueFiles.{log_format, log_paths}
 use Rattle.raft_log_file_pipe.specs.Files.{AllKept}
 use Rattle.raft_log_replay_context.specs.declared.context.MemTableRecoverContext.{MemTableRecoverContext}
 use Rattle.raft_log_dual_pipes.specs.Pipes.{State}

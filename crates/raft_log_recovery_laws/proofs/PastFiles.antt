@@ -12,7 +12,7 @@ use Rattle.raft_log_file_format.specs.declared.header.LogFileFormat.{LogFileForm
 use Rattle.raft_log_file_format.proofs.Headers.{is_header}
 use Rattle.raft_log_fs.specs.Disk.{File}
 use Rattle.raft_log_file_writer.specs.LawsChains.{Written, AreFrames, spelled}
-use Rattle.raft_log_engine_laws.specs.raft_log_active_file.specs.LayoutLayout.{IsRecordIn}
+use Rattle.raft_log_engine_laws.specs.raft_log_active_file.specs.QueueFiles.{IsRecordIn}
 use Rattle.raft_log_engine_laws.specs.raft_log_active_file.specs.declared.record.LogRecord.{LogRecord}
 use Rattle.raft_log_file_reader.specs.Batches.{HasBatch, HasBatches, context_of}
 use Rattle.raft_log_file_reader.specs.Laws.{EndsBehind}

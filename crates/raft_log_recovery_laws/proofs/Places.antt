@@ -17,7 +17,7 @@ use Rattle.raft_log_record_frames.proofs.Blocks.{block_found}
 use Rattle.raft_log_record_frames.proofs.Frames.{frames_take_bytes}
 use Rattle.raft_log_record_frames.proofs.Fronts.{frame_is_read, frames_are_read_back, records_are_read_back}
 use Rattle.raft_log_file_writer.specs.LawsChains.{Written, Refuses}
-use Rattle.raft_log_engine_laws.specs.raft_log_active_file.specs.LayoutLayout.{IsRecordIn}
+use Rattle.raft_log_engine_laws.specs.raft_log_active_file.specs.QueueFiles.{IsRecordIn}
 use Rattle.raft_log_engine_laws.specs.raft_log_active_file.specs.declared.record.LogRecord.{LogRecord}
 use Rattle.raft_log_file_reader.specs.Batches.{padding_len, GoesOnAt, HasBatch, HasNoMore, batch_at, block_at, context_of}
 use Rattle.raft_log_file_reader.specs.Batches.GoesOnAt.{behind_padding, at_once}

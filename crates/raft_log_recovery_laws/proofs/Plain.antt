@@ -26,7 +26,7 @@ use Rattle.raft_log_active_file.specs.Layout.{IsUnaligned, path_of}
 use Rattle.raft_log_active_file.specs.declared.format.File.{File}
 use Rattle.raft_log_file_pipe.specs.Files.{IsSpan}
 use Rattle.raft_log_file_pipe.proofs.Lists.{span_end}
-use Rattle.raft_log_engine_laws.specs.raft_log_active_file.specs.LayoutLayout.{IsAlignedFile, log_format, log_paths}
+use Rattle.raft_log_engine_laws.specs.raft_log_active_file.specs.QueueFiles.{IsAlignedFile, log_format, log_paths}
 use Rattle.raft_log_engine_laws.specs.raft_log_active_file.specs.declared.record.LogRecord.{LogRecord}
 use Rattle.raft_log_recovery_scan.specs.declared.recovery_config.RecoveryConfig.{RecoveryConfig}
 use Rattle.raft_log_replay_context.specs.declared.context.MemTableRecoverContext.{MemTableRecoverContext}

@@ -18,8 +18,8 @@ use Rattle.raft_log_file_format.proofs.Headers.{header_length}
 use Rattle.raft_log_file_settings.specs.declared.recovery_mode.RecoveryMode.{RecoveryMode}
 use Rattle.raft_log_active_file.specs.Layout.{path_of}
 use Rattle.raft_log_active_file.specs.declared.format.File.{File}
-use Rattle.raft_log_engine_laws.specs.raft_log_active_file.specs.LayoutLayout.{log_format, log_paths}
-use Rattle.raft_log_engine_laws.specs.raft_log_active_file.specs.LayoutLayoutLaws.{is_layout}
+use Rattle.raft_log_engine_laws.specs.raft_log_active_file.specs.QueueFiles.{log_format, log_paths}
+use Rattle.raft_log_engine_laws.specs.raft_log_active_file.specs.QueueFilesLaws.{is_layout}
 use Rattle.raft_log_engine_laws.specs.raft_log_active_file.specs.declared.record.LogRecord.{LogRecord}
 use Rattle.raft_log_file_pipe.specs.Files.{IsSpan}
 use Rattle.raft_log_file_pipe.specs.Opening.{first_number}

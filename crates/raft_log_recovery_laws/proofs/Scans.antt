@@ -3,7 +3,7 @@ use Rattle.std.proofs.Common.{◌≡◌, ℕ, List, [], ◌∷◌, Option, Some,
 use Rattle.raft_log_record_base.specs.declared.pipe_log.FileId.{FileId}
 use Rattle.raft_log_fs.specs.Disk.{Disk, File}
 use Rattle.raft_log_file_format.specs.declared.header.LogFileFormat.{LogFileFormat}
-use Rattle.raft_log_engine_laws.specs.raft_log_active_file.specs.LayoutLayout.{log_format, log_paths}
+use Rattle.raft_log_engine_laws.specs.raft_log_active_file.specs.QueueFiles.{log_format, log_paths}
 use Rattle.raft_log_file_pipe.specs.Files.{Listed, AllKept, IsSpan}
 use Rattle.raft_log_file_pipe.specs.Opening.{HasOwnHeader, first_number}
 use Rattle.raft_log_file_reader.specs.Source.{bytes_in}

@@ -8,7 +8,7 @@ use Rattle.raft_log_fs.specs.Disk.{Disk}
 use Rattle.raft_log_fs.specs.Reading.{IsOpened}
 use Rattle.raft_log_fs.specs.declared.handle.Permission.{Permission}
 use Rattle.raft_log_fs.specs.declared.handle.Permission.TheVariants.{ReadWrite}
-use Rattle.raft_log_engine_laws.specs.raft_log_active_file.specs.LayoutLayout.{log_paths}
+use Rattle.raft_log_engine_laws.specs.raft_log_active_file.specs.QueueFiles.{log_paths}
 use Rattle.raft_log_active_file.specs.Layout.{path_of}
 use Rattle.raft_log_file_pipe.specs.Files.{Listed, IsSpan}
 use Rattle.raft_log_file_pipe.specs.Opening.{first_number}

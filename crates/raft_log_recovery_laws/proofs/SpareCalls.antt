@@ -12,7 +12,7 @@ use Rattle.raft_log_fs.proofs.Updates.{name_apart, name_here}
 use Rattle.raft_log_active_file.specs.Standing.{Names}
 use Rattle.raft_log_active_file.specs.Layout.{path_of}
 use Rattle.raft_log_active_file.specs.declared.format.File.{File}
-use Rattle.raft_log_engine_laws.specs.raft_log_active_file.specs.LayoutLayout.{log_paths}
+use Rattle.raft_log_engine_laws.specs.raft_log_active_file.specs.QueueFiles.{log_paths}
 use Rattle.raft_log_recovery_read.specs.declared.file_ending.FileEnding.{FileEnding}
 use Rattle.raft_log_recovery.specs.Cutting.{CutsEach, CutsIf}
 use Rattle.raft_log_recovery.specs.Syncing.{SyncsEach}

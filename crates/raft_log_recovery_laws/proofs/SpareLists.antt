@@ -7,7 +7,7 @@ use Rattle.raft_log_fs.specs.Disk.{Disk}
 use Rattle.raft_log_fs.specs.Touching.{HasFile}
 use Rattle.raft_log_active_file.specs.Layout.{path_of}
 use Rattle.raft_log_active_file.specs.declared.format.File.{File}
-use Rattle.raft_log_engine_laws.specs.raft_log_active_file.specs.LayoutLayout.{log_format, log_paths}
+use Rattle.raft_log_engine_laws.specs.raft_log_active_file.specs.QueueFiles.{log_format, log_paths}
 use Rattle.raft_log_engine_laws.specs.raft_log_active_file.specs.Paths.{IsPathWith, reserved_suffix_of}
 use Rattle.raft_log_engine_laws.specs.raft_log_active_file.specs.PathLaws.{one_number, reserved_is}
 use Rattle.raft_log_file_pipe.specs.Files.{AllKept, CanBeUsed, NoneHas}

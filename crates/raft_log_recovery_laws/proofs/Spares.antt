@@ -11,7 +11,7 @@ use Rattle.raft_log_file_settings.specs.declared.config.Config.{Config}
 use Rattle.raft_log_active_file.specs.Layout.{path_of, place_of}
 use Rattle.raft_log_active_file.specs.declared.format.File.{File}
 use Rattle.raft_log_file_format.specs.Name.{number_text, suffix_of}
-use Rattle.raft_log_engine_laws.specs.raft_log_active_file.specs.LayoutLayout.{log_format, log_paths}
+use Rattle.raft_log_engine_laws.specs.raft_log_active_file.specs.QueueFiles.{log_format, log_paths}
 use Rattle.raft_log_engine_laws.specs.raft_log_active_file.specs.Paths.{numbered_path}
 use Rattle.raft_log_file_pipe.specs.Files.{AllKept}
 use Rattle.raft_log_file_pipe.proofs.Lists.{path_reserved}

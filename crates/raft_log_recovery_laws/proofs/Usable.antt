@@ -11,7 +11,7 @@ use Rattle.raft_log_active_file.specs.declared.format.File as listed
 use Rattle.raft_log_active_file.specs.Queue.{begun}
 use Rattle.raft_log_active_file.specs.States.{IsNew}
 use Rattle.raft_log_active_file.proofs.FileSteps.{new_over}
-use Rattle.raft_log_engine_laws.specs.raft_log_active_file.specs.LayoutLayout.{log_format}
+use Rattle.raft_log_engine_laws.specs.raft_log_active_file.specs.QueueFiles.{log_format}
 use Rattle.raft_log_file_pipe.specs.Files.{CanBeUsed}
 use Rattle.raft_log_recovery.specs.Syncing.{SyncsEach}
 use Rattle.raft_log_engine_laws.specs.raft_log_block_cache.specs.Stored.{Each}

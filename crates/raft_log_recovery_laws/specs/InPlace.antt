@@ -11,7 +11,7 @@ use Rattle.raft_log_fs.specs.Disk.{File, Disk}
 use Rattle.raft_log_file_writer.specs.LawsChains.{spelled}
 use Rattle.raft_log_file_writer.specs.LogFormat.{NoChanceInFile}
 use Rattle.raft_log_file_writer.specs.LogQueue.{HoldsLast, LogFiles, recent}
-use Rattle.raft_log_engine_laws.specs.raft_log_active_file.specs.LayoutLayout.{log_format}
+use Rattle.raft_log_engine_laws.specs.raft_log_active_file.specs.QueueFiles.{log_format}
 use Rattle.raft_log_engine_laws.specs.raft_log_active_file.specs.declared.record.LogRecord.{LogRecord}
 use Rattle.raft_log_fs.specs.Image.{as_it_stands, IsSound, IsSoundFile}
 use Rattle.raft_log_file_settings.specs.declared.config.Config.{Config}

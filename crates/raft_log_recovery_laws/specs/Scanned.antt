@@ -8,7 +8,7 @@ use Rattle.raft_log_fs.specs.Reading.{IsOpened}
 use Rattle.raft_log_fs.specs.declared.handle.Permission.TheVariants.{ReadWrite}
 use Rattle.raft_log_file_format.specs.declared.header.LogFileFormat.{LogFileFormat}
 use Rattle.raft_log_file_settings.specs.declared.recovery_mode.RecoveryMode.{RecoveryMode}
-use Rattle.raft_log_engine_laws.specs.raft_log_active_file.specs.LayoutLayout.{log_format, log_paths}
+use Rattle.raft_log_engine_laws.specs.raft_log_active_file.specs.QueueFiles.{log_format, log_paths}
 use Rattle.raft_log_active_file.specs.Layout.{path_of}
 use Rattle.raft_log_file_pipe.specs.Files.{Listed, AllKept, IsSpan}
 use Rattle.raft_log_file_pipe.specs.Laws as pipes

@@ -8,7 +8,7 @@ use Rattle.raft_log_file_writer.specs.KeepsSynced.{IsHandedIn}
 use Rattle.raft_log_file_writer.specs.LogFormat.{Format}
 use Rattle.raft_log_file_pipe.specs.declared.pipe_files.PipeFiles.{PipeFiles}
 use Rattle.raft_voter_durability_laws.specs.raft_log_engine_laws.specs.raft_log_active_file.specs.declared.record.LogRecord.{LogRecord}
-use Rattle.raft_voter_durability_laws.specs.raft_log_engine_laws.specs.raft_log_active_file.specs.LayoutLayout.{log_format}
+use Rattle.raft_voter_durability_laws.specs.raft_log_engine_laws.specs.raft_log_active_file.specs.QueueFiles.{log_format}
 use Rattle.raft_log_record_base.specs.declared.pipe_log.LogQueue.{LogQueue}
 use Rattle.raft_voter_durability_laws.specs.raft_log_engine_laws.specs.raft_log_dual_pipes.specs.Pipes.{LogPipes, LogRecordValue}
 use Rattle.raft_voter_durability_laws.specs.raft_log_engine_laws.specs.Holding.{Represents}

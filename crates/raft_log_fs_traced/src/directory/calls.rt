@@ -81,6 +81,9 @@ impl<D: Device> FileSystem for DirectoryFileSystem<D> {
 
     fn write_at(&mut self, handle: Handle, offset: usize, bytes: &[u8]) -> Result<(), ErrorKind> {
         self.check_writer(handle)?;
+        if self.is_past_end(handle.file, offset, bytes.len()) {
+            return self.extend(handle, offset, bytes);
+        }
         if let Err(kind) = self.storage.write(handle.file, offset, bytes, u64::MAX) {
             return Err(self.fail(kind));
         }
@@ -102,11 +105,7 @@ impl<D: Device> FileSystem for DirectoryFileSystem<D> {
         let Some(end) = offset.checked_add(size) else {
             return Err(self.fail(ErrorKind::StorageFull));
         };
-        if let Err(kind) = self.storage.grow(handle.file, offset, size, u64::MAX) {
-            return Err(self.fail(kind));
-        }
-        let made = self.device.grow(handle.file, end);
-        stopping(&mut self.stopped, made)
+        self.grow(handle, end)
     }
 
     fn sync(&mut self, handle: Handle) -> Result<(), ErrorKind> {

@@ -83,13 +83,13 @@ impl<D: Device> DirectoryFileSystem<D> {
 }
 
 /// Ends a device call: if it failed, the file system stops, and the error isn't out of memory.
-pub(super) fn stopping(stopped: &mut bool, made: Result<(), ErrorKind>) -> Result<(), ErrorKind>
+pub(super) fn stopping<T>(stopped: &mut bool, made: Result<T, ErrorKind>) -> Result<T, ErrorKind>
     ensures told { IsToldOf made result }
     ensures ok { OnOk made (stopped.new ≡ stopped.old) }
     ensures err { OnErr made (stopped.new ≡ true) }
 {
     match made {
-        Ok(()) => Ok(()),
+        Ok(value) => Ok(value),
         Err(kind) => {
             *stopped = true;
             Err(told_at_stop(kind))

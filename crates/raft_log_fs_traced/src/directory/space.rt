@@ -1,17 +1,26 @@
-//! Space that is set for directories.
+//! The space of directories: what is set for it, and what is learned when a file finds none.
 use super::DirectoryFileSystem;
 use crate::device::Device;
+use raft_log_fs_state::Node;
 use raft_log_fs_state::storage::child;
 use std::alloc::AllocError;
+
+/// The directory of a path, if it names this file.
+fn directory_if(path: &str, node: Node, file: usize) -> Option<&str> {
+    match node {
+        Node::File(id) if id == file => path.rfind('/').map(|at| &path[..at]),
+        _ => None,
+    }
+}
 
 impl<D: Device> DirectoryFileSystem<D> {
     ghost use Rattle.std.specs.Prelude.{◌≡◌, ℕ, ◌-◌, Some, OnOk, OnErr};
     ghost use Rattle.std.specs.Map.{update};
     ghost use Rattle.std.specs.Str.{bytes_eq};
     ghost use Rattle.raft_log_fs_state.specs.Storage.{contents_of};
-    ghost use Rattle.raft_log_fs_memory.specs.Space.{size_at, HasUsed};
+    ghost use Rattle.raft_log_fs_memory.specs.Space.{size_at, HasUsed, IsFree};
     ghost use Rattle.raft_log_fs_traced.specs.Directory.{disk_of};
-    ghost use Rattle.raft_log_fs_traced.specs.Space.{spaces_of, TellsFree};
+    ghost use Rattle.raft_log_fs_traced.specs.Space.{spaces_of, full_of, TellsFree};
 
     /// Sets how many bytes the files of a directory may have in all, replacing an earlier number. `free_space` returns
     /// what is left of it; no call fails because of it. Fails only if memory runs out.
@@ -28,14 +37,57 @@ impl<D: Device> DirectoryFileSystem<D> {
         }
     }
 
-    /// By how many bytes a directory's files may still grow; 2^64 - 1 if no space is set for it.
+    /// By how many bytes a directory's files may still grow: what they leave of the space that is set for it, or of what
+    /// they had when one of them found no space, if that is less; 2^64 - 1 if neither is known.
     pub(super) fn free_in(&self, directory: &str) -> u64
         ensures { TellsFree D.Device self.now directory.now result }
+    {
+        self.free_of_set(directory)
+            .min(self.free_of_found(directory))
+    }
+
+    /// What a directory's files leave of the space that is set for it; 2^64 - 1 if none is set.
+    fn free_of_set(&self, directory: &str) -> u64
+        ensures { IsFree (spaces_of D.Device self.now) directory.now (contents_of self.now.storage) result }
     {
         match self.spaces.get(directory) {
             Some(space) => self.space_left(directory, *space),
             None => u64::MAX,
         }
+    }
+
+    /// What a directory's files leave of the bytes that they had when one of them found no space; 2^64 - 1 if none did.
+    fn free_of_found(&self, directory: &str) -> u64
+        ensures { IsFree (full_of D.Device self.now) directory.now (contents_of self.now.storage) result }
+    {
+        match self.full.get(directory) {
+            Some(space) => self.space_left(directory, *space),
+            None => u64::MAX,
+        }
+    }
+
+    /// Notes that a file found no space: from now on, its directory has as much as its files have. If memory runs out,
+    /// nothing is noted.
+    pub(super) fn note_full(&mut self, file: usize)
+        ensures same { disk_of D.Device self.new ≡ disk_of D.Device self.old }
+        ensures set { spaces_of D.Device self.new ≡ spaces_of D.Device self.old }
+        ensures model { contents_of self.new.storage ≡ contents_of self.old.storage }
+    {
+        let Some(directory) = self.directory_of(file) else {
+            return;
+        };
+        let left = self.space_left(directory.as_str(), u64::MAX);
+        let _noted = self.full.insert(directory, u64::MAX - left).is_ok();
+    }
+
+    /// The directory of a file; nothing if it has no name, or if memory runs out.
+    fn directory_of(&self, file: usize) -> Option<String> {
+        for (path, node) in self.storage.paths.iter() {
+            if let Some(directory) = directory_if(path, *node, file) {
+                return String::from_str(self.storage.alloc, directory).ok();
+            }
+        }
+        None
     }
 
     /// How many bytes a directory's files leave of its space.

@@ -1,4 +1,4 @@
-use Rattle.raft_log_active_file.specs.LayoutLayoutLaws.{files_are_told}
+use Rattle.raft_log_active_file.specs.QueueFilesLaws.{files_are_told}
 use Rattle.raft_log_active_file.proofs.layout_laws.log_files_are_told.Goals as goal
 
 pub returns : goal.returns

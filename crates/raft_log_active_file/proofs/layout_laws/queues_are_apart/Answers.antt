@@ -1,4 +1,4 @@
-use Rattle.raft_log_active_file.specs.LayoutLayoutLaws.{queues_are_apart}
+use Rattle.raft_log_active_file.specs.QueueFilesLaws.{queues_are_apart}
 use Rattle.raft_log_active_file.proofs.layout_laws.queues_are_apart.Goals as goal
 
 pub returns : goal.returns

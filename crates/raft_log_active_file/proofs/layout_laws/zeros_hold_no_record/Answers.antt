@@ -1,4 +1,4 @@
-use Rattle.raft_log_active_file.specs.LayoutLayoutLaws.{zeros_hold_none}
+use Rattle.raft_log_active_file.specs.QueueFilesLaws.{zeros_hold_none}
 use Rattle.raft_log_active_file.proofs.layout_laws.zeros_hold_no_record.Goals as goal
 
 pub returns : goal.returns

@@ -1,5 +1,5 @@
 use Rattle.raft_log_record_base.specs.declared.pipe_log.LogQueue.TheVariants.{Append, Rewrite}
-use Rattle.raft_log_active_file.specs.LayoutLayoutLaws.{files_are_told, is_layout, queues_are_apart}
+use Rattle.raft_log_active_file.specs.QueueFilesLaws.{files_are_told, is_layout, queues_are_apart}
 use Rattle.raft_log_dual_pipes.proofs.own.log_has_two_queues.Goals as goal
 
 pub returns : goal.returns

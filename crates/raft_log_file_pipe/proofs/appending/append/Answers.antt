@@ -1,10 +1,13 @@
-use Rattle.std.proofs.Common.{◌≡◌, ℕ, List, length, ◌∙◌, ap, subst}
+use Rattle.std.proofs.Common.{◌≡◌, ℕ, List, length, ◌∙◌, ap, subst, sym}
+use Rattle.std.specs.declared.io.ErrorKind.TheVariants.{StorageFull}
+use Rattle.raft_log_active_file.specs.declared.last_file.WriteFault.TheVariants.{CutBack}
+use Rattle.raft_log_file_pipe.specs.declared.pipe_files.PipeFiles.{PipeFiles}
 use Rattle.raft_log_file_writer.specs.Writer.{WritesNext}
 use Rattle.raft_log_active_file.specs.Exits.{AppendMakes}
 use Rattle.raft_log_active_file.specs.declared.last_file.WriteFault.{WriteFault}
 use Rattle.raft_log_file_pipe.specs.Appending.{AppendsAt, context_of}
 use Rattle.raft_log_file_pipe.specs.Appending.AppendFails.{not_written}
-use Rattle.raft_log_file_pipe.specs.Exits.{Adds, FailsToAdd}
+use Rattle.raft_log_file_pipe.specs.Exits.{Adds, FailsToAdd, SameLists}
 use Rattle.raft_log_file_pipe.proofs.Contexts.{id_is, context_is}
 use Rattle.raft_log_file_pipe.specs.Doing.{AppendsBy}
 use Rattle.raft_log_file_pipe.specs.Doing.FailsToAppendBy.{not_written as not_written_by}
@@ -58,6 +61,25 @@ returns-in-Err-clause-elsewhere g c again =
           (subst (λ (bytes : List ℕ). FailsToAdd (g.G.PipeFormat.format c.args.layout.now) (g.G.PipeFormat.own c.args.layout.now) (g.G.PipeFormat.file_paths c.args.layout.now) bytes c.in-Err.fault c.rotate_if_full.new.files c.add.new.files (D c.rotate_if_full.new.file_system) (D c.add.new.file_system)) is c.in-Err.ensures.err);
       lists = c.add.ensures.lists;
       goes = goes;
+    }
+
+pub returns-in-Err-clause-full : goal.returns-in-Err-clause-full
+returns-in-Err-clause-full g c is_full =
+    let D = g.F.FileSystem.disk in
+    let signed = g.B.ReactiveBytes.signed c.args.bytes.now in
+    let context : c.new.result ≡ context_of c.args.queue c.rotate_if_full.new.files = context_is c.args.queue c.rotate_if_full.new.files c.new-id.result c.new.result c.new-id.ensures.queue c.new-id.ensures.seq c.new.ensures.id c.new.ensures.version in
+    let is : c.as_bytes-record.result.now ≡ signed (context_of c.args.queue c.rotate_if_full.new.files) = c.as_bytes-record.ensures ∙ c.sign.ensures.bytes ∙ ap signed context in
+    let (short, full, files, system) = c.report_write_fault.ensures.full is_full in
+    record {
+      middle = c.rotate_if_full.new.files;
+      between = D c.rotate_if_full.new.file_system;
+      first = c.in_ok-rotate_if_full.ensures.ok;
+      fails = subst (λ (f : PipeFiles). FailsToAdd (g.G.PipeFormat.format c.args.layout.now) (g.G.PipeFormat.own c.args.layout.now) (g.G.PipeFormat.file_paths c.args.layout.now) (signed (context_of c.args.queue c.rotate_if_full.new.files)) (CutBack StorageFull) c.rotate_if_full.new.files f (D c.rotate_if_full.new.file_system) (D c.report_write_fault.new.file_system)) (sym files)
+          (subst (λ (system : g.row.F.Denot). FailsToAdd (g.G.PipeFormat.format c.args.layout.now) (g.G.PipeFormat.own c.args.layout.now) (g.G.PipeFormat.file_paths c.args.layout.now) (signed (context_of c.args.queue c.rotate_if_full.new.files)) (CutBack StorageFull) c.rotate_if_full.new.files c.add.new.files (D c.rotate_if_full.new.file_system) (D system)) (sym system)
+          (subst (λ (fault : WriteFault). FailsToAdd (g.G.PipeFormat.format c.args.layout.now) (g.G.PipeFormat.own c.args.layout.now) (g.G.PipeFormat.file_paths c.args.layout.now) (signed (context_of c.args.queue c.rotate_if_full.new.files)) fault c.rotate_if_full.new.files c.add.new.files (D c.rotate_if_full.new.file_system) (D c.add.new.file_system)) short
+          (subst (λ (bytes : List ℕ). FailsToAdd (g.G.PipeFormat.format c.args.layout.now) (g.G.PipeFormat.own c.args.layout.now) (g.G.PipeFormat.file_paths c.args.layout.now) bytes c.in-Err.fault c.rotate_if_full.new.files c.add.new.files (D c.rotate_if_full.new.file_system) (D c.add.new.file_system)) is c.in-Err.ensures.err)));
+      lists = subst (SameLists c.rotate_if_full.new.files) (sym files) c.add.ensures.lists;
+      full = full;
     }
 
 pub returns-in-Ok-clause-calls : goal.returns-in-Ok-clause-calls

@@ -1,0 +1,4 @@
+mod OneGroup
+mod FromGroups
+mod OfAccounts
+mod ReadBack

@@ -1,0 +1,5 @@
+use Rattle.raft_voter_group_laws.proofs.OneGroup as one
+use Rattle.raft_voter_group_laws.proofs.laws.each_group_has_one_voter.Goals as goal
+
+pub returns : goal.returns
+returns c = one.each_group_has_one_voter

@@ -53,6 +53,10 @@ class Room:
         """A run of the program."""
         return Running(self.subject.words(self.settings_path), root, watch)
 
+    def found_state(self, root, candidates):
+        """Opens what lies in a root, and closes it: the state that stands, which is one of those that may."""
+        return candidates[self.found(root, candidates)]
+
     def found(self, root, candidates):
         """Opens what lies in a root, and closes it: its place among the states that may stand there."""
         running = self.start(root)

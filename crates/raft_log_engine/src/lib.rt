@@ -19,8 +19,8 @@ pub use raft_log_offline::{
 pub use raft_log_record_base::{
     Error, FileBlockHandle, FileId, FileSeq, LogQueue, ReadableSize, Result, Version,
 };
-pub use raft_log_record_batches::LogBatch;
+pub use raft_log_record_batches::{BatchState, LogBatch};
 pub use raft_log_record_items::{
-    Command, EntryIndex, LogItem, LogItemContent, Message, MessageExt,
+    Command, CompressionType, EntryIndex, LogItem, LogItemContent, Message, MessageExt, OpType,
 };
 pub use raft_log_recovery::{DualPipesBuilder, DualPipesBuilder as FilePipeLogBuilder};

@@ -1,5 +1,6 @@
 """Calls each program rightly and wrongly, and checks its status, what it prints and where."""
 import os
+import shutil
 import subprocess
 import tempfile
 from collections import Counter
@@ -7,6 +8,9 @@ from collections import Counter
 LOW = {"low.toml": b'purge-threshold = "1MB"\n', "torn.toml": b"purge-threshold = \n"}
 USAGE = "usage: "
 VOTE = b"round\nvote 1 5 2 0 0\nend\n"
+FIRST = "0000000000000001.raftlog"
+SECOND = "0000000000000002.raftlog"
+OF_GROUP_2 = "append 1: group 2: put 0x00ff, 1 bytes\nappend 1: group 2: delete 0x00ff\n"
 FULL = "log/0000000000000001.raftlog: can't grow it: No space left on device"
 
 # The program, its arguments, its status, the stream that has the text, and the text with which it begins, or which is
@@ -28,6 +32,7 @@ CALLS = [
     ("raft_log_ctl", ["--help"], 0, "stdout", USAGE),
     ("raft_log_ctl", [], 2, "stderr", USAGE),
     ("raft_log_ctl", ["nonsense", "log"], 2, "stderr", USAGE),
+    ("raft_log_ctl", ["dump", "none", "--group", "7x"], 2, "stderr", '--group: "7x"'),
     ("raft_log_ctl", ["check", "none"], 3, "stderr", '"none"'),
     ("raft_log_ctl", ["fork", "low.toml", "copy"], 3, "stderr", '"low.toml"'),
 ]
@@ -76,3 +81,39 @@ class Asker:
         said = ran.stderr.decode()
         if ran.returncode != 1 or FULL not in said:
             self.wrong.append(f"raftnode on a full disk: status {ran.returncode}, {said!r}")
+
+    def ask_for_one_file(self):
+        """Dumps a file that was copied out of its log. Beside it is a link with a log file's name, which no log may have."""
+        path = os.path.realpath(f"{self.crates}/raft_log_ctl/out/raft_log_ctl")
+        if not os.path.isfile(path):
+            return
+        with tempfile.TemporaryDirectory() as root:
+            shutil.copy(f"{self.crates}/raft_log_ctl/data/log/{FIRST}", f"{root}/{FIRST}")
+            os.symlink("none", f"{root}/{SECOND}")
+            ran = subprocess.run([path, "dump", f"{root}/{FIRST}", "--group", "2"], capture_output=True, timeout=60)
+        self.counts["calls"] += 1
+        if ran.returncode or ran.stdout.decode() != OF_GROUP_2 or ran.stderr:
+            self.wrong.append(f"raft_log_ctl dump of one file: {ran}")
+
+    def ask_with_closed_pipe(self):
+        """Runs tasks whose output nobody reads: they print no message, and a task that finds damage says so by its status."""
+        path = os.path.realpath(f"{self.crates}/raft_log_ctl/out/raft_log_ctl")
+        if not os.path.isfile(path):
+            return
+        with tempfile.TemporaryDirectory() as root:
+            shutil.copy(f"{self.crates}/raft_log_ctl/data/log/{FIRST}", f"{root}/{FIRST}")
+            self.ask_unread(path, root, {"--help": 0, "dump": 0, "check": 0, "stat": 0})
+            shutil.copy(f"{root}/{FIRST}", f"{root}/{SECOND}")
+            self.ask_unread(path, root, {"dump": 0, "check": 1, "stat": 1})
+
+    def ask_unread(self, path, root, statuses):
+        """Runs tasks on a log, each into a pipe that is closed at the other end. Each has the status that is wanted."""
+        for task, status in statuses.items():
+            end, start = os.pipe()
+            os.close(end)
+            words = [path, task] if task == "--help" else [path, task, root]
+            ran = subprocess.run(words, stdout=start, stderr=subprocess.PIPE, timeout=60)
+            os.close(start)
+            self.counts["calls"] += 1
+            if ran.returncode != status or ran.stderr:
+                self.wrong.append(f"raft_log_ctl {task} into a closed pipe: {ran}")

@@ -1,4 +1,5 @@
 //! What the arguments request.
+use crate::pipe::is_closed;
 use raft_log_operator::{Command, Place, Task, USAGE, Unread};
 use std::env::Env;
 use std::{env, io};
@@ -29,6 +30,11 @@ pub fn read_arguments<R: Env + Print + Eprint + AllocGlobal>(rt: &R) -> Asked {
         Ok(Command::On(place, task)) => Asked::Task(place, task),
         Ok(Command::Help) => Asked::Done(told(rt.print(USAGE), DONE)),
         Err(Unread::Usage) => Asked::Done(told(rt.eprint(USAGE), WRONG_ARGUMENTS)),
+        Err(Unread::Group(word)) => {
+            let unread = Unread::Group(word);
+            let _told = eprintln!(rt; "raft_log_ctl: {unread}").is_ok();
+            Asked::Done(WRONG_ARGUMENTS)
+        }
         Err(Unread::Memory) => {
             let _told = eprintln!(rt; "raft_log_ctl: out of memory").is_ok();
             Asked::Done(REFUSED)
@@ -48,10 +54,10 @@ fn parsed<R: Env + AllocGlobal>(rt: &R) -> Result<Command, Unread> {
     }
 }
 
-/// The status after printing a text, which may have failed.
+/// The status after printing a text, which may have failed. A closed pipe is no failure.
 fn told(text: io::Result<()>, status: u8) -> u8 {
     match text {
         Ok(()) => status,
-        Err(_) => REFUSED,
+        Err(error) => if is_closed(&error) { status } else { REFUSED },
     }
 }

@@ -5,9 +5,14 @@
 //! - 1 if it was done and found a hole, a gap or a damaged file;
 //! - 2 for wrong arguments;
 //! - 3 if the task failed; standard error says why.
+//!
+//! If standard output is a pipe that its reader closes, a dump ends with status 0. Any other task drops the rest of its
+//! output, and ends with its usual status.
 #![tactic(auto)]
 
 mod asking;
+mod one_file;
+mod pipe;
 mod serving;
 
 use asking::{Asked, read_arguments};

@@ -1,6 +1,9 @@
 //! Runs a task on a log in real directories.
 use crate::asking::{DONE, FAULTY, REFUSED};
+use crate::one_file::read_one_file;
+use crate::pipe::{Pipe, is_closed};
 use log::Log;
+use raft_log_fs::FileSystem;
 use raft_log_fs_os::{
     DirectoryFault, DirectoryFileSystem, FileDevice, open_directories, open_directories_for_reading,
 };
@@ -48,6 +51,16 @@ impl From<io::Error> for Refusal {
     }
 }
 
+impl Refusal {
+    /// Whether the task failed because the reader of standard output closed it.
+    fn is_closed_pipe(&self) -> bool {
+        match self {
+            Refusal::Task(CommandFault::Output(error)) => is_closed(error),
+            _ => false,
+        }
+    }
+}
+
 /// Runs a task on the log in these directories, and returns the status; prints a failure to standard error. `quiet`
 /// starts the threads, and takes what is logged.
 pub fn serve<
@@ -58,53 +71,65 @@ pub fn serve<
         Ok(Outcome::Sound) => DONE,
         Ok(Outcome::Faulty) => FAULTY,
         Err(refusal) => {
+            if refusal.is_closed_pipe() {
+                return DONE;
+            }
             tell(rt, place, task, &refusal);
             REFUSED
         }
     }
 }
 
-/// Runs a task.
+/// Opens the directories of a log, or reads the one file of a dump, and runs a task.
 fn attempt<
     R: Files<File = File> + Threads + Print + Eprint + AllocGlobal + Clone + Sync + Drop,
     Q: Threads + Log + Sync,
 >(rt: &R, quiet: &Q, place: &Place, task: &Task) -> Result<Outcome, Refusal> {
     let task = task.trimmed(rt.alloc())?;
-    let (mut files, place) = open(rt, place.trimmed(rt.alloc())?, &task)?;
-    let mut out = BufWriter::new(rt.alloc(), io::writer(rt))?;
-    let outcome = run(quiet, rt.alloc(), &mut files, &place, &task, &mut out)?;
-    out.flush()?;
-    Ok(outcome)
-}
-
-/// Opens the directories of a log; for a dump of one file, the directory of that file. Returns the place with the paths
-/// that the opened files have.
-fn open<R: Files<File = File> + Threads + Eprint + AllocGlobal + Clone + Sync + Drop>(
-    rt: &R,
-    place: Place,
-    task: &Task,
-) -> Result<(DirectoryFileSystem<FileDevice<R>>, Place), Refusal> {
-    let spill = match &place.spill_directory {
-        Some(spill) => Some(spill.as_str()),
-        None => None,
-    };
-    let fault = match open_for(rt, place.directory.as_str(), spill, task) {
-        Ok(files) => return Ok((files, place)),
+    let place = place.trimmed(rt.alloc())?;
+    let fault = match open(rt, &place, &task) {
+        Ok(mut files) => return run_to_output(rt, quiet, &mut files, &place, &task),
         Err(fault) => fault,
     };
-    if *task == Task::Dump && is_file(&fault, place.directory.as_str()) {
-        return open_home(rt, &place);
+    if is_dump(&task) && is_file(&fault, place.directory.as_str()) {
+        let (mut files, file) = read_one_file(rt, &place)?;
+        return run_to_output(rt, quiet, &mut files, &file, &task);
     }
     Err(Refusal::Directory(fault))
 }
 
-/// Opens the directories of a log as a task needs them: only `unpad` writes to the log's files.
-fn open_for<R: Files<File = File> + Threads + Eprint + AllocGlobal + Clone + Sync + Drop>(
+/// Runs a task, and writes what it prints to standard output. If that is a pipe that its reader closes, a dump fails at
+/// once, since it may be long. Any other task goes on: its status has to be right.
+fn run_to_output<R: Print + AllocGlobal, Q: Threads + Log + Sync, F: FileSystem>(
     rt: &R,
-    directory: &str,
-    spill: Option<&str>,
+    quiet: &Q,
+    files: &mut F,
+    place: &Place,
+    task: &Task,
+) -> Result<Outcome, Refusal> {
+    let pipe = Pipe::new(io::writer(rt), !is_dump(task));
+    let mut out = BufWriter::new(rt.alloc(), pipe)?;
+    let outcome = run(quiet, rt.alloc(), files, place, task, &mut out)?;
+    out.flush()?;
+    Ok(outcome)
+}
+
+/// Whether a task is a dump.
+fn is_dump(task: &Task) -> bool {
+    matches!(task, Task::Dump(_))
+}
+
+/// Opens the directories of a log as a task needs them: only `unpad` writes to the log's files.
+fn open<R: Files<File = File> + Threads + Eprint + AllocGlobal + Clone + Sync + Drop>(
+    rt: &R,
+    place: &Place,
     task: &Task,
 ) -> Result<DirectoryFileSystem<FileDevice<R>>, DirectoryFault> {
+    let directory = place.directory.as_str();
+    let spill = match &place.spill_directory {
+        Some(spill) => Some(spill.as_str()),
+        None => None,
+    };
     match task {
         Task::Unpad => open_directories(rt, directory, spill),
         _ => open_directories_for_reading(rt, directory, spill),
@@ -117,20 +142,6 @@ fn is_file(fault: &DirectoryFault, asked: &str) -> bool {
         DirectoryFault::NoDirectory(path) => path.as_str() == asked,
         _ => false,
     }
-}
-
-/// Opens the directory of a file.
-fn open_home<R: Files<File = File> + Threads + Eprint + AllocGlobal + Clone + Sync + Drop>(
-    rt: &R,
-    place: &Place,
-) -> Result<(DirectoryFileSystem<FileDevice<R>>, Place), Refusal> {
-    let (home, path) = place.file_in(rt.alloc())?;
-    let files = open_directories_for_reading(rt, home.as_str(), None)?;
-    let file = Place {
-        directory: path,
-        spill_directory: None,
-    };
-    Ok((files, file))
 }
 
 /// Prints to standard error which task failed, and why.

@@ -1,5 +1,5 @@
 -- The command lines of the tool.
-use Rattle.std.specs.Prelude.{ℕ, List, [], ◌∷◌, Option, None, Some, String, codes, string_bytes}
+use Rattle.std.specs.Prelude.{◌≡◌, ◌≢◌, ◌<◌, ◌^◌, ℕ, List, [], ◌∷◌, ◌++◌, Option, None, Some, String, codes, decimal, string_bytes}
 use Rattle.std.specs.declared.alloc.Global.{Global}
 use Rattle.raft_log_operator.specs.declared.command.Command.{Command}
 use Rattle.raft_log_operator.specs.declared.command.Command.TheVariants.{Help, On}
@@ -16,13 +16,22 @@ spill_words (Some directory) = codes "--spill-dir" ∷ string_bytes directory �
 abbrev pub place_words : Place → List (List ℕ)
 place_words place = string_bytes place.directory ∷ spill_words place.spill_directory
 
+-- the arguments that name a group; none if the task is for all groups
+abbrev pub group_words : Option ℕ → List (List ℕ)
+group_words None = []
+group_words (Some group) = codes "--group" ∷ decimal group ∷ []
+
+-- the arguments that name the log to list, and the group
+abbrev pub dump_words : Place → Option ℕ → List (List ℕ)
+dump_words place group = string_bytes place.directory ∷ group_words group ++ spill_words place.spill_directory
+
 -- the arguments that name the directories of a log and the target of its copy
 abbrev pub fork_words : Place → String Global → List (List ℕ)
 fork_words place target = string_bytes place.directory ∷ string_bytes target ∷ spill_words place.spill_directory
 
 -- the arguments that ask for a task on a log
 abbrev pub task_words : Place → Task → List (List ℕ)
-task_words place Dump = codes "dump" ∷ place_words place
+task_words place (Dump group) = codes "dump" ∷ dump_words place group
 task_words place Check = codes "check" ∷ place_words place
 task_words place Stat = codes "stat" ∷ place_words place
 task_words place (Fork target) = codes "fork" ∷ fork_words place target
@@ -32,3 +41,17 @@ task_words place Unpad = codes "unpad" ∷ place_words place
 abbrev pub words_of : Command → List (List ℕ)
 words_of Help = codes "--help" ∷ []
 words_of (On place task) = task_words place task
+
+-- this word is the decimal number of no group
+abbrev pub NamesNoGroup : List ℕ → Type 0
+NamesNoGroup word = (group : ℕ) → group < 2 ^ 64 → word ≢ decimal group
+
+-- in these arguments of a dump, the word for the group's number is this one, and it names no group
+abbrev pub MisnamesGroup : List (List ℕ) → List ℕ → Type 0
+MisnamesGroup words word = (directory : List ℕ) × (rest : List (List ℕ))
+    × (words ≡ directory ∷ codes "--group" ∷ word ∷ rest) × NamesNoGroup word
+
+-- these arguments request a dump, and the word for its group's number is this one, which names no group
+abbrev pub MisnamesDumpedGroup : List (List ℕ) → List ℕ → Type 0
+MisnamesDumpedGroup words word =
+    (rest : List (List ℕ)) × (words ≡ codes "dump" ∷ rest) × MisnamesGroup rest word

@@ -1,7 +1,7 @@
 //! The program's commands, and how they are spelled.
-ghost use Rattle.std.specs.Prelude.{◌≡◌, ◌≢◌, ◌↔◌, IsTrue, IfOk, Option, String, map, string_bytes};
+ghost use Rattle.std.specs.Prelude.{◌≡◌, ◌≢◌, ◌↔◌, ℕ, IsTrue, IfOk, Option, String, decimal, map, string_bytes};
 ghost use Rattle.std.specs.declared.alloc.Global.{Global};
-ghost use Rattle.raft_log_operator.specs.Words.{fork_words, place_words, spill_words};
+ghost use Rattle.raft_log_operator.specs.Words.{MisnamesGroup, NamesNoGroup, dump_words, fork_words, place_words, spill_words};
 
 use crate::place::{Place, trimmed};
 use std::alloc::{AllocError, Global};
@@ -11,6 +11,8 @@ use thiserror::Error;
 pub const USAGE: &str = "usage: raft_log_ctl COMMAND
 
   dump PATH         each item of the log in the directory PATH, or of the one log file PATH
+  dump PATH --group N
+                    only the items of the group with the number N
   check DIR         what is wrong with the log in DIR: missing files, damaged files, and groups with a hole in
                     their entries; or 'no holes, no damage, no gaps'
   stat DIR          what the log in DIR holds, in numbers; missing and damaged files are listed first
@@ -37,8 +39,8 @@ pub enum Command {
 /// A task on a log.
 #[derive(Debug, Drop, PartialEq, Eq)]
 pub enum Task {
-    /// Lists the log's items, or those of one file.
-    Dump,
+    /// Lists the log's items, or those of one file: all of them, or those of the group with this number.
+    Dump(Option<u64>),
     /// Checks the log for damage, gaps and holes.
     Check,
     /// Counts what the log holds.
@@ -53,7 +55,7 @@ impl Task {
     /// This task without the slashes at the end of its path.
     pub fn trimmed(&self, alloc: Global) -> Result<Task, AllocError> {
         match self {
-            Task::Dump => Ok(Task::Dump),
+            Task::Dump(group) => Ok(Task::Dump(*group)),
             Task::Check => Ok(Task::Check),
             Task::Stat => Ok(Task::Stat),
             Task::Fork(target) => {
@@ -67,7 +69,7 @@ impl Task {
     /// The word that requests it.
     pub fn word(&self) -> &'static str {
         match self {
-            Task::Dump => "dump",
+            Task::Dump(_) => "dump",
             Task::Check => "check",
             Task::Stat => "stat",
             Task::Fork(_) => "fork",
@@ -77,11 +79,14 @@ impl Task {
 }
 
 /// Why arguments are not a command.
-#[derive(Clone, Copy, Debug, PartialEq, Eq, Error)]
+#[derive(Debug, Drop, PartialEq, Eq, Error)]
 pub enum Unread {
     /// No command is spelled so.
     #[error("no command is spelled so")]
     Usage,
+    /// The word after `--group` isn't a group's number.
+    #[error("--group: {0:?} is no number of a group")]
+    Group(String),
     /// Out of memory.
     #[error("out of memory")]
     Memory,
@@ -98,21 +103,23 @@ impl From<AllocError> for Unread {
 }
 
 impl Command {
-    ghost use Rattle.raft_log_operator.specs.Words.{words_of};
+    ghost use Rattle.raft_log_operator.specs.Words.{MisnamesDumpedGroup, words_of};
 
     /// The command in these arguments, which follow the program's name. Fails with `Usage` if no command is spelled so,
-    /// or with `Memory`.
+    /// with `Group` if a dump's `--group` has a wrong number, or with `Memory`.
     pub fn parse(alloc: Global, arguments: &[String]) -> Result<Command, Unread>
         ensures ok { IfOk result (λ command. map string_bytes arguments.now ≡ words_of command) }
         ensures usage { result ≡ Err Unread.Usage →
             (command : Command) → map string_bytes arguments.now ≢ words_of command }
+        ensures group { (word : String Global) → result ≡ Err (Unread.Group word) →
+            MisnamesDumpedGroup (map string_bytes arguments.now) (string_bytes word) }
     {
         let Some((word, rest)) = arguments.split_first() else {
             return Err(Unread::Usage);
         };
         if is(word, "dump") {
-            let place = parse_place(alloc, rest)?;
-            return Ok(Command::On(place, Task::Dump));
+            let (place, group) = parse_dump(alloc, rest)?;
+            return Ok(Command::On(place, Task::Dump(group)));
         }
         if is(word, "check") {
             let place = parse_place(alloc, rest)?;
@@ -144,11 +151,58 @@ fn is(word: &String, text: &str) -> bool
     word.as_str() == text
 }
 
+/// The log to list in these words, and the group if they name one.
+fn parse_dump(alloc: Global, words: &[String]) -> Result<(Place, Option<u64>), Unread>
+    ensures ok { IfOk result (λ asked. map string_bytes words.now ≡ dump_words asked.0 asked.1) }
+    ensures usage { result ≡ Err Unread.Usage →
+        (place : Place) → (group : Option ℕ) → map string_bytes words.now ≢ dump_words place group }
+    ensures group { (word : String Global) → result ≡ Err (Unread.Group word) →
+        MisnamesGroup (map string_bytes words.now) (string_bytes word) }
+{
+    let Some((directory, behind)) = words.split_first() else {
+        return Err(Unread::Usage);
+    };
+    match behind.split_first() {
+        Some((option, rest)) if is(option, "--group") => {
+            let Some((word, rest)) = rest.split_first() else {
+                return Err(Unread::Usage);
+            };
+            let group = parse_group(alloc, word)?;
+            let place = place_of(alloc, directory.as_str(), rest)?;
+            Ok((place, Some(group)))
+        }
+        _ => {
+            let place = place_of(alloc, directory.as_str(), behind)?;
+            Ok((place, None))
+        }
+    }
+}
+
+/// The group with this number in decimal, without a sign or leading zeros.
+fn parse_group(alloc: Global, word: &String) -> Result<u64, Unread>
+    ensures ok { IfOk result (λ group. string_bytes word.now ≡ decimal group) }
+    ensures usage { result ≢ Err Unread.Usage }
+    ensures word { (reported : String Global) → result ≡ Err (Unread.Group reported) →
+        string_bytes reported ≡ string_bytes word.now }
+    ensures group { (reported : String Global) → result ≡ Err (Unread.Group reported) →
+        NamesNoGroup (string_bytes word.now) }
+{
+    if let Ok(group) = word.as_str().parse::<u64>() {
+        let spelled = format!(in alloc; "{group}")?;
+        if is(word, spelled.as_str()) {
+            return Ok(group);
+        }
+    }
+    let word = String::from_str(alloc, word.as_str())?;
+    Err(Unread::Group(word))
+}
+
 /// The log to copy and the target, in these words.
 fn parse_fork(alloc: Global, words: &[String]) -> Result<(Place, String), Unread>
     ensures ok { IfOk result (λ asked. map string_bytes words.now ≡ fork_words asked.0 asked.1) }
     ensures usage { result ≡ Err Unread.Usage →
         (place : Place) → (target : String Global) → map string_bytes words.now ≢ fork_words place target }
+    ensures group { (word : String Global) → result ≢ Err (Unread.Group word) }
 {
     let Some((directory, behind)) = words.split_first() else {
         return Err(Unread::Usage);
@@ -166,6 +220,7 @@ fn parse_place(alloc: Global, words: &[String]) -> Result<Place, Unread>
     ensures ok { IfOk result (λ place. map string_bytes words.now ≡ place_words place) }
     ensures usage { result ≡ Err Unread.Usage →
         (place : Place) → map string_bytes words.now ≢ place_words place }
+    ensures group { (word : String Global) → result ≢ Err (Unread.Group word) }
 {
     match words.split_first() {
         Some((directory, rest)) => place_of(alloc, directory.as_str(), rest),
@@ -179,6 +234,7 @@ fn place_of(alloc: Global, directory: &str, rest: &[String]) -> Result<Place, Un
     ensures ok { IfOk result (λ place. map string_bytes rest.now ≡ spill_words place.spill_directory) }
     ensures usage { result ≡ Err Unread.Usage →
         (spill : Option (String Global)) → map string_bytes rest.now ≢ spill_words spill }
+    ensures group { (word : String Global) → result ≢ Err (Unread.Group word) }
 {
     let spill_directory = parse_spill(alloc, rest)?;
     let directory = String::from_str(alloc, directory)?;
@@ -193,6 +249,7 @@ fn parse_spill(alloc: Global, words: &[String]) -> Result<Option<String>, Unread
     ensures ok { IfOk result (λ spill. map string_bytes words.now ≡ spill_words spill) }
     ensures usage { result ≡ Err Unread.Usage →
         (spill : Option (String Global)) → map string_bytes words.now ≢ spill_words spill }
+    ensures group { (word : String Global) → result ≢ Err (Unread.Group word) }
 {
     let Some((option, behind)) = words.split_first() else {
         return Ok(None);

@@ -1,15 +1,19 @@
 //! Lists the items of a log.
+ghost use Rattle.std.specs.Prelude.{◌↔◌, IsTrue, Option};
+ghost use Rattle.raft_log_operator.specs.Listing.{IsListed};
+
 use crate::fault::{CommandFault, Outcome};
 use crate::found_file::{FoundFile, find_files};
 use crate::place::Place;
 use crate::text::{FileText, ItemLine};
-use raft_log_engine::{Error, FileSystem, LogItemReader};
+use raft_log_engine::{Error, FileSystem, LogItem, LogItemReader};
 use std::alloc::Global;
 use std::io::Write;
 
-/// Writes a line for each item of a log, or of the one file whose path is the main one. The files are in the order of
-/// `find_files`. The items of each file are in order, up to its end or to what is broken in it. For broken bytes it
-/// writes a line instead of the rest, and returns `Faulty`. Changes nothing.
+/// Writes a line for each item of a log, or of the one file whose path is the main one. If a group is named, it leaves
+/// out the items of other groups. The files are in the order of `find_files`. The items of each file are in order, up
+/// to its end or to what is broken in it. For broken bytes it writes a line instead of the rest, and returns `Faulty`.
+/// Changes nothing.
 ///
 /// Fails if the files aren't found, if a file isn't read, if memory runs out, and if writing the output fails; what was
 /// written stays.
@@ -17,22 +21,24 @@ pub fn dump<F: FileSystem, W: Write>(
     alloc: Global,
     files: &F,
     place: &Place,
+    group: Option<u64>,
     out: &mut W,
 ) -> Result<Outcome, CommandFault> {
     let mut outcome = Outcome::Sound;
     for file in find_files(alloc, files, place)? {
-        if dump_file(alloc, files, &file, out)? == Outcome::Faulty {
+        if dump_file(alloc, files, &file, group, out)? == Outcome::Faulty {
             outcome = Outcome::Faulty;
         }
     }
     Ok(outcome)
 }
 
-/// Writes a line for each item of a file.
+/// Writes a line for each item of a file, or only for those of a group.
 fn dump_file<F: FileSystem, W: Write>(
     alloc: Global,
     files: &F,
     file: &FoundFile,
+    group: Option<u64>,
     out: &mut W,
 ) -> Result<Outcome, CommandFault> {
     let mut outcome = Outcome::Sound;
@@ -44,11 +50,13 @@ fn dump_file<F: FileSystem, W: Write>(
     for answer in items {
         match answer {
             Ok(item) => {
-                let line = ItemLine {
-                    id: file.id,
-                    item: &item,
-                };
-                writeln!(out, "{line}")?;
+                if is_listed(&item, group) {
+                    let line = ItemLine {
+                        id: file.id,
+                        item: &item,
+                    };
+                    writeln!(out, "{line}")?;
+                }
             }
             Err(Error::Memory) => return Err(CommandFault::Log(Error::Memory)),
             Err(Error::Io(kind)) => return Err(CommandFault::at(alloc, path, Error::Io(kind))),
@@ -60,4 +68,11 @@ fn dump_file<F: FileSystem, W: Write>(
         }
     }
     Ok(outcome)
+}
+
+/// Whether a dump of this group lists an item; without a group it lists each.
+fn is_listed(item: &LogItem, group: Option<u64>) -> bool
+    ensures { IsTrue result ↔ IsListed group item.now }
+{
+    group.is_none_or(|group| item.raft_group_id == group)
 }

@@ -37,7 +37,7 @@ pub fn run<R: Threads + Log + Sync, F: FileSystem, W: Write>(
         → IsSoundFor place.now task.now (F.disk files.old)) }
 {
     match task {
-        Task::Dump => dump(alloc, files, place, out),
+        Task::Dump(group) => dump(alloc, files, place, *group, out),
         Task::Check => check(alloc, files, place, out),
         Task::Stat => stat(rt, alloc, files, place, out),
         Task::Fork(target) => fork_into(rt, alloc, files, place, target, out),

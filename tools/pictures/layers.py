@@ -30,7 +30,7 @@ BOXES = [
       ("ten_lines", "saves a key, and reads it"), ("append_lines", "keeps lines of input"),
       ("node_storage", "a Raft node's storage")], ""),
     (16, 330, 180, 434, "#ece6f8", "Voter", "the receiver of Raft", "raft_",
-     ["voter", "voter_outline", "voter_messages", "voter_plain"], "Voter::step, judge, one_vote_per_term,"
+     ["voter", "voter_outline", "voter_messages", "voter_plain", "voter_group_laws"], "Voter::step, judge, one_vote_per_term,"
      " terms_never_fall, matched_entries_stand, repeat_is_idempotent, group_isolation"),
     (204, 330, 652, 86, "#dbe9fb", "Engine", "write, sync, read, purge, close", "raft_log_",
      ["engine", "engine_core"], "LogEngine::write, LogEngine::purge_expired_files"),

@@ -250,8 +250,20 @@ impl DualPipesBuilder {
         ensures err { IfErr result (λ kind. FailsToCutBoth self.now append.now rewrite.now kind
             (F.disk file_system.old) (F.disk file_system.new)) }
     {
-        cut_files(rt, file_system, &self.append.files, append)?;
-        cut_files(rt, file_system, &self.rewrite.files, rewrite)
+        cut_files(
+            rt,
+            file_system,
+            LogQueue::Append,
+            &self.append.files,
+            append,
+        )?;
+        cut_files(
+            rt,
+            file_system,
+            LogQueue::Rewrite,
+            &self.rewrite.files,
+            rewrite,
+        )
     }
 
     /// Reads one queue by workers into a machine, as `config` requires. Then truncates its damaged files, each after

@@ -3,17 +3,22 @@
 ghost use Rattle.std.specs.Prelude.{◌≡◌, ◌≤◌, length, IfErr, OnOk};
 ghost use Rattle.raft_log_recovery.specs.Cutting.{CutsEach, CutsOne, FailsToCutEach, FailsToCutOne};
 
-use log::{Log, warn};
+use log::{Log, info, warn};
 use raft_log_active_file::File;
 use raft_log_fs::FileSystem;
+use raft_log_record_base::LogQueue;
 use raft_log_recovery_read::FileEnding;
 use std::io::ErrorKind;
 
-/// Truncates each damaged one of these files after its last good record, or to nothing if it has no header, and syncs
+/// How many bytes are read at a time to see whether they are zeros.
+const ROOM: usize = 4096;
+
+/// Truncates each damaged one of these files of a queue after its last good record, or to nothing if it has no header, and syncs
 /// it, in order. If it fails, those before the failed one are truncated.
 pub fn cut_files<F: FileSystem, L: Log>(
     rt: &L,
     file_system: &mut F,
+    queue: LogQueue,
     files: &[File],
     endings: &[FileEnding],
 ) -> Result<(), ErrorKind>
@@ -24,7 +29,7 @@ pub fn cut_files<F: FileSystem, L: Log>(
         (F.disk file_system.old) (F.disk file_system.new)) }
 {
     for index in 0..endings.len() {
-        cut_file(rt, file_system, files[index], endings[index])?;
+        cut_file(rt, file_system, queue, files[index], endings[index])?;
     }
     Ok(())
 }
@@ -33,6 +38,7 @@ pub fn cut_files<F: FileSystem, L: Log>(
 fn cut_file<F: FileSystem, L: Log>(
     rt: &L,
     file_system: &mut F,
+    queue: LogQueue,
     file: File,
     ending: FileEnding,
 ) -> Result<(), ErrorKind>
@@ -45,7 +51,46 @@ fn cut_file<F: FileSystem, L: Log>(
         return Ok(());
     }
     let end = ending.end.unwrap_or(0);
-    warn!(rt; "log file {} is damaged: truncated after {end} bytes", file.seq);
+    log_cut(rt, file_system, queue, file, end);
     file_system.truncate(file.handle, end)?;
     file_system.sync(file.handle)
+}
+
+/// Logs which bytes of a file are truncated. Zeros are no damage: a file that was grown ahead of its records ends in
+/// them after a crash.
+fn log_cut<F: FileSystem, L: Log>(
+    rt: &L,
+    file_system: &F,
+    queue: LogQueue,
+    file: File,
+    end: usize,
+) {
+    let seq = file.seq;
+    let size = file_system.file_size(file.handle).unwrap_or(end);
+    let lost = size.saturating_sub(end);
+    let name = match queue {
+        LogQueue::Append => "append",
+        LogQueue::Rewrite => "rewrite",
+    };
+    if has_only_zeros(file_system, file, end, size) {
+        info!(rt; "{name} file {seq}: {lost} zeros after {end} bytes are truncated");
+    } else {
+        warn!(rt; "{name} file {seq} is damaged: {lost} bytes after {end} are truncated");
+    }
+}
+
+/// Whether a file of this size has only zeros from an offset on. If they can't be read, the answer is no.
+fn has_only_zeros<F: FileSystem>(file_system: &F, file: File, offset: usize, size: usize) -> bool {
+    let mut room = [0; ROOM];
+    for start in (offset..size).step_by(ROOM) {
+        match file_system.read_at(file.handle, start, &mut room) {
+            Ok(count) => {
+                if !room.iter().take(count).all(|byte| *byte == 0) {
+                    return false;
+                }
+            }
+            Err(_) => return false,
+        }
+    }
+    true
 }

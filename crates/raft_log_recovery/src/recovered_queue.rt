@@ -86,7 +86,7 @@ impl RecoveredQueue {
         if !have_no_padding(&read.endings) {
             return Err(aligned(alloc));
         }
-        cut_files(rt, file_system, &self.files, &read.endings)?;
+        cut_files(rt, file_system, config.queue, &self.files, &read.endings)?;
         self.endings = read.endings;
         Ok(read.machine)
     }

@@ -1,8 +1,0 @@
-use Rattle.raft_voter_shared_tests.proofs.log_playing.played.Given as goal
-
-abbrev pub ghosts-settle_two-L-Ledger : goal.ghosts-settle_two-L-Ledger
-ghosts-settle_two-L-Ledger g a = record { name = a.blank.name; parts = a.blank.parts }
-
--- what becomes of the store is seen by what it answers, so nothing is said of the voters that it serves
-abbrev pub ghosts-settle_two-L-Opening : goal.ghosts-settle_two-L-Opening
-ghosts-settle_two-L-Opening g a = record { all = a.blank.parts; served = λ W. ⊥; had_failed = a._failed }

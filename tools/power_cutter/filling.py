@@ -60,7 +60,7 @@ class Filler:
             if ended.status != 1:
                 raise
             return before
-        first, second = subject.plan(self.random, state, self.count), None
+        first = subject.plan(self.random, state, self.count)
         running.feed(subject.text(first))
         wanted = sum(subject.answer_lines(event) for event in first)
         running.hear_until(lambda told: told.count(b"\n") >= self.lines_before(running, shown) + wanted or b" cut\n" in told)

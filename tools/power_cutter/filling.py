@@ -12,6 +12,8 @@ from running import Ended, Fault
 SIZE = 64 << 20
 # a page: less than that can't be left
 STEP = 4096
+# the reply to a purge whose log failed
+LOG_FAILED = b"purge failed: Failed\n"
 
 
 class Filler:
@@ -21,6 +23,7 @@ class Filler:
         self.room, self.random, self.settings, self.count = room, random, settings, count
         self.counts = Counter()
         self.wrong = []
+        self.started = []
 
     def size(self, number):
         """Tries one size: a run that fills the disk, one on the full disk, and one with space again."""
@@ -34,8 +37,22 @@ class Filler:
         except Fault as wrong:
             self.wrong.append(f"size {number}, {left} bytes left{' with the usual settings' if usual else ''}: {wrong}")
         finally:
+            self.end()
             subprocess.run(["umount", root], check=True)
         self.counts["sizes"] += 1
+
+    def start(self, root):
+        """Starts the program in a root."""
+        running = self.room.start(root)
+        self.started.append(running)
+        return running
+
+    def end(self):
+        """Ends the programs that still run: a fault leaves one, and none may stay where the root is unmounted."""
+        for running in self.started:
+            running.process.kill()
+            running.process.wait()
+        self.started = []
 
     def life(self, root, left):
         """Three runs over one directory."""
@@ -44,7 +61,7 @@ class Filler:
         self.counts["opens on a full disk that failed"] += not self.opens(root, before)
         os.remove(f"{root}/ballast")
         before = [self.room.found_state(root, before)]
-        ran = self.room.start(root)
+        ran = self.start(root)
         heard, status = self.room.serve(ran, before, self.random, self.count, "none", ())
         self.room.demand_all(heard, status, "none")
         self.room.found(root, heard.candidates(len(ran.told)))
@@ -52,7 +69,7 @@ class Filler:
     def fill(self, root, before):
         """A run that finds no space, and half of whose events come after there is space again: what may stand after it."""
         subject = self.room.subject
-        running = self.room.start(root)
+        running = self.start(root)
         try:
             state, shown = subject.opens(running)
         except Ended as ended:
@@ -67,7 +84,7 @@ class Filler:
         heard = subject.hear(state, shown + first, running.told, may_refuse=True)
         self.counts["refused requests"] += heard.refused_places
         self.counts["refused purges"] += heard.refused_purges
-        if heard.is_cut or heard.answered() < len(shown) + len(first):
+        if heard.is_cut or heard.answered() < len(shown) + len(first) or running.told.endswith(LOG_FAILED):
             self.counts["runs whose log failed"] += 1
             running.close_input()
             running.hear_all()

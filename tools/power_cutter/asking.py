@@ -82,13 +82,18 @@ class Asker:
         if ran.returncode != 1 or FULL not in said:
             self.wrong.append(f"raftnode on a full disk: status {ran.returncode}, {said!r}")
 
+    def operator_on_one_file(self, root):
+        """Copies the first file of the stored log into a root. Returns the path of the operator's program, or None if it isn't built."""
+        shutil.copy(f"{self.crates}/raft_log_ctl/data/log/{FIRST}", f"{root}/{FIRST}")
+        path = os.path.realpath(f"{self.crates}/raft_log_ctl/out/raft_log_ctl")
+        return path if os.path.isfile(path) else None
+
     def ask_for_one_file(self):
         """Dumps a file that was copied out of its log. Beside it is a link with a log file's name, which no log may have."""
-        path = os.path.realpath(f"{self.crates}/raft_log_ctl/out/raft_log_ctl")
-        if not os.path.isfile(path):
-            return
         with tempfile.TemporaryDirectory() as root:
-            shutil.copy(f"{self.crates}/raft_log_ctl/data/log/{FIRST}", f"{root}/{FIRST}")
+            path = self.operator_on_one_file(root)
+            if not path:
+                return
             os.symlink("none", f"{root}/{SECOND}")
             ran = subprocess.run([path, "dump", f"{root}/{FIRST}", "--group", "2"], capture_output=True, timeout=60)
         self.counts["calls"] += 1
@@ -97,11 +102,10 @@ class Asker:
 
     def ask_with_closed_pipe(self):
         """Runs tasks whose output nobody reads: they print no message, and a task that finds damage says so by its status."""
-        path = os.path.realpath(f"{self.crates}/raft_log_ctl/out/raft_log_ctl")
-        if not os.path.isfile(path):
-            return
         with tempfile.TemporaryDirectory() as root:
-            shutil.copy(f"{self.crates}/raft_log_ctl/data/log/{FIRST}", f"{root}/{FIRST}")
+            path = self.operator_on_one_file(root)
+            if not path:
+                return
             self.ask_unread(path, root, {"--help": 0, "dump": 0, "check": 0, "stat": 0})
             shutil.copy(f"{root}/{FIRST}", f"{root}/{SECOND}")
             self.ask_unread(path, root, {"dump": 0, "check": 1, "stat": 1})

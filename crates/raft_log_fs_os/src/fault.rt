@@ -13,7 +13,7 @@ pub enum DirectoryFault {
     /// The path is no directory.
     #[error("{0:?} is no directory")]
     NoDirectory(String),
-    /// Another log has the directory open, in this or another process.
+    /// Another log has the directory open, or its file `LOCK` locked, in this or another process.
     #[error("{0:?} is in use by another log")]
     InUse(String),
     /// An entry with the name of a log file is no regular file, but for example a link or a directory.
@@ -48,6 +48,19 @@ impl DirectoryFault {
             ErrorKind::AlreadyExists => DirectoryFault::Twice(path),
             ErrorKind::OutOfMemory => DirectoryFault::Memory,
             _ => DirectoryFault::Refused { path, error },
+        }
+    }
+
+    /// The fault for an error of locking the file at a path in a directory.
+    pub(crate) fn of_lock(
+        alloc: Global,
+        directory: &str,
+        path: &str,
+        error: io::Error,
+    ) -> DirectoryFault {
+        match error.kind() {
+            ErrorKind::WouldBlock => DirectoryFault::of_directory(alloc, directory, error),
+            _ => DirectoryFault::of_files(alloc, path, error),
         }
     }
 

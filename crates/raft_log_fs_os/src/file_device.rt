@@ -2,6 +2,7 @@
 ghost use Rattle.raft_log_fs_state.specs.declared.storage.Storage.{Storage};
 
 use super::growing::{extend, grow, write_pieces};
+use super::locked_directory::LockedDirectory;
 use super::open_file::{OpenFile, report, warn_of_space};
 use super::record::Record;
 use raft_log_fs_state::Storage;
@@ -43,7 +44,7 @@ const UNDONE_GROWTH: u64 = 10;
 pub(crate) const PIECE: usize = 1 << 16;
 
 /// The operating system's files, as a device.
-/// - Each file that has a name is open; the directories stay locked until the device is dropped.
+/// - Each file that has a name is open; the directories stay open and locked until the device is dropped.
 /// - A method makes one system call, or, for a write or a growth, one for each piece of its bytes. It then notes the
 ///   call; only clauses read the notes.
 /// - A growth, and a write of several pieces that makes the file longer, is also synced.
@@ -54,7 +55,7 @@ pub(crate) const PIECE: usize = 1 << 16;
 pub struct FileDevice<R> {
     rt: R,
     files: BTreeMap<usize, OpenFile>,
-    locks: Vec<File>,
+    locks: Vec<LockedDirectory>,
     zeros: Vec<u8>,
     // Whether the last attempt to make a file longer found no space.
     is_full: bool,
@@ -70,7 +71,7 @@ impl<R: Files<File = File> + Eprint + AllocGlobal + Drop> FileDevice<R> {
     pub(crate) fn new(
         rt: R,
         files: BTreeMap<usize, OpenFile>,
-        locks: Vec<File>,
+        locks: Vec<LockedDirectory>,
         zeros: Vec<u8>,
         storage: &Storage,
     ) -> FileDevice<R>
@@ -140,8 +141,7 @@ impl<R: Files<File = File> + Eprint + AllocGlobal + Drop> Device for FileDevice<
 
     fn sync_directory(&mut self, path: &str) -> Result<(), ErrorKind> {
         let named = if path.is_empty() { "." } else { path };
-        File::open(&self.rt, named)
-            .and_then(|opened| opened.sync_all())
+        sync_named(&self.rt, self.locks.as_slice(), named)
             .map_err(|error| report(&self.rt, named, "sync it", error))?;
         self.record.note(&[SYNCED_DIRECTORY, 0, 0], path.as_bytes());
         Ok(())
@@ -242,6 +242,19 @@ impl<R: Files<File = File> + Eprint + AllocGlobal + Drop> Device for FileDevice<
 
     fn close(&mut self, file: usize) {
         let _closed = self.files.remove(&file);
+    }
+}
+
+/// Syncs a directory: through the handle that locks it, or through a new one if it is none of the log's, such as the
+/// target of a copy. A rotation therefore needs no free descriptor for this.
+fn sync_named<R: Files<File = File>>(
+    rt: &R,
+    locks: &[LockedDirectory],
+    path: &str,
+) -> io::Result<()> {
+    match locks.iter().find(|locked| locked.path.as_str() == path) {
+        Some(locked) => locked.sync(),
+        None => File::open(rt, path)?.sync_all(),
     }
 }
 

@@ -6,6 +6,7 @@ pub mod fault;
 pub mod file_device;
 mod growing;
 mod load;
+mod locked_directory;
 mod log_names;
 mod making_durable;
 mod open_file;

@@ -4,6 +4,7 @@ ghost use Rattle.raft_log_fs_state.specs.Held.{held_of};
 ghost use Rattle.raft_log_fs_state.specs.Storage.{IsStorageSound, IsWhole-prop};
 ghost use Rattle.raft_log_fs_os.specs.Loading.{AllRest, AllRest-prop, FillsFile};
 
+use super::locked_directory::LockedDirectory;
 use super::log_names::ListedFile;
 use super::open_file::OpenFile;
 use raft_log_fs_state::{Content, Storage, Stored};
@@ -36,8 +37,8 @@ pub(crate) enum Access {
 pub(crate) struct Found {
     pub storage: Storage,
     pub files: BTreeMap<usize, OpenFile>,
-    pub locks: Vec<File>,
-    access: Access,
+    pub locks: Vec<LockedDirectory>,
+    pub access: Access,
     ghost whole: { IsStorageSound storage } by { IsWhole-prop storage },
     ghost rest: { AllRest storage } by { AllRest-prop storage },
 }
@@ -58,22 +59,18 @@ impl Found {
     pub fn add_directory<R: Files<File = File>>(
         &mut self,
         rt: &R,
-        directory: &str,
-    ) -> io::Result<()> {
-        let opened = File::open(rt, directory)?;
-        if !opened.metadata()?.is_dir() {
+        path: &str,
+    ) -> io::Result<LockedDirectory> {
+        let directory = File::open(rt, path)?;
+        if !directory.metadata()?.is_dir() {
             return Err(ErrorKind::NotADirectory.into());
         }
-        if self.storage.node(directory).is_some() {
+        if self.storage.node(path).is_some() {
             return Err(ErrorKind::AlreadyExists.into());
         }
-        match self.access {
-            Access::ReadWrite => opened.try_lock()?,
-            Access::ReadOnly => opened.try_lock_shared()?,
-        }
-        self.storage.add_directory(directory)?;
-        self.locks.push(opened)?;
-        Ok(())
+        let locked = LockedDirectory::lock(self.storage.alloc, directory, path, self.access)?;
+        self.storage.add_directory(path)?;
+        Ok(locked)
     }
 
     // Adds a file with its bytes, as synced ones. Fails if its directory doesn't exist.

@@ -20,14 +20,15 @@ use std::{fs, io};
 
 /// Opens a log's main directory, and its second one if it has one, and returns the file system over them.
 ///
-/// - Both directories must exist. Each is locked until the file system is dropped.
+/// - Both directories must exist. Each is locked until the file system is dropped, and so is the file `LOCK` in it, which
+///   is made if it isn't there. That file keeps out programs built on raft-engine.
 /// - Each regular file with a log file's name is synced and read, several in parallel. Entries with other names are
 ///   ignored.
 /// - The last file of either queue is written back with the same bytes and synced; then the directories are synced.
 ///   What the file system shows is therefore durable, even if a sync failed earlier in this boot of the machine.
 /// - Paths are those of the operating system; the log's settings must spell them the same.
 ///
-/// If it fails, no byte of a file and no name has changed.
+/// If it fails, no byte of a file and no name has changed, but a file `LOCK` may have been made.
 pub fn open_directories<
     R: Files<File = File> + Threads + Eprint + AllocGlobal + Clone + Sync + Drop,
 >(
@@ -133,17 +134,22 @@ fn load_all<R: Files<File = File> + Threads + AllocGlobal + Clone + Sync + Drop>
     Ok(listed)
 }
 
-/// Locks a directory.
+/// Locks a directory and the file `LOCK` in it.
 fn lock<R: Files<File = File> + AllocGlobal>(
     rt: &R,
     found: &mut Found,
     directory: &str,
 ) -> Result<(), DirectoryFault> {
-    found.add_directory(rt, directory).map_err(|error| DirectoryFault::of_directory(
-        rt.alloc(),
-        directory,
-        error,
-    ))
+    let alloc = rt.alloc();
+    let mut locked = found
+        .add_directory(rt, directory)
+        .map_err(|error| DirectoryFault::of_directory(alloc, directory, error))?;
+    let path = format!(in alloc; "{directory}/LOCK")?;
+    locked
+        .lock_file(rt, path.as_str(), found.access)
+        .map_err(|error| DirectoryFault::of_lock(alloc, directory, path.as_str(), error))?;
+    found.locks.push(locked)?;
+    Ok(())
 }
 
 /// Loads the log files in a directory. Returns them.

@@ -10,5 +10,5 @@ invariant_of-self g c = record {
 pub invariant_of-self-2 : goal.invariant_of-self-2
 invariant_of-self-2 g c = record {
   whole = c.add_directory.ensures.whole;
-  rest = rest_with_directory c.args.directory.now c.args.self.now.storage c.add_directory.new.self c.in_ok-add_directory.ensures.ok.contents c.args.self.now.rest;
+  rest = rest_with_directory c.args.path.now c.args.self.now.storage c.add_directory.new.self c.in_ok-add_directory.ensures.ok.contents c.args.self.now.rest;
 }

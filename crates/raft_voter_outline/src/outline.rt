@@ -60,6 +60,7 @@ impl Outline {
     pub fn state(&self) -> VoterState
         ensures value { result ≡ state_of self.now.voter }
         ensures small { result.last_index < 2 ^ 63 }
+        ensures above { result.base_index ≤ result.last_index }
         ensures committed { result.base_index ≤ result.commit }
 
         // An outline is the outline of a voter: itself.

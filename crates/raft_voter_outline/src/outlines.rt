@@ -3,7 +3,7 @@ ghost use Rattle.std.specs.Prelude.{◌≡◌, ◌==◌, ℕ, false, IfOk, Match
 ghost use Rattle.std.specs.Borrow.{sem};
 ghost use Rattle.raft_voter_outline.specs.Outlines.{Decides, without_bytes};
 
-use crate::{Decision, Memory, Outline, Request};
+use crate::{Decision, Memory, Outline, Request, VoterState};
 use std::alloc::Global;
 use std::collections::BTreeMap;
 
@@ -15,7 +15,8 @@ pub struct Outlines {
 }
 
 impl Outlines {
-    ghost use Rattle.raft_voter_outline.specs.State.{fresh};
+    ghost use Rattle.std.specs.Prelude.{◌^◌, ◌<◌, ◌≤◌};
+    ghost use Rattle.raft_voter_outline.specs.State.{fresh, state_of, term_at};
     ghost use Rattle.raft_voter_outline.specs.Kept.{kept_of, outlines_in};
     ghost use Rattle.raft_voter_outline.specs.Lending.{LendsOutline};
     ghost use Rattle.raft_voter_outline.specs.Pairs.{outlines_of};
@@ -61,6 +62,28 @@ impl Outlines {
         match self.kept.get(&group) {
             Some(outline) => decide_by(outline, request),
             None => decide_by(&Outline::new(self.alloc), request),
+        }
+    }
+
+    /// The state of the group's voter.
+    pub fn state(&self, group: u64) -> VoterState
+        ensures value { result ≡ state_of (outlines_in self.now group) }
+        ensures small { result.last_index < 2 ^ 63 }
+        ensures above { result.base_index ≤ result.last_index }
+    {
+        match self.kept.get(&group) {
+            Some(outline) => outline.state(),
+            None => Outline::new(self.alloc).state(),
+        }
+    }
+
+    /// The term of the entry at an index in the group's voter, or of its base.
+    pub fn term_at(&self, group: u64, index: u64) -> Option<u64>
+        ensures { result ≡ term_at (outlines_in self.now group) index }
+    {
+        match self.kept.get(&group) {
+            Some(outline) => outline.term_at(index),
+            None => Outline::new(self.alloc).term_at(index),
         }
     }
 

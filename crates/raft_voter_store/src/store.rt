@@ -6,6 +6,7 @@ mod forking;
 mod opening;
 mod rounds;
 mod service;
+mod status;
 mod upkeep;
 
 use crate::entries::read_entries;

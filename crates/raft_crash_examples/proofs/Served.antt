@@ -27,7 +27,7 @@ served v d files left opened now again last before behind first second finds ans
         (
           under.0,
           λ spares.
-              let still = under.1 spares in (
+              let still = under.1 under.0 spares in (
                 still,
                 λ chance.
                     let found_again = finds_again (uncut one.0) still chance in

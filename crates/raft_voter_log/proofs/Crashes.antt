@@ -134,24 +134,23 @@ on_disk fault old new arms = by_mark fault arms.marks
 pub crash_leaves_for : (c e : Config) (d image : OnDisk) (cut : CutRound) → AreSame e c → IsImage d image → (known : FilesLeave c d cut) → SparesFiles c d cut known image → FilesLeave e image cut
 crash_leaves_for c e d image cut same is known chance = leave_for c e image cut (sym (one_home e c same)) (crash_leaves c d image cut is known chance)
 
+-- a crash under a store leaves what it left, by any proof of that, unless something passes by chance
+crash_spared : (c e : Config) (s : EngineState) (after : MemoryFileSystem) (cut : CutRound) → AreSame e c → IsImage s.pipes.disk (disk_of after)
+    → (known : LeavesAt (home_of c) s cut) → SparesStore (home_of c) s cut known (disk_of after) → FilesLeave e (disk_of after) cut
+crash_spared c e s after cut same is (running W none keeps) chance =
+    let home = home_of c in
+    let (k, within, at, opens) = crashed_engines_open disk_of (λ system directory free. Unit {0}) home s keeps.map [] keeps.holds after (memory_sound after) is chance in
+    let still : IsDurableAs (log_in home) (disk_of after) keeps.map = subst (λ (l : List LogRecordValue). IsDurableAs (log_in home) (disk_of after) (taken keeps.map l)) (take-nil k) at in
+    leave_for c e (disk_of after) cut (sym (one_home e c same)) (rests s.pipes.disk is keeps.map still W keeps.means (follows_none cut W none))
+crash_spared c e s after cut same is (is_left failed l) chance =
+    let (k, within, at) = crashed_logs_rest (home_of c) (some_append c) (some_rewrite c) s.pipes.disk (disk_of after) l.map l.pending l.left chance in
+    let (X, follows, means) = l.among k within in
+    leave_for c e (disk_of after) cut (sym (one_home e c same)) (rests s.pipes.disk is (taken l.map (take k l.pending)) at X means follows)
+
 -- what a store says that it leaves is known, and is left unless something passes by chance
 pub crash_leaves_under : (c e : Config) (s : EngineState) (after : MemoryFileSystem) (cut : CutRound) → AreSame e c → IsImage s.pipes.disk (disk_of after) → LeavesAt (home_of c) s cut
-    → (known : LeavesAt (home_of c) s cut) × (SparesStore (home_of c) s cut known (disk_of after) → FilesLeave e (disk_of after) cut)
-crash_leaves_under c e s after cut same is (running W none keeps) = (
-  running W none keeps,
-  λ chance.
-      let home = home_of c in
-      let (k, within, at, opens) = crashed_engines_open disk_of (λ system directory free. Unit {0}) home s keeps.map [] keeps.holds after (memory_sound after) is chance in
-      let still : IsDurableAs (log_in home) (disk_of after) keeps.map = subst (λ (l : List LogRecordValue). IsDurableAs (log_in home) (disk_of after) (taken keeps.map l)) (take-nil k) at in
-      leave_for c e (disk_of after) cut (sym (one_home e c same)) (rests s.pipes.disk is keeps.map still W keeps.means (follows_none cut W none)),
-)
-crash_leaves_under c e s after cut same is (is_left failed l) = (
-  is_left failed l,
-  λ chance.
-      let (k, within, at) = crashed_logs_rest (home_of c) (some_append c) (some_rewrite c) s.pipes.disk (disk_of after) l.map l.pending l.left chance in
-      let (X, follows, means) = l.among k within in
-      leave_for c e (disk_of after) cut (sym (one_home e c same)) (rests s.pipes.disk is (taken l.map (take k l.pending)) at X means follows),
-)
+    → LeavesAt (home_of c) s cut × ((known : LeavesAt (home_of c) s cut) → SparesStore (home_of c) s cut known (disk_of after) → FilesLeave e (disk_of after) cut)
+crash_leaves_under c e s after cut same is known = (known, crash_spared c e s after cut same is)
 
 -- a store is closed
 pub close_leaves : (config : Config) (s : EngineState) (d : OnDisk) (cut : CutRound) → ClosesStore s d → LeavesAt (home_of config) s cut → FilesLeave config d cut

@@ -64,7 +64,7 @@ module _ {S : Type 0} (tells : MemoryFileSystem → List ℕ → ℕ → Type 0)
   walk (Open store) cut known plain (crashed gone left ∷ ms) goes h c =
       let is = image_under gone (shows store).pipes.disk (disk_of left.files) h.0.0.0 in
       let (still, at_rest) = loses_rests (config store) left.config (shows store) cut left.files h.0.0.1 is c.0 known in
-      let on = goes.1 (loses_spared (config store) (shows store) cut (disk_of left.files) c.0 goes.0) in
+      let on = goes.1 goes.0 (loses_spared (config store) (shows store) cut (disk_of left.files) c.0 goes.0) in
       walk (Closed left) cut still at_rest ms (on.1 still) h.1 c.1
   walk (Closed f) cut known plain (idle round now ∷ ms) goes h c =
       let (still, at_rest) = subst (λ (x : LogFiles). IsPlainly x.config (disk_of x.files) cut) (sym h.0.1) (known, plain) in

@@ -118,15 +118,13 @@ goes_by v u d End Whole ends (Closed files) cut known noted (fell workers store 
     let near : Within (uncut found.0) noted = λ X f. subst (λ (W : World). MayFollow noted W) (sym (only found.0 X f)) (w found.0 found.1) in (
       found.0,
       found.1,
-      (
-        under.0,
-        λ spare.
-            let k = under.1 spare in (
-              k,
-              λ still. goes_by v u d End Whole ends (Closed left) (uncut found.0) still noted ms h.1 l near tt
-                  (λ p X leads. whole p X (passes v (Closed files) (Closed left) noted (fell workers store gone left) ms p X refl refl refl (λ e. refl) leads)),
-            ),
-      ),
+      under.0,
+      λ chosen spare.
+          let k = under.1 chosen spare in (
+            k,
+            λ still. goes_by v u d End Whole ends (Closed left) (uncut found.0) still noted ms h.1 l near tt
+                (λ p X leads. whole p X (passes v (Closed files) (Closed left) noted (fell workers store gone left) ms p X refl refl refl (λ e. refl) leads)),
+          ),
     )
 goes_by v u d End Whole ends (Closed files) cut known noted (unopened workers cause back ∷ ms) h l w s whole = λ spared.
     let k = h.0.stands cut known spared in (
@@ -143,8 +141,8 @@ goes_by v u d End Whole ends (Closed files) cut known noted (crashed gone left �
 goes_by v u d End Whole ends (Open store) cut known noted (crashed gone left ∷ ms) h l w s whole =
     let under = h.0.1 cut known in (
       under.0,
-      λ spared.
-          let k = under.1 spared in (
+      λ chosen spared.
+          let k = under.1 chosen spared in (
             k,
             λ still. goes_by v u d End Whole ends (Closed left) cut still noted ms h.1 l w tt
                 (λ p X leads. whole p X (passes v (Open store) (Closed left) noted (crashed gone left) ms p X refl refl refl (λ e. refl) leads)),

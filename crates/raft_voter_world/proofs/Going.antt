@@ -121,7 +121,7 @@ goes v u d End Whole ends (Closed files) cut known noted (fell workers store gon
       (
         under.0,
         λ still.
-            let k = under.1 still in (
+            let k = under.1 under.0 still in (
               k,
               goes v u d End Whole ends (Closed left) (uncut found.0) k noted ms h.1 l near tt
                   (λ p X leads. whole p X (passes v (Closed files) (Closed left) noted (fell workers store gone left) ms p X refl refl refl (λ e. refl) leads)),
@@ -144,7 +144,7 @@ goes v u d End Whole ends (Open store) cut known noted (crashed gone left ∷ ms
     let under = h.0.1 cut known in (
       under.0,
       λ spared.
-          let k = under.1 spared in (
+          let k = under.1 under.0 spared in (
             k,
             goes v u d End Whole ends (Closed left) cut k noted ms h.1 l w tt
                 (λ p X leads. whole p X (passes v (Open store) (Closed left) noted (crashed gone left) ms p X refl refl refl (λ e. refl) leads)),

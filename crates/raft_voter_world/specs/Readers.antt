@@ -32,9 +32,9 @@ GoesBy v d End (Closed files) cut known (unread workers store now left ∷ ms) =
     × ((still : d.leaves left (uncut W)) → GoesBy v d End (Closed left) (uncut W) still ms)
 GoesBy v d End (Closed files) cut known (fell workers store gone left ∷ ms) =
     d.without_chance files cut known files
-    → (W : World) × MayFollow cut W × ((under : d.leaves_under store (uncut W))
-    × (d.spares store (uncut W) under left
-    → d.leaves left (uncut W) × ((still : d.leaves left (uncut W)) → GoesBy v d End (Closed left) (uncut W) still ms)))
+    → (W : World) × MayFollow cut W × d.leaves_under store (uncut W)
+    × ((under : d.leaves_under store (uncut W)) → d.spares store (uncut W) under left
+    → d.leaves left (uncut W) × ((still : d.leaves left (uncut W)) → GoesBy v d End (Closed left) (uncut W) still ms))
 GoesBy v d End (Closed files) cut known (unopened workers cause back ∷ ms) =
     d.without_chance files cut known files
     → d.leaves back cut × ((still : d.leaves back cut) → GoesBy v d End (Closed back) cut still ms)
@@ -42,8 +42,8 @@ GoesBy v d End (Closed files) cut known (crashed gone left ∷ ms) =
     d.without_chance files cut known left
     → d.leaves left cut × ((still : d.leaves left cut) → GoesBy v d End (Closed left) cut still ms)
 GoesBy v d End (Open store) cut known (crashed gone left ∷ ms) =
-    (under : d.leaves_under store cut)
-    × (d.spares store cut under left
+    d.leaves_under store cut
+    × ((under : d.leaves_under store cut) → d.spares store cut under left
     → d.leaves left cut × ((still : d.leaves left cut) → GoesBy v d End (Closed left) cut still ms))
 GoesBy v d End storage cut known (kept change now ∷ ms) =
     Knows v d now cut × ((still : Knows v d now cut) → GoesBy v d End now cut still ms)

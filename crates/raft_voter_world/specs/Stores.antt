@@ -98,12 +98,12 @@ abbrev pub LeavesStanding : {S F : Type 0} → Service S → Disk S F → F → 
 LeavesStanding v d files read left =
     (cut : CutRound) (known : d.leaves files cut) → d.without_chance files cut known read → d.leaves left cut
 
--- A crash under the open store `store` left the files `left`. Without a CRC collision, they leave every cut-off round
--- that the store left.
+-- A crash under the open store `store` left the files `left`. A crash under it leaves only voters that are possible
+-- after every cut-off round that it left. By any proof of that, without a CRC collision, so do the files.
 abbrev pub LeavesUnder : {S F : Type 0} → Service S → Disk S F → S → F → Type 0
 LeavesUnder v d store left =
     (cut : CutRound) → v.leaves store cut
-    → (known : d.leaves_under store cut) × (d.spares store cut known left → d.leaves left cut)
+    → d.leaves_under store cut × ((known : d.leaves_under store cut) → d.spares store cut known left → d.leaves left cut)
 
 -- `files` leave every cut-off round that the store leaves
 abbrev pub LeavesInFiles : {S F : Type 0} → Service S → Disk S F → S → F → Type 0

@@ -15,6 +15,8 @@ from running import Fault, Running
 IS_ROOT = os.geteuid() == 0
 WITHOUT_PRIVILEGES = ["setpriv", "--inh-caps=-all", "--bounding-set=-all"] if IS_ROOT else []
 NOBODY = 65534
+# what the device keeps beside a log's files
+BESIDE = {"LOCK", "RESERVE"}
 REFUSED = {"program": 1, "operator": 3}
 NAMED = re.compile("[\"'](log[^\"']*)[\"']")
 TASKS = [["dump", "log"], ["check", "log"], ["stat", "log"], ["unpad", "log"], ["fork", "log", "copy"]]
@@ -146,7 +148,8 @@ class Denier:
         if status != 0:
             raise Fault(f"status {status}: {running.complaint()!r}")
         if os.path.isdir(f"{root}/copy"):
-            if read_tree(f"{root}/copy") != read_tree(f"{root}/log"):
+            log = read_tree(f"{root}/log")
+            if read_tree(f"{root}/copy") != {name: content for name, content in log.items() if name not in BESIDE}:
                 raise Fault("the copy differs")
             shutil.rmtree(f"{root}/copy")
 
@@ -166,8 +169,8 @@ class Denier:
 
 
 def files_of(log):
-    """The paths of a log's files."""
-    return sorted(entry.path for entry in os.scandir(log))
+    """The paths of a log's files, without those that the device keeps beside them."""
+    return sorted(entry.path for entry in os.scandir(log) if entry.name not in BESIDE)
 
 
 def modes_of(root):

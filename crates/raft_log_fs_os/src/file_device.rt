@@ -1,15 +1,16 @@
 //! The operating system's files, as a device.
 ghost use Rattle.raft_log_fs_state.specs.declared.storage.Storage.{Storage};
 
-use super::growing::{extend, grow, write_pieces};
+use super::growing::{grow, write_pieces};
 use super::locked_directory::LockedDirectory;
 use super::open_file::{OpenFile, report, warn_of_space};
 use super::record::Record;
+use super::reserve::{create_from_reserve, extend_from_reserve, fill_beside};
 use raft_log_fs_state::Storage;
 use raft_log_fs_traced::{Attempt, Device};
 use std::alloc::Global;
 use std::collections::BTreeMap;
-use std::fs::{File, OpenOptions};
+use std::fs::File;
 use std::io::ErrorKind;
 use std::os::unix::fs::FileExt;
 use std::rt::Files;
@@ -50,12 +51,14 @@ pub(crate) const PIECE: usize = 1 << 16;
 /// - A growth, and a write of several pieces that makes the file longer, is also synced.
 /// - If a file that becomes longer finds no space, it is truncated to its old length. The first time, and the first
 ///   time after there was space again, that is printed to standard error, with the directory and the path.
+/// - A header and a record of Rewrite that find no space are tried once more, in the space that the directory keeps in
+///   reserve. So is the making of a file.
 /// - A call that fails is printed to standard error, with the path.
 #[derive(Drop)]
 pub struct FileDevice<R> {
     rt: R,
     files: BTreeMap<usize, OpenFile>,
-    locks: Vec<LockedDirectory>,
+    directories: Vec<LockedDirectory>,
     zeros: Vec<u8>,
     // Whether the last attempt to make a file longer found no space.
     is_full: bool,
@@ -66,12 +69,12 @@ pub struct FileDevice<R> {
 impl<R: Files<File = File> + Eprint + AllocGlobal + Drop> FileDevice<R> {
     ghost use Rattle.raft_log_fs_os.specs.Tracing.{IsFresh};
 
-    /// The device over these files, which are those of the loaded model, by their numbers. It keeps the handles that
-    /// lock the directories, and the zeros for growing files.
+    /// The device over these files, which are those of the loaded model, by their numbers. It keeps the locked
+    /// directories, and the zeros for growing files.
     pub(crate) fn new(
         rt: R,
         files: BTreeMap<usize, OpenFile>,
-        locks: Vec<LockedDirectory>,
+        directories: Vec<LockedDirectory>,
         zeros: Vec<u8>,
         storage: &Storage,
     ) -> FileDevice<R>
@@ -80,7 +83,7 @@ impl<R: Files<File = File> + Eprint + AllocGlobal + Drop> FileDevice<R> {
         FileDevice {
             rt,
             files,
-            locks,
+            directories,
             zeros,
             is_full: false,
             found: Snapshot::of(storage),
@@ -98,11 +101,7 @@ impl<R: Files<File = File> + Eprint + AllocGlobal + Drop> Device for FileDevice<
         let Ok(named) = String::from_str(self.rt.alloc(), path) else {
             return Err(ErrorKind::OutOfMemory);
         };
-        let made = OpenOptions::new()
-            .read(true)
-            .write(true)
-            .create_new(true)
-            .open(&self.rt, path);
+        let made = create_from_reserve(&self.rt, &mut self.directories, path);
         let opened = OpenFile {
             file: made.map_err(|error| report(&self.rt, path, "create it", error))?,
             path: named,
@@ -122,6 +121,7 @@ impl<R: Files<File = File> + Eprint + AllocGlobal + Drop> Device for FileDevice<
             "delete it",
             error,
         ))?;
+        fill_beside(&self.rt, &mut self.directories, path, &self.zeros);
         self.record.note(&[DELETED, 0, 0], path.as_bytes());
         Ok(())
     }
@@ -141,7 +141,7 @@ impl<R: Files<File = File> + Eprint + AllocGlobal + Drop> Device for FileDevice<
 
     fn sync_directory(&mut self, path: &str) -> Result<(), ErrorKind> {
         let named = if path.is_empty() { "." } else { path };
-        sync_named(&self.rt, self.locks.as_slice(), named)
+        sync_named(&self.rt, self.directories.as_slice(), named)
             .map_err(|error| report(&self.rt, named, "sync it", error))?;
         self.record.note(&[SYNCED_DIRECTORY, 0, 0], path.as_bytes());
         Ok(())
@@ -167,9 +167,8 @@ impl<R: Files<File = File> + Eprint + AllocGlobal + Drop> Device for FileDevice<
             return Err(ErrorKind::NotFound);
         };
         let path = opened.path.as_str();
-        let attempt = extend(&opened.file, offset, bytes).map_err(|error| report(
-            &self.rt, path, "write", error,
-        ))?;
+        let tried = extend_from_reserve(&self.rt, &mut self.directories, opened, offset, bytes);
+        let attempt = tried.map_err(|error| report(&self.rt, path, "write", error))?;
         warn_of_space(&self.rt, path, &attempt, &mut self.is_full);
         let kind = match attempt {
             Attempt::Made => WRITTEN,
@@ -249,10 +248,10 @@ impl<R: Files<File = File> + Eprint + AllocGlobal + Drop> Device for FileDevice<
 /// target of a copy. A rotation therefore needs no free descriptor for this.
 fn sync_named<R: Files<File = File>>(
     rt: &R,
-    locks: &[LockedDirectory],
+    directories: &[LockedDirectory],
     path: &str,
 ) -> io::Result<()> {
-    match locks.iter().find(|locked| locked.path.as_str() == path) {
+    match directories.iter().find(|locked| locked.path.as_str() == path) {
         Some(locked) => locked.sync(),
         None => File::open(rt, path)?.sync_all(),
     }

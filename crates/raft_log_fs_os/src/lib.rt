@@ -12,6 +12,7 @@ mod making_durable;
 mod open_file;
 pub mod opening;
 mod record;
+mod reserve;
 
 pub use fault::DirectoryFault;
 pub use file_device::FileDevice;

@@ -37,7 +37,7 @@ pub(crate) enum Access {
 pub(crate) struct Found {
     pub storage: Storage,
     pub files: BTreeMap<usize, OpenFile>,
-    pub locks: Vec<LockedDirectory>,
+    pub directories: Vec<LockedDirectory>,
     pub access: Access,
     ghost whole: { IsStorageSound storage } by { IsWhole-prop storage },
     ghost rest: { AllRest storage } by { AllRest-prop storage },
@@ -49,7 +49,7 @@ impl Found {
         Found {
             storage: Storage::new(alloc),
             files: BTreeMap::new(alloc),
-            locks: Vec::new(alloc),
+            directories: Vec::new(alloc),
             access,
         }
     }

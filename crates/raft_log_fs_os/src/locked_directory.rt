@@ -1,5 +1,6 @@
 //! A directory of a log, locked while it is open.
 use super::load::Access;
+use super::reserve::Reserve;
 use std::alloc::Global;
 use std::fs::{File, OpenOptions};
 use std::io;
@@ -12,23 +13,26 @@ use std::rt::Files;
 pub(crate) struct LockedDirectory {
     /// The path by which it was opened.
     pub path: String,
+    /// The space that it keeps for a full disk.
+    pub reserve: Reserve,
     directory: File,
     // The file `LOCK`. A reader has none if the file isn't there, as it makes no file.
     lock: Option<File>,
 }
 
 impl LockedDirectory {
-    /// Locks an open directory, but not its file `LOCK`. Fails with `WouldBlock` if another open of it has the lock.
+    /// Locks an open directory, but not its file `LOCK`, and fills no reserve. Fails with `WouldBlock` if another open of
+    /// it has the lock.
     pub fn lock(
         alloc: Global,
         directory: File,
         path: &str,
         access: Access,
     ) -> io::Result<LockedDirectory> {
-        let path = String::from_str(alloc, path)?;
         take(&directory, access)?;
         Ok(LockedDirectory {
-            path,
+            path: String::from_str(alloc, path)?,
+            reserve: Reserve::new(format!(in alloc; "{path}/RESERVE")?),
             directory,
             lock: None,
         })

@@ -9,6 +9,7 @@ use super::file_device::{FileDevice, PIECE};
 use super::load::{Access, Found};
 use super::log_names::{ListedFile, list_files};
 use super::making_durable::{sync_directories, write_back_last_files};
+use super::reserve::fill_reserves;
 use raft_log_fs::FileSystem;
 use raft_log_fs_traced::{Device, DirectoryFileSystem};
 use std::fs::File;
@@ -22,13 +23,15 @@ use std::{fs, io};
 ///
 /// - Both directories must exist. Each is locked until the file system is dropped, and so is the file `LOCK` in it, which
 ///   is made if it isn't there. That file keeps out programs built on raft-engine.
+/// - Each directory gets a file `RESERVE` of 256 KiB, if there is room. A full disk gives its space to the header of a new
+///   file and to records of Rewrite.
 /// - Each regular file with a log file's name is synced and read, several in parallel. Entries with other names are
 ///   ignored.
 /// - The last file of either queue is written back with the same bytes and synced; then the directories are synced.
 ///   What the file system shows is therefore durable, even if a sync failed earlier in this boot of the machine.
 /// - Paths are those of the operating system; the log's settings must spell them the same.
 ///
-/// If it fails, no byte of a file and no name has changed, but a file `LOCK` may have been made.
+/// If it fails, no byte of a file and no name has changed, but files `LOCK` and `RESERVE` may have been made.
 pub fn open_directories<
     R: Files<File = File> + Threads + Eprint + AllocGlobal + Clone + Sync + Drop,
 >(
@@ -48,11 +51,12 @@ pub fn open_directories<
     let Found {
         storage,
         files,
-        locks,
+        mut directories,
         ..
     } = found;
     let zeros = vec![in rt.alloc(); 0u8; PIECE]?;
-    let mut device = FileDevice::new(rt.clone()?, files, locks, zeros, &storage);
+    fill_reserves(rt, &mut directories, &zeros);
+    let mut device = FileDevice::new(rt.clone()?, files, directories, zeros, &storage);
     write_back_last_files(rt.alloc(), &mut device, &storage, listed.as_slice())?;
     sync_directories(rt.alloc(), &mut device, directory, spill_directory)?;
     Ok(DirectoryFileSystem::new(storage, device))
@@ -82,11 +86,11 @@ pub fn open_directories_for_reading<
     let Found {
         storage,
         files,
-        locks,
+        directories,
         ..
     } = found;
     let zeros = vec![in rt.alloc(); 0u8; PIECE]?;
-    let device = FileDevice::new(rt.clone()?, files, locks, zeros, &storage);
+    let device = FileDevice::new(rt.clone()?, files, directories, zeros, &storage);
     Ok(DirectoryFileSystem::new(storage, device))
 }
 
@@ -148,7 +152,7 @@ fn lock<R: Files<File = File> + AllocGlobal>(
     locked
         .lock_file(rt, path.as_str(), found.access)
         .map_err(|error| DirectoryFault::of_lock(alloc, directory, path.as_str(), error))?;
-    found.locks.push(locked)?;
+    found.directories.push(locked)?;
     Ok(())
 }
 

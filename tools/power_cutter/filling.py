@@ -12,6 +12,8 @@ from running import Ended, Fault
 SIZE = 64 << 20
 # a page: less than that can't be left
 STEP = 4096
+# the size of a directory's reserve
+RESERVE = 256 << 10
 # the reply to a purge whose log failed
 LOG_FAILED = b"purge failed: Failed\n"
 
@@ -24,6 +26,7 @@ class Filler:
         self.counts = Counter()
         self.wrong = []
         self.started = []
+        self.has_reserve = False
 
     def size(self, number):
         """Tries one size: a run that fills the disk, one on the full disk, and one with space again."""
@@ -31,8 +34,11 @@ class Filler:
         usual = self.random.random() < 0.5
         self.room.use_settings("" if usual else self.settings(self.random))
         root = self.room.root("full", {})
+        self.has_reserve = self.random.random() < 0.5
         subprocess.run(["mount", "-t", "tmpfs", "-o", f"size={SIZE}", "tmpfs", root], check=True)
         try:
+            if self.has_reserve:
+                self.make_reserve(root)
             self.life(root, left)
         except Fault as wrong:
             self.wrong.append(f"size {number}, {left} bytes left{' with the usual settings' if usual else ''}: {wrong}")
@@ -54,11 +60,22 @@ class Filler:
             running.process.wait()
         self.started = []
 
+    def make_reserve(self, root):
+        """Opens and closes the log while there is space, so that its directory has a reserve."""
+        running = self.start(root)
+        running.close_input()
+        status = running.hear_all()
+        reserve = f"{root}/log/RESERVE"
+        if status != 0 or not os.path.isfile(reserve) or os.path.getsize(reserve) != RESERVE:
+            raise Fault(f"no reserve was made: status {status}: {running.complaint()[-300:]!r}")
+        self.counts["logs with a reserve"] += 1
+
     def life(self, root, left):
         """Three runs over one directory."""
         ballast(root, left)
         before = self.fill(root, [self.room.subject.fresh()])
-        self.counts["opens on a full disk that failed"] += not self.opens(root, before)
+        failed = not self.opens(root, before)
+        self.counts[f"opens {'with' if self.has_reserve else 'without'} a reserve on a full disk that failed"] += failed
         os.remove(f"{root}/ballast")
         before = [self.room.found_state(root, before)]
         ran = self.start(root)
@@ -85,7 +102,7 @@ class Filler:
         self.counts["refused requests"] += heard.refused_places
         self.counts["refused purges"] += heard.refused_purges
         if heard.is_cut or heard.answered() < len(shown) + len(first) or running.told.endswith(LOG_FAILED):
-            self.counts["runs whose log failed"] += 1
+            self.counts[f"runs {'with' if self.has_reserve else 'without'} a reserve whose log failed"] += 1
             running.close_input()
             running.hear_all()
             return heard.candidates(len(running.told))

@@ -1,11 +1,12 @@
 -- Files stay at rest while directories are loaded.
-use Rattle.std.specs.Prelude.{◌≡◌, ℕ, ◌<◌, Some, List, []}
+use Rattle.std.specs.Prelude.{◌≡◌, ℕ, ◌<◌, Some, List, [], Result, Ok, Err, OnOk, OnErr}
 use Rattle.std.proofs.Common.{refl, sym, ◌∙◌, ap, subst, inl, inr}
 use Rattle.std.proofs.lemmas.Bool.{cases_eq}
 use Rattle.raft_log_fs.specs.Disk.{Disk, File, at_rest, with_file}
 use Rattle.raft_log_fs.specs.Calls.{created, with_directory}
 use Rattle.raft_log_fs.proofs.Updates.{file_here, file_apart}
 use Rattle.raft_log_fs_state.specs.declared.storage.Storage.{Storage}
+use Rattle.raft_log_fs_state.specs.Steps.{AddsName, IsSame}
 use Rattle.raft_log_fs_state.specs.Storage.{contents_of}
 use Rattle.raft_log_fs_traced.specs.Device.{Trace, held_by, settled}
 use Rattle.raft_log_fs_traced.specs.WritingBack.{LeavesBytes, RestsAt}
@@ -16,6 +17,12 @@ rest_alike old new same rest = subst (λ (d : Disk). (id : ℕ) → RestsAt id d
 
 pub rest_with_directory : (path : List ℕ) (old new : Storage) → contents_of new ≡ with_directory path (contents_of old) → AllRest old → AllRest new
 rest_with_directory path old new is rest = subst (λ (d : Disk). (id : ℕ) → RestsAt id d) (sym is) rest
+
+-- whether a directory was added or memory ran out
+pub rest_either : {T E : Type 0} (path : List ℕ) (old new : Storage) (result : Result T E)
+    → OnOk result (AddsName (with_directory path) old new) → OnErr result (IsSame old new) → AllRest old → AllRest new
+rest_either path old new (Ok done) ok err rest = rest_with_directory path old new ok.contents rest
+rest_either path old new (Err error) ok err rest = rest_alike old new err.contents rest
 
 -- a disk with one more file at rest
 rest_with_file : (id : ℕ) (bytes : List ℕ) (d : Disk) → ((q : ℕ) → RestsAt q d) → (q : ℕ) → RestsAt q (with_file id (Some (at_rest bytes)) d)

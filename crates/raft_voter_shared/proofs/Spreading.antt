@@ -1,7 +1,7 @@
 -- Where rounds that were served together were taken up to a place of all their requests, each was taken up to a place of
 -- its own.
 use Rattle.std.proofs.Common.{◌≡◌, ◌≤◌, ◌<◌, ℕ, ◌+◌, ◌-◌, Bool, true, false, List, [], ◌∷◌, ◌++◌, length, map, min, not, refl, sym, ap, ◌∙◌, inl, inr, arith}
-use Rattle.std.specs.Prelude.{◌==◌, ◌&&◌, ◌||◌, nat_lt, if◌then◌else◌}
+use Rattle.std.specs.Prelude.{◌==◌, ◌&&◌, ◌||◌, nat_le, nat_lt, if◌then◌else◌}
 use Rattle.std.proofs.lemmas.Bool.{and_parts, cases_lt, le-ltb, lt-ltb, ltb-true}
 use Rattle.std.proofs.lemmas.Bool.Decides.{nat_tests}
 use Rattle.std.proofs.lemmas.List.Folds.{list_any-append}
@@ -113,8 +113,8 @@ later_apart k j (r ∷ rounds) below =
 earlier_apart : (k j low n : ℕ) (ps : List ℕ) → are_rising low n ps ≡ true → k + n ≤ j → is_among (map (λ p. k + p) ps) j ≡ false
 earlier_apart k j low n [] rise past = refl
 earlier_apart k j low n (p ∷ ps) rise past =
-    let both = and_parts _ (are_rising (p + 1) n ps) rise in
-    let below : p < n = ltb-true p n (and_parts _ _ both.0).1 in
+    let both = and_parts (nat_le low p && nat_lt p n) (are_rising (p + 1) n ps) rise in
+    let below : p < n = ltb-true p n (and_parts (nat_le low p) (nat_lt p n) both.0).1 in
     ap (λ (b : Bool). b || is_among (map (λ p. k + p) ps) j) (eq_past (k + p) j (omega (arith, below, past)))
     ∙ earlier_apart k j (p + 1) n ps both.1 past
 

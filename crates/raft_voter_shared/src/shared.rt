@@ -26,8 +26,8 @@ use std::thread;
 ///
 /// The store and its journal are at a desk, under a lock that a caller holds while the store works. Before that, callers
 /// put their rounds into a hall, whose lock nobody holds for long. If nobody leads, a caller does: it has the store serve
-/// rounds that wait, merged into one, and then wakes their callers. So rounds that wait share a sync. Whoever takes both locks
-/// takes that of the desk first.
+/// rounds that wait, merged into one, and then wakes their callers. So rounds that wait share a sync. A thread that
+/// takes both locks takes that of the desk first.
 #[derive(Drop)]
 pub struct SharedStore<R, S: RoundService<R>, L: Opening> {
     alloc: Global,

@@ -1,5 +1,5 @@
 -- How a store came to fail stays so, or is known behind the call in which it failed.
-use Rattle.std.proofs.Common.{◌≡◌, ℕ, Bool, true, false, List, [], ◌∷◌, ◌++◌, length, Option, sym, subst}
+use Rattle.std.proofs.Common.{◌≡◌, ℕ, Bool, true, false, List, ◌++◌, length, Option, sym, subst}
 use Rattle.std.proofs.Math.Logic.{∥∥₁_map}
 use Rattle.raft_voter_messages.specs.declared.request.Request.{Request}
 use Rattle.raft_voter_messages.specs.declared.round.Round.{Round}
@@ -10,10 +10,9 @@ use Rattle.raft_voter.specs.declared.service.Cause.TheVariants.{FileSystem, Memo
 use Rattle.raft_voter_shared.specs.declared.failure.Failure.{Failure}
 use Rattle.raft_voter_shared.specs.Failing.{CameToFailAs}
 use Rattle.raft_voter_shared.specs.Journal.{reached}
-use Rattle.raft_voter_shared.specs.Noting.{cut_off}
 use Rattle.raft_voter_shared.specs.Purging.{KeepsServed, failure_in_purge}
 use Rattle.raft_voter_shared.specs.Standing.{failure_behind, is_last, standing}
-use Rattle.raft_voter_shared.proofs.Journals.{standing-append, standing_here}
+use Rattle.raft_voter_shared.proofs.Journals.{AreCutOff, standing-append, standing_here}
 
 module _ {S : Type 0} (v : Service S) (old new : S) where
   -- what was left of it is left: it came to fail as it had before
@@ -31,29 +30,30 @@ module _ {S : Type 0} (v : Service S) (old new : S) where
         still = λ stood l. stays stood (f.still stood l);
       })
 
-  -- behind a round that was cut off
+  -- behind rounds that were cut off together
   pub cut_why :
-      (rounds : List Round) (requests : List (ℕ × Request)) (cause : Cause) (refused : List ℕ) (failure : Option Failure)
+      (rounds : List Round) (requests : List (ℕ × Request)) (cause : Cause) (refused : List ℕ) (cut : List Round)
+      (failure : Option Failure) → AreCutOff requests refused cut
       → CutsOff v cause refused requests old new → FailsAs cause (length requests) (v.is_failed old) (v.is_failed new)
       → is_last failure rounds ≡ true → (W : World) → (v.is_failed old ≡ false → ∥ IsOpenAt v old (reached W rounds) ∥₁)
       → CameToFailAs v failure (standing W rounds failure) old
-      → CameToFailAs v (failure_behind cause (length rounds) failure)
-      (standing W (rounds ++ cut_off requests refused ∷ []) (failure_behind cause (length rounds) failure)) new
-  cut_why rounds requests cause refused failure cuts fails last W opens why = go cause cuts fails
+      → CameToFailAs v (failure_behind cause (length rounds) (length (rounds ++ cut)) failure)
+      (standing W (rounds ++ cut) (failure_behind cause (length rounds) (length (rounds ++ cut)) failure)) new
+  cut_why rounds requests cause refused cut failure are cuts fails last W opens why = go cause cuts fails
     where
       same : ((stood : CutRound) → v.leaves old stood → v.leaves new stood)
-          → CameToFailAs v failure (standing W (rounds ++ cut_off requests refused ∷ []) failure) new
+          → CameToFailAs v failure (standing W (rounds ++ cut) failure) new
       same stays =
-          subst (λ (cut : CutRound). CameToFailAs v failure cut new) (sym (standing-append W failure rounds requests refused last))
+          subst (λ (stood : CutRound). CameToFailAs v failure stood new) (sym (standing-append W failure rounds requests refused cut are last))
           (still_fails (standing W rounds failure) failure stays why)
 
       go : (cause : Cause) → CutsOff v cause refused requests old new
           → FailsAs cause (length requests) (v.is_failed old) (v.is_failed new)
-          → CameToFailAs v (failure_behind cause (length rounds) failure)
-          (standing W (rounds ++ cut_off requests refused ∷ []) (failure_behind cause (length rounds) failure)) new
+          → CameToFailAs v (failure_behind cause (length rounds) (length (rounds ++ cut)) failure)
+          (standing W (rounds ++ cut) (failure_behind cause (length rounds) (length (rounds ++ cut)) failure)) new
       go FileSystem cuts fails =
-          subst (λ (cut : CutRound). CameToFailAs v (failure_behind FileSystem (length rounds) failure) cut new)
-          (sym (standing_here W rounds requests refused))
+          subst (λ (stood : CutRound). CameToFailAs v (failure_behind FileSystem (length rounds) (length (rounds ++ cut)) failure) stood new)
+          (sym (standing_here W rounds requests refused cut are))
           (λ is. ∥∥₁_map (opens fails.1) (λ at. record {
             before = old;
             after = new;

@@ -31,7 +31,7 @@ put_same W g v same = fun_ext (λ k. grind (arith, nat_tests))
 
 -- Refused places rise.
 
-rising_lower : (ps : List ℕ) (k high : ℕ) → are_rising (k + 1) high ps ≡ true → are_rising k high ps ≡ true
+pub rising_lower : (ps : List ℕ) (k high : ℕ) → are_rising (k + 1) high ps ≡ true → are_rising k high ps ≡ true
 rising_lower [] k high rise = refl
 rising_lower (p ∷ ps) k high rise = grind (arith, nat_tests)
 
@@ -43,13 +43,13 @@ refused_rise k high (r ∷ rs) within =
 -- One place.
 
 -- a place that was refused
-refused_told : (k : ℕ) (ps : List ℕ) (W : World) (q : ℕ × Request) (qs : List (ℕ × Request))
+pub refused_told : (k : ℕ) (ps : List ℕ) (W : World) (q : ℕ × Request) (qs : List (ℕ × Request))
     → replies_from k (k ∷ ps) W (q ∷ qs) ≡ Refused ∷ replies_from (k + 1) ps W qs
 refused_told k ps W q qs =
     let here : is_among (k ∷ ps) k ≡ true = grind (arith, nat_tests) in
     rw here (ap (λ (l : List Reply). Refused ∷ l) (replies_behind qs k (k + 1) ps W (omega arith)))
 
-refused_taken : (k cut : ℕ) (ps : List ℕ) (q : ℕ × Request) (qs : List (ℕ × Request))
+pub refused_taken : (k cut : ℕ) (ps : List ℕ) (q : ℕ × Request) (qs : List (ℕ × Request))
     → taken_from k cut (k ∷ ps) (q ∷ qs) ≡ taken_from (k + 1) cut ps qs
 refused_taken k cut ps q qs =
     let here : is_among (k ∷ ps) k ≡ true = grind (arith, nat_tests) in
@@ -57,11 +57,11 @@ refused_taken k cut ps q qs =
     grind (arith, nat_tests)
 
 -- one that wasn't
-told_there : (k high : ℕ) (ps : List ℕ) (W : World) (q : ℕ × Request) (qs : List (ℕ × Request)) → are_rising (k + 1) high ps ≡ true
+pub told_there : (k high : ℕ) (ps : List ℕ) (W : World) (q : ℕ × Request) (qs : List (ℕ × Request)) → are_rising (k + 1) high ps ≡ true
     → replies_from k ps W (q ∷ qs) ≡ reply (W q.0) q.1 ∷ replies_from (k + 1) ps (after_one W q) qs
 told_there k high ps W q qs rise = rw (among_before ps k (k + 1) high rise (omega arith)) refl
 
-taken_there : (k cut high : ℕ) (ps : List ℕ) (q : ℕ × Request) (qs : List (ℕ × Request)) → are_rising (k + 1) high ps ≡ true → k < cut
+pub taken_there : (k cut high : ℕ) (ps : List ℕ) (q : ℕ × Request) (qs : List (ℕ × Request)) → are_rising (k + 1) high ps ≡ true → k < cut
     → taken_from k cut ps (q ∷ qs) ≡ q ∷ taken_from (k + 1) cut ps qs
 taken_there k cut high ps q qs rise below =
     let apart = among_before ps k (k + 1) high rise (omega arith) in
@@ -93,7 +93,7 @@ alike_refused k q qs ts hs W rest = record {
 }
 
 -- a reply that isn't Refused adds no place
-unrefused : (k : ℕ) (t : Reply) (ts : List Reply) → is_refused t ≡ false → refused_from k (t ∷ ts) ≡ refused_from (k + 1) ts
+pub unrefused : (k : ℕ) (t : Reply) (ts : List Reply) → is_refused t ≡ false → refused_from k (t ∷ ts) ≡ refused_from (k + 1) ts
 unrefused k t ts lives = grind (arith)
 
 -- where it was told, and is handed out
@@ -135,11 +135,11 @@ read_lives t is = grind (arith)
 is_same : (t : Reply) → is_refused t ≡ true → t ≡ Refused
 is_same t is = grind (arith)
 
-either_way : (b : Bool) → (b ≡ true) ⊎ (b ≡ false)
+pub either_way : (b : Bool) → (b ≡ true) ⊎ (b ≡ false)
 either_way true = inl refl
 either_way false = inr refl
 
-refused_adds : (k : ℕ) (t : Reply) (ts : List Reply) → is_refused t ≡ true → refused_from k (t ∷ ts) ≡ k ∷ refused_from (k + 1) ts
+pub refused_adds : (k : ℕ) (t : Reply) (ts : List Reply) → is_refused t ≡ true → refused_from k (t ∷ ts) ≡ k ∷ refused_from (k + 1) ts
 refused_adds k t ts was = grind (arith)
 
 handed_refused : (t h : Reply) → is_refused t ≡ true → HandsOut t h → h ≡ Refused
@@ -180,7 +180,7 @@ module _ (k : ℕ) (q : ℕ × Request) (qs : List (ℕ × Request)) (t h : Repl
 
 -- Several.
 
-length-told : (place : ℕ) (refused : List ℕ) (W : World) (qs : List (ℕ × Request)) → length (replies_from place refused W qs) ≡ length qs
+pub length-told : (place : ℕ) (refused : List ℕ) (W : World) (qs : List (ℕ × Request)) → length (replies_from place refused W qs) ≡ length qs
 length-told place refused W [] = refl
 length-told place refused W (q ∷ qs) =
     grind (arith, nat_tests, length-told (place + 1) refused W qs, length-told (place + 1) refused (after_one W q) qs)

@@ -1,9 +1,10 @@
 -- Records are added to a journal.
-use Rattle.std.proofs.Common.{◌≡◌, ◌≤◌, ℕ, ◌+◌, true, List, [], ◌∷◌, ◌++◌, length, take, drop, Option, None, Some, inl, inr, refl, sym, ap, ◌∙◌, arith}
+use Rattle.std.proofs.Common.{◌≡◌, ◌≤◌, ◌<◌, ℕ, ◌+◌, ◌-◌, true, List, [], ◌∷◌, ◌++◌, length, length-append, length-drop, map, take, drop, Option, None, Some, refl, sym, ap, ◌∙◌, arith}
 use Rattle.std.proofs.Math.Seq.{drop-append_seam, take-append_seam, take-length}
-use Rattle.std.proofs.lemmas.List.{drop-append-le, drop_all, map-append, take-append-le}
+use Rattle.std.specs.Cmp.Derive.{both_true}
+use Rattle.std.proofs.lemmas.List.{drop-append-le, map-append, take-append-le}
 use Rattle.std.proofs.lemmas.List.Folds.{list_all-append}
-use Rattle.std.proofs.lemmas.Bool.{cases_lt}
+use Rattle.std.proofs.lemmas.Bool.{and_parts, le-leb, leb-true, lt-ltb, ltb-true}
 use Rattle.std.proofs.lemmas.Bool.Decides.{nat_tests}
 use Rattle.raft_voter_messages.specs.declared.reply.Reply.{Reply}
 use Rattle.raft_voter_messages.specs.declared.request.Request.{Request}
@@ -12,33 +13,35 @@ use Rattle.raft_voter_messages.specs.declared.round.Round.{Round}
 use Rattle.raft_voter.specs.Rounds.{World, after, after_one, are_rising, replies_from, taken_from}
 use Rattle.raft_voter.specs.Service.{Answers, refused_from, uncut}
 use Rattle.raft_voter_shared.specs.declared.failure.Failure.{Failure}
-use Rattle.raft_voter_shared.specs.declared.failure.Failure.TheVariants.{InRound, InPurge}
+use Rattle.raft_voter_shared.specs.declared.failure.Failure.TheVariants.{InRounds, InPurge}
 use Rattle.raft_voter_shared.specs.Journal.{IsLegal, behind_outcome, owed, owed_by, reached, said}
-use Rattle.raft_voter_shared.specs.Standing.{are_cut, cut_first, is_cut, is_last, standing}
-use Rattle.raft_voter_shared.specs.Noting.{answered, cut_off}
+use Rattle.raft_voter_shared.specs.Standing.{are_cut, between, cut_together, is_cut, is_last, refused_of, requests_of, standing}
+use Rattle.raft_voter_shared.specs.Noting.{answered}
 
--- the voters behind one record more
+-- the voters behind more records
 pub reached-append :
-    (W : World) (rounds : List Round) (r : Round)
-    → reached W (rounds ++ r ∷ []) ≡ behind_outcome r.outcome (reached W rounds) r
-reached-append W [] r = refl
-reached-append W (x ∷ xs) r = reached-append (behind_outcome x.outcome W x) xs r
+    (W : World) (rounds more : List Round) → reached W (rounds ++ more) ≡ reached (reached W rounds) more
+reached-append W [] more = refl
+reached-append W (x ∷ xs) more = reached-append (behind_outcome x.outcome W x) xs more
 
--- what voters owe one record more
+-- what voters owe more records
 owed-append :
-    (W : World) (rounds : List Round) (r : Round)
-    → owed W (rounds ++ r ∷ []) ≡ owed W rounds ++ owed_by r.outcome (reached W rounds) r ∷ []
-owed-append W [] r = refl
-owed-append W (x ∷ xs) r =
-    ap (λ os. owed_by x.outcome W x ∷ os) (owed-append (behind_outcome x.outcome W x) xs r)
+    (W : World) (rounds more : List Round) → owed W (rounds ++ more) ≡ owed W rounds ++ owed (reached W rounds) more
+owed-append W [] more = refl
+owed-append W (x ∷ xs) more = ap (λ os. owed_by x.outcome W x ∷ os) (owed-append (behind_outcome x.outcome W x) xs more)
 
--- a record that says what is owed makes a legal history longer
+-- a legal history goes on with one that begins behind it
 pub legal-append :
-    (W : World) (rounds : List Round) (r : Round) → IsLegal W rounds
-    → said r ≡ owed_by r.outcome (reached W rounds) r → IsLegal W (rounds ++ r ∷ [])
-legal-append W rounds r legal says =
-    map-append said rounds (r ∷ []) ∙ ap (λ xs. xs ++ said r ∷ []) legal
-    ∙ ap (λ o. owed W rounds ++ o ∷ []) says ∙ sym (owed-append W rounds r)
+    (W : World) (rounds more : List Round) → IsLegal W rounds → IsLegal (reached W rounds) more → IsLegal W (rounds ++ more)
+legal-append W rounds more legal goes_on =
+    map-append said rounds more ∙ ap (λ xs. xs ++ map said more) legal
+    ∙ ap (λ os. owed W rounds ++ os) goes_on ∙ sym (owed-append W rounds more)
+
+-- a record that says what is owed, and a history that begins behind it
+pub legal_first :
+    (W : World) (r : Round) (rounds : List Round) → said r ≡ owed_by r.outcome W r
+    → IsLegal (behind_outcome r.outcome W r) rounds → IsLegal W (r ∷ rounds)
+legal_first W r rounds says legal = ap (λ o. o ∷ map said rounds) says ∙ ap (λ os. owed_by r.outcome W r ∷ os) legal
 
 -- there is a reply to each request
 length-replies_from :
@@ -75,65 +78,84 @@ pub answered_reaches :
 answered_reaches W X requests replies a =
     a.taken ∙ ap (λ ps. after W (taken_from 0 (length requests) ps requests)) (sym (answered_places W X requests replies a))
 
--- cut rounds with one more are cut rounds, of which the first is the same
-are_cut-append :
-    (rounds : List Round) (r : Round) → are_cut rounds ≡ true → is_cut r.outcome ≡ true
-    → are_cut (rounds ++ r ∷ []) ≡ true
-are_cut-append [] r all cut = absurd (cc)
-are_cut-append (x ∷ xs) r all cut =
-    let split = list_all-append (λ (round : Round). is_cut round.outcome) (x ∷ xs) (r ∷ []) in
-    split ∙ grind arith
+-- Rounds that were cut off together.
 
-cut_first-append :
-    (W : World) (rounds : List Round) (r : Round) → are_cut rounds ≡ true
-    → cut_first W (rounds ++ r ∷ []) ≡ cut_first W rounds
-cut_first-append W [] r cut = absurd (cc)
-cut_first-append W (x ∷ xs) r cut = refl
+-- these records are of rounds that were cut off together, with these requests and refused positions; no voters took them
+pub record AreCutOff (requests : List (ℕ × Request)) (refused : List ℕ) (cuts : List Round) : Type 0 where
+  pub some : 0 < length cuts
+  pub cut : are_cut cuts ≡ true
+  pub asked : requests_of cuts ≡ requests
+  pub places : refused_of 0 cuts ≡ refused
+  pub legal : (W : World) → IsLegal W cuts
+  pub stays : (W : World) → reached W cuts ≡ W
 
--- a place behind which rounds were cut off is one of them
-within : (place : ℕ) (rounds : List Round) → are_cut (drop place rounds) ≡ true → place ≤ length rounds
-within place rounds cut = elim (cases_lt place (length rounds)) [
-  | inl below ↦ omega arith
-  | inr past ↦ absurd (none (sym (ap are_cut (drop_all place rounds past)) ∙ cut))
-]
-  where
-    none : are_cut [] ≡ true → ⊥
-    none h = absurd (cc)
+-- where a store failed in rounds, what the journal has of them
+pub last_facts :
+    (first end : ℕ) (rounds : List Round) → is_last (Some (InRounds first end)) rounds ≡ true
+    → (first < end) × (end ≤ length rounds) × (are_cut (drop first rounds) ≡ true)
+last_facts first end rounds last =
+    let both = and_parts _ (are_cut (drop first rounds)) last in
+    let ends = and_parts _ _ both.0 in
+    (ltb-true first end ends.0, leb-true end (length rounds) ends.1, both.1)
 
--- where a store failed in a round that was cut off, it is that round still behind another one that was
+made_last :
+    (first end : ℕ) (rounds : List Round) → first < end → end ≤ length rounds → are_cut (drop first rounds) ≡ true
+    → is_last (Some (InRounds first end)) rounds ≡ true
+made_last first end rounds some within cut =
+    both_true (both_true (lt-ltb first end some) (le-leb end (length rounds) within)) cut
+
+are_cut-append : (rounds more : List Round) → are_cut rounds ≡ true → are_cut more ≡ true → are_cut (rounds ++ more) ≡ true
+are_cut-append rounds more all cut =
+    list_all-append (λ (round : Round). is_cut round.outcome) rounds more ∙ both_true all cut
+
+-- where a store failed in rounds that were cut off, it is those still behind others that were
 pub last-append :
-    (failure : Option Failure) (rounds : List Round) (r : Round) → is_last failure rounds ≡ true
-    → is_cut r.outcome ≡ true → is_last failure (rounds ++ r ∷ []) ≡ true
-last-append (Some (InRound place)) rounds r last cut =
-    ap are_cut (drop-append-le place rounds (r ∷ []) (within place rounds last))
-    ∙ are_cut-append (drop place rounds) r last cut
-last-append (Some InPurge) rounds r last cut = refl
-last-append None rounds r last cut = refl
+    (failure : Option Failure) (rounds more : List Round) → is_last failure rounds ≡ true
+    → are_cut more ≡ true → is_last failure (rounds ++ more) ≡ true
+last-append (Some (InRounds first end)) rounds more last cut =
+    let (some, within, all) = last_facts first end rounds last in
+    made_last first end (rounds ++ more) some (omega (arith, within, length-append rounds more))
+    (ap are_cut (drop-append-le first rounds more (omega (arith, some, within))) ∙ are_cut-append (drop first rounds) more all cut)
+last-append (Some InPurge) rounds more last cut = refl
+last-append None rounds more last cut = refl
 
 pub standing-append :
     (W : World) (failure : Option Failure) (rounds : List Round) (requests : List (ℕ × Request)) (refused : List ℕ)
-    → is_last failure rounds ≡ true
-    → standing W (rounds ++ cut_off requests refused ∷ []) failure ≡ standing W rounds failure
-standing-append W (Some (InRound place)) rounds requests refused last =
-    let r = cut_off requests refused in
-    let inside = within place rounds last in
-    ap (λ rs. cut_first (reached W rs) (drop place (rounds ++ r ∷ []))) (take-append-le place rounds (r ∷ []) inside)
-    ∙ ap (cut_first (reached W (take place rounds))) (drop-append-le place rounds (r ∷ []) inside)
-    ∙ cut_first-append (reached W (take place rounds)) (drop place rounds) r last
-standing-append W (Some InPurge) rounds requests refused last = ap uncut (reached-append W rounds (cut_off requests refused))
-standing-append W None rounds requests refused last = ap uncut (reached-append W rounds (cut_off requests refused))
+    (cuts : List Round) → AreCutOff requests refused cuts → is_last failure rounds ≡ true
+    → standing W (rounds ++ cuts) failure ≡ standing W rounds failure
+standing-append W (Some (InRounds first end)) rounds requests refused cuts are last =
+    let (some, within, all) = last_facts first end rounds last in
+    let inside : first ≤ length rounds = omega (arith, some, within) in
+    let fits : end - first ≤ length (drop first rounds) = omega (arith, length-drop first rounds, within) in
+    let same : between first end (rounds ++ cuts) ≡ between first end rounds =
+    ap (take (end - first)) (drop-append-le first rounds cuts inside) ∙ take-append-le (end - first) (drop first rounds) cuts fits in
+    ap (λ (rs : List Round). cut_together (reached W rs) (between first end (rounds ++ cuts))) (take-append-le first rounds cuts inside)
+    ∙ ap (cut_together (reached W (take first rounds))) same
+standing-append W (Some InPurge) rounds requests refused cuts are last =
+    ap uncut (reached-append W rounds cuts ∙ are.stays (reached W rounds))
+standing-append W None rounds requests refused cuts are last =
+    ap uncut (reached-append W rounds cuts ∙ are.stays (reached W rounds))
 
--- a store that fails in the last round stands behind that one
+-- a store that fails in the last rounds stands behind those
 pub last_here :
-    (rounds : List Round) (requests : List (ℕ × Request)) (refused : List ℕ)
-    → is_last (Some (InRound (length rounds))) (rounds ++ cut_off requests refused ∷ []) ≡ true
-last_here rounds requests refused = ap are_cut (drop-append_seam rounds (cut_off requests refused ∷ []))
+    (rounds : List Round) (requests : List (ℕ × Request)) (refused : List ℕ) (cuts : List Round)
+    → AreCutOff requests refused cuts → is_last (Some (InRounds (length rounds) (length (rounds ++ cuts)))) (rounds ++ cuts) ≡ true
+last_here rounds requests refused cuts are =
+    made_last (length rounds) (length (rounds ++ cuts)) (rounds ++ cuts) (omega (arith, are.some, length-append rounds cuts)) (omega arith)
+    (ap are_cut (drop-append_seam rounds cuts) ∙ are.cut)
 
 pub standing_here :
-    (W : World) (rounds : List Round) (requests : List (ℕ × Request)) (refused : List ℕ)
-    → standing W (rounds ++ cut_off requests refused ∷ []) (Some (InRound (length rounds)))
+    (W : World) (rounds : List Round) (requests : List (ℕ × Request)) (refused : List ℕ) (cuts : List Round)
+    → AreCutOff requests refused cuts
+    → standing W (rounds ++ cuts) (Some (InRounds (length rounds) (length (rounds ++ cuts))))
     ≡ record { before = reached W rounds; requests = requests; refused = refused }
-standing_here W rounds requests refused =
-    let r = cut_off requests refused in
-    ap (λ rs. cut_first (reached W rs) (drop (length rounds) (rounds ++ r ∷ []))) (take-append_seam rounds (r ∷ []))
-    ∙ ap (cut_first (reached W rounds)) (drop-append_seam rounds (r ∷ []))
+standing_here W rounds requests refused cuts are =
+    let many : length (rounds ++ cuts) - length rounds ≡ length cuts = omega (arith, length-append rounds cuts) in
+    let same : between (length rounds) (length (rounds ++ cuts)) (rounds ++ cuts) ≡ cuts =
+    ap (take (length (rounds ++ cuts) - length rounds)) (drop-append_seam rounds cuts)
+    ∙ ap (λ (n : ℕ). take n cuts) many ∙ take-length cuts in
+    ap (λ (rs : List Round). cut_together (reached W rs) (between (length rounds) (length (rounds ++ cuts)) (rounds ++ cuts)))
+    (take-append_seam rounds cuts)
+    ∙ ap (cut_together (reached W rounds)) same
+    ∙ ap (λ (qs : List (ℕ × Request)). record { before = reached W rounds; requests = qs; refused = refused_of 0 cuts }) are.asked
+    ∙ ap (λ (ps : List ℕ). record { before = reached W rounds; requests = requests; refused = ps }) are.places

@@ -1,22 +1,26 @@
 -- Journals lead from the voters that a store served to those that it left.
-use Rattle.std.proofs.Common.{◌≡◌, ◌≤◌, ℕ, true, List, [], ◌∷◌, ◌++◌, length, take, drop, map, Option, None, Some, unwrap_or, refl, sym, ap, subst, ◌∙◌, arith}
+use Rattle.std.proofs.Common.{◌≡◌, ◌≤◌, ℕ, ◌+◌, ◌-◌, true, List, [], ◌∷◌, ◌++◌, length, min, take, drop, map, Option, None, Some, unwrap_or, refl, sym, ap, subst, ◌∙◌, arith}
 use Rattle.std.proofs.Math.Logic.{∥∥₁_map}
 use Rattle.std.proofs.lemmas.Bool.{and_parts, false≢true}
-use Rattle.std.proofs.lemmas.List.{take-append-drop}
+use Rattle.std.proofs.lemmas.List.{drop-drop, take-append-drop}
+use Rattle.std.proofs.lemmas.List.Folds.{list_all-append}
 use Rattle.std.specs.List.{list_all}
 use Rattle.raft_voter_messages.specs.declared.request.Request.{Request}
 use Rattle.raft_voter_messages.specs.declared.round.Outcome.{Outcome}
 use Rattle.raft_voter_messages.specs.declared.round.Outcome.TheVariants.{Answered, Cut}
 use Rattle.raft_voter_messages.specs.declared.round.Round.{Round}
-use Rattle.raft_voter.specs.Rounds.{Leads, World, after, fresh_world, taken_from}
+use Rattle.raft_voter.specs.Rounds.{Leads, World, after, are_rising, fresh_world, taken_from}
 use Rattle.raft_voter.specs.Service.{Files, Service}
 use Rattle.raft_voter.proofs.Joining.{rounds_join}
 use Rattle.raft_voter.proofs.Places.{taken_none}
 use Rattle.raft_voter_shared.specs.declared.failure.Failure.{Failure}
-use Rattle.raft_voter_shared.specs.declared.failure.Failure.TheVariants.{InRound, InPurge}
+use Rattle.raft_voter_shared.specs.declared.failure.Failure.TheVariants.{InRounds, InPurge}
 use Rattle.raft_voter_shared.specs.Journal.{IsLegal, behind_outcome, owed_by, reached, said}
-use Rattle.raft_voter_shared.specs.Openings.{OpeningsAreExplained, OpeningsGoOn, OpeningsLead, TookUpTo, all_cuts, all_rounds, cuts_at, first_taken, own_cut, untaken}
-use Rattle.raft_voter_shared.specs.Standing.{are_cut, cut_first, is_cut, is_last, standing}
+use Rattle.raft_voter_shared.specs.Openings.{OpeningsAreExplained, OpeningsGoOn, OpeningsLead, TookUpTo, all_cuts, all_rounds, cuts_at, own_cut, spread, untaken}
+use Rattle.raft_voter_shared.specs.Standing.{are_cut, between, is_cut, is_last, refused_of, requests_of, standing}
+use Rattle.raft_voter_shared.proofs.Journals.{last_facts}
+use Rattle.raft_voter_shared.proofs.Splitting.{after-append}
+use Rattle.raft_voter_shared.proofs.Spreading.{taken_parts}
 
 abbrev round_of : List (ℕ × Request) → List ℕ → Outcome → Round
 round_of requests refused outcome = record { requests = requests; refused = refused; outcome = outcome }
@@ -95,17 +99,34 @@ none_lead W X (r ∷ rounds) legal cut =
     (subst (λ (Y : World). Leads X (r ∷ []) (own_cut r.outcome 0) Y) none first.0)
     (none_lead (behind_outcome r.outcome W r) X rounds (others_say W r rounds legal) parts.1)
 
--- the first was taken up to a place, and the others weren't
-first_leads :
-    (W X : World) (rounds : List Round) (place : ℕ) → IsLegal W rounds → are_cut rounds ≡ true
-    → TookUpTo (cut_first W rounds) X place → Leads W rounds (first_taken place rounds) X
-first_leads W X [] place legal cut took = absurd (false≢true cut)
-first_leads W X (r ∷ rounds) place legal cut took =
+says_rising :
+    (o : Outcome) (W : World) (requests : List (ℕ × Request)) (refused : List ℕ)
+    → said (round_of requests refused o) ≡ owed_by o W (round_of requests refused o)
+    → are_rising 0 (length requests) refused ≡ true
+says_rising (Answered replies) W requests refused says = ap (λ p. p.0) says
+says_rising Cut W requests refused says = ap (λ p. p.0) says
+
+-- where all were cut off together, they lead to the voters that took all their requests up to a place
+spread_leads :
+    (k place : ℕ) (W V : World) (rounds : List Round) → IsLegal W rounds → are_cut rounds ≡ true
+    → Leads V rounds (spread (place - k) rounds) (after V (taken_from k place (refused_of k rounds) (requests_of rounds)))
+spread_leads k place W V [] legal cut = record { explained = refl; reached = refl }
+spread_leads k place W V (r ∷ rounds) legal cut =
+    let n : ℕ = length r.requests in
     let parts = and_parts (is_cut r.outcome) _ cut in
-    let first = cut_leads r.outcome W W r.requests r.refused place (first_says W r rounds legal) parts.0 took.0 in
-    rounds_join W X X (r ∷ []) rounds (own_cut r.outcome place) (untaken rounds)
-    (subst (λ (Y : World). Leads W (r ∷ []) (own_cut r.outcome place) Y) (sym took.1) first.0)
-    (none_lead (behind_outcome r.outcome W r) X rounds (others_say W r rounds legal) parts.1)
+    let says = first_says W r rounds legal in
+    let up_to : ℕ = min (place - k) n in
+    let V' : World = after V (taken_from 0 up_to r.refused r.requests) in
+    let first = cut_leads r.outcome W V r.requests r.refused up_to says parts.0 (omega arith) in
+    let rest = spread_leads (k + n) place (behind_outcome r.outcome W r) V' rounds (others_say W r rounds legal) parts.1 in
+    let left : place - (k + n) ≡ place - k - n = omega arith in
+    let X : World = after V' (taken_from (k + n) place (refused_of (k + n) rounds) (requests_of rounds)) in
+    let world : after V (taken_from k place (refused_of k (r ∷ rounds)) (requests_of (r ∷ rounds))) ≡ X =
+    ap (after V) (taken_parts k place r rounds (says_rising r.outcome W r.requests r.refused says))
+    ∙ after-append V (taken_from 0 up_to r.refused r.requests) (taken_from (k + n) place (refused_of (k + n) rounds) (requests_of rounds)) in
+    subst (λ (Y : World). Leads V (r ∷ rounds) (spread (place - k) (r ∷ rounds)) Y) (sym world)
+    (rounds_join V V' X (r ∷ []) rounds (own_cut r.outcome up_to) (spread (place - k - n) rounds) first.0
+    (subst (λ (j : ℕ). Leads V' rounds (spread j rounds) X) left rest))
 
 -- nothing was cut off, so nothing more was taken
 stays : (W X : World) (place : ℕ) → TookUpTo (record { before = W; requests = []; refused = [] }) X place → X ≡ W
@@ -116,13 +137,31 @@ journal_leads :
     (W X : World) (rounds : List Round) (failure : Option Failure) (place : ℕ) → IsLegal W rounds
     → is_last failure rounds ≡ true → TookUpTo (standing W rounds failure) X place
     → Leads W rounds (cuts_at rounds failure place) X
-journal_leads W X rounds (Some (InRound at)) place legal last took =
-    let whole = take-append-drop at rounds in
-    let parts = legal_parts W (take at rounds) (drop at rounds) (subst (λ (rs : List Round). IsLegal W rs) (sym whole) legal) in
-    subst (λ (rs : List Round). Leads W rs (untaken (take at rounds) ++ first_taken place (drop at rounds)) X) whole
-    (rounds_join W (reached W (take at rounds)) X (take at rounds) (drop at rounds) (untaken (take at rounds))
-    (first_taken place (drop at rounds)) (legal_leads W (take at rounds) parts.0)
-    (first_leads (reached W (take at rounds)) X (drop at rounds) place parts.1 last took))
+journal_leads W X rounds (Some (InRounds first end)) place legal last took =
+    let (some, inside, cut) = last_facts first end rounds last in
+    let before : List Round = take first rounds in
+    let failed : List Round = between first end rounds in
+    let later : List Round = drop end rounds in
+    let V : World = reached W before in
+    let whole : before ++ drop first rounds ≡ rounds = take-append-drop first rounds in
+    let end_is : first + (end - first) ≡ end = omega (arith, some) in
+    let rest_is : drop (end - first) (drop first rounds) ≡ later = drop-drop (end - first) first rounds ∙ ap (λ (n : ℕ). drop n rounds) end_is in
+    let parted : failed ++ later ≡ drop first rounds = ap (λ (l : List Round). failed ++ l) (sym rest_is) ∙ take-append-drop (end - first) (drop first rounds) in
+    let parts = legal_parts W before (drop first rounds) (subst (λ (rs : List Round). IsLegal W rs) (sym whole) legal) in
+    let halves = legal_parts V failed later (subst (λ (rs : List Round). IsLegal V rs) (sym parted) parts.1) in
+    let cuts = and_parts (are_cut failed) (are_cut later) (sym (list_all-append (λ (r : Round). is_cut r.outcome) failed later) ∙ ap are_cut parted ∙ cut) in
+    let none : place - 0 ≡ place = omega arith in
+    let spread_to : Leads V failed (spread place failed) X =
+    subst (λ (Y : World). Leads V failed (spread place failed) Y) (sym took.1)
+    (subst (λ (j : ℕ). Leads V failed (spread j failed) (after V (taken_from 0 place (refused_of 0 failed) (requests_of failed)))) none
+    (spread_leads 0 place V V failed halves.0 cuts.0)) in
+    let behind : Leads V (failed ++ later) (spread place failed ++ untaken later) X =
+    rounds_join V X X failed later (spread place failed) (untaken later) spread_to
+    (none_lead (reached V failed) X later halves.1 cuts.1) in
+    subst (λ (rs : List Round). Leads W rs (untaken before ++ (spread place failed ++ untaken later)) X) whole
+    (rounds_join W V X before (drop first rounds) (untaken before) (spread place failed ++ untaken later)
+    (legal_leads W before parts.0)
+    (subst (λ (rs : List Round). Leads V rs (spread place failed ++ untaken later) X) parted behind))
 journal_leads W X rounds (Some InPurge) place legal last took =
     subst (λ (Y : World). Leads W rounds (untaken rounds) Y) (sym (stays (reached W rounds) X place took)) (legal_leads W rounds legal)
 journal_leads W X rounds None place legal last took =

@@ -1,5 +1,9 @@
 pub mod Handing
 pub mod Journals
+pub mod Splitting
+pub mod Cutting
+pub mod Spreading
+pub mod Noted
 pub mod Steps
 pub mod Requests
 pub mod Right

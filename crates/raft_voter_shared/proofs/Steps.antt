@@ -1,7 +1,12 @@
--- What a round makes of a store and its journal.
-use Rattle.std.proofs.Common.{◌≡◌, ℕ, Bool, true, false, is_some, List, [], ◌∷◌, ◌++◌, length, Option, None, refl, sym, ap, subst, ◌∙◌}
+-- What rounds that are served together make of a store and its journal.
+use Rattle.std.proofs.Common.{◌≡◌, ◌≤◌, ◌<◌, ℕ, Bool, true, false, is_some, List, [], ◌∷◌, ◌++◌, length, map, sum, Option, None, refl, sym, ap, subst, ◌∙◌, arith}
+use Rattle.std.specs.Prelude.{Result, Ok, Err, IfErr, OnOk}
+use Rattle.std.specs.List.{All}
 use Rattle.std.proofs.Math.Logic.{∥∥₁_elim, ∥∥₁_map}
 use Rattle.std.proofs.Props.{props}
+use Rattle.std.proofs.lemmas.Bool.{le-leb, leb-true, lt-ltb, ltb-true}
+use Rattle.std.proofs.lemmas.List.Elements.{All-cons, All-head, All-nil, All-tail, All-weaker}
+use Rattle.std.proofs.lemmas.List.Sums.{sum_by-cons}
 use Rattle.raft_voter_messages.specs.declared.reply.Reply.{Reply}
 use Rattle.raft_voter_messages.specs.declared.request.Request.{Request}
 use Rattle.raft_voter_messages.specs.declared.round.Round.{Round}
@@ -14,40 +19,50 @@ use Rattle.raft_voter_shared.specs.Journal.{IsLegal, reached}
 use Rattle.raft_voter_shared.specs.Standing.{failure_behind, is_last, standing}
 use Rattle.raft_voter_shared.specs.declared.receipt.SharedFault.{SharedFault}
 use Rattle.raft_voter_shared.specs.declared.receipt.SharedFault.TheVariants as faults
-use Rattle.raft_voter_shared.specs.Noting.{GivesNoReceipt, ToldOfLength, answered, cut_off}
-use Rattle.raft_voter_shared.proofs.Journals.{answered_reaches, answered_says, last-append, last_here, legal-append, reached-append, standing-append, standing_here}
+use Rattle.raft_voter_shared.specs.declared.done.Told.{Told}
+use Rattle.raft_voter_shared.specs.Noting.{ToldOfLength, answered_each, may_cut, may_tell}
+use Rattle.raft_voter_shared.proofs.Journals.{AreCutOff, last-append, last_here, legal-append, reached-append, standing-append, standing_here}
+use Rattle.raft_voter_shared.proofs.Splitting.{each_is_legal}
 
 -- a legal history is a fact
 pub legal_prop : (W : World) (rounds : List Round) → IsProp (IsLegal W rounds)
 legal_prop W rounds = Prim.hlevel props
 
+-- where numbers add up to so many, none is more
+pub each_within : (counts : List ℕ) (most : ℕ) → sum counts ≤ most → All (λ n. n ≤ most) counts
+each_within [] most within = All-nil (λ (n : ℕ). n ≤ most)
+each_within (n ∷ counts) most within =
+    let is = sum_by-cons (λ (m : ℕ). m) n counts in
+    All-cons (λ (m : ℕ). m ≤ most) n counts (omega (arith, is, within)) (each_within counts most (omega (arith, is, within)))
+
 module _ {S : Type 0} (v : Service S) (old new : S) (rounds : List Round) (requests : List (ℕ × Request)) where
   -- Answered rounds.
 
   pub answered_opens :
-      (replies : List Reply) → AnswersRound v requests replies old new → (W : World)
-      → ∥ IsOpenAt v old (reached W rounds) ∥₁
-      → ∥ IsOpenAt v new (reached W (rounds ++ answered requests replies ∷ [])) ∥₁
-  answered_opens replies answers W opens =
+      (counts : List ℕ) (replies : List Reply) → sum counts ≡ length requests → AnswersRound v requests replies old new
+      → (W : World) → ∥ IsOpenAt v old (reached W rounds) ∥₁
+      → ∥ IsOpenAt v new (reached W (rounds ++ answered_each counts requests replies)) ∥₁
+  answered_opens counts replies all answers W opens =
       ∥∥₁_map opens (λ o.
       let x = answers (reached W rounds) o in
+      let each = each_is_legal counts (reached W rounds) x.0 requests replies all x.1 in
       subst (λ (X : World). IsOpenAt v new X)
-      (answered_reaches (reached W rounds) x.0 requests replies x.1 ∙ sym (reached-append W rounds (answered requests replies)))
+      (sym each.1 ∙ sym (reached-append W rounds (answered_each counts requests replies)))
       x.2)
 
   pub answered_legal :
-      (replies : List Reply) → AnswersRound v requests replies old new → (W : World)
-      → ∥ IsOpenAt v old (reached W rounds) ∥₁ → IsLegal W rounds
-      → IsLegal W (rounds ++ answered requests replies ∷ [])
-  answered_legal replies answers W opens legal =
-      ∥∥₁_elim opens (legal_prop W (rounds ++ answered requests replies ∷ [])) (λ o.
+      (counts : List ℕ) (replies : List Reply) → sum counts ≡ length requests → AnswersRound v requests replies old new
+      → (W : World) → ∥ IsOpenAt v old (reached W rounds) ∥₁ → IsLegal W rounds
+      → IsLegal W (rounds ++ answered_each counts requests replies)
+  answered_legal counts replies all answers W opens legal =
+      ∥∥₁_elim opens (legal_prop W (rounds ++ answered_each counts requests replies)) (λ o.
       let x = answers (reached W rounds) o in
-      legal-append W rounds (answered requests replies) legal
-      (answered_says (reached W rounds) x.0 requests replies x.1))
+      legal-append W rounds (answered_each counts requests replies) legal
+      (each_is_legal counts (reached W rounds) x.0 requests replies all x.1).0)
 
   -- Rounds that were cut off.
 
-  cut_rising :
+  pub cut_rising :
       (cause : Cause) (refused : List ℕ) → CutsOff v cause refused requests old new
       → are_rising 0 (length requests) refused ≡ true
   cut_rising FileSystem refused cuts = cuts.rising
@@ -56,18 +71,18 @@ module _ {S : Type 0} (v : Service S) (old new : S) (rounds : List Round) (reque
   cut_rising TooLong refused cuts = ap (are_rising 0 (length requests)) cuts.none
 
   pub cut_legal :
-      (cause : Cause) (refused : List ℕ) → CutsOff v cause refused requests old new → (W : World)
-      → IsLegal W rounds → IsLegal W (rounds ++ cut_off requests refused ∷ [])
-  cut_legal cause refused cuts W legal =
-      legal-append W rounds (cut_off requests refused) legal (ap (λ b. (b, None)) (cut_rising cause refused cuts))
+      (refused : List ℕ) (cut : List Round) → AreCutOff requests refused cut → (W : World)
+      → IsLegal W rounds → IsLegal W (rounds ++ cut)
+  cut_legal refused cut are W legal = legal-append W rounds cut legal (are.legal (reached W rounds))
 
   pub cut_opens :
-      (cause : Cause) (refused : List ℕ) → CutsOff v cause refused requests old new
+      (cause : Cause) (refused : List ℕ) (cut : List Round) → AreCutOff requests refused cut
+      → CutsOff v cause refused requests old new
       → FailsAs cause (length requests) (v.is_failed old) (v.is_failed new) → (W : World)
       → (v.is_failed old ≡ false → ∥ IsOpenAt v old (reached W rounds) ∥₁)
-      → v.is_failed new ≡ false → ∥ IsOpenAt v new (reached W (rounds ++ cut_off requests refused ∷ [])) ∥₁
-  cut_opens cause refused cuts fails W opens alive =
-      subst (λ (X : World). ∥ IsOpenAt v new X ∥₁) (sym (reached-append W rounds (cut_off requests refused)))
+      → v.is_failed new ≡ false → ∥ IsOpenAt v new (reached W (rounds ++ cut)) ∥₁
+  cut_opens cause refused cut are cuts fails W opens alive =
+      subst (λ (X : World). ∥ IsOpenAt v new X ∥₁) (sym (reached-append W rounds cut ∙ are.stays (reached W rounds)))
       (go cause cuts fails)
     where
       go : (cause : Cause) → CutsOff v cause refused requests old new
@@ -78,62 +93,93 @@ module _ {S : Type 0} (v : Service S) (old new : S) (rounds : List Round) (reque
       go TooLong cuts fails = ∥∥₁_map (opens (sym fails.1 ∙ alive)) (cuts.served (reached W rounds))
 
   pub cut_leaves :
-      (cause : Cause) (refused : List ℕ) (failure : Option Failure) → CutsOff v cause refused requests old new
+      (cause : Cause) (refused : List ℕ) (cut : List Round) (failure : Option Failure) → AreCutOff requests refused cut
+      → CutsOff v cause refused requests old new
       → FailsAs cause (length requests) (v.is_failed old) (v.is_failed new) → is_last failure rounds ≡ true → (W : World)
       → (v.is_failed old ≡ false → ∥ IsOpenAt v old (reached W rounds) ∥₁)
       → ∥ v.leaves old (standing W rounds failure) ∥₁
-      → ∥ v.leaves new (standing W (rounds ++ cut_off requests refused ∷ []) (failure_behind cause (length rounds) failure)) ∥₁
-  cut_leaves cause refused failure cuts fails last W opens left = go cause cuts fails
+      → ∥ v.leaves new (standing W (rounds ++ cut) (failure_behind cause (length rounds) (length (rounds ++ cut)) failure)) ∥₁
+  cut_leaves cause refused cut failure are cuts fails last W opens left = go cause cuts fails
     where
-      same : ((cut : CutRound) → v.leaves old cut → v.leaves new cut)
-          → ∥ v.leaves new (standing W (rounds ++ cut_off requests refused ∷ []) failure) ∥₁
+      same : ((stood : CutRound) → v.leaves old stood → v.leaves new stood)
+          → ∥ v.leaves new (standing W (rounds ++ cut) failure) ∥₁
       same stays =
-          subst (λ (cut : CutRound). ∥ v.leaves new cut ∥₁) (sym (standing-append W failure rounds requests refused last))
+          subst (λ (stood : CutRound). ∥ v.leaves new stood ∥₁) (sym (standing-append W failure rounds requests refused cut are last))
           (∥∥₁_map left (stays (standing W rounds failure)))
 
       go : (cause : Cause) → CutsOff v cause refused requests old new
           → FailsAs cause (length requests) (v.is_failed old) (v.is_failed new)
-          → ∥ v.leaves new (standing W (rounds ++ cut_off requests refused ∷ []) (failure_behind cause (length rounds) failure)) ∥₁
+          → ∥ v.leaves new (standing W (rounds ++ cut) (failure_behind cause (length rounds) (length (rounds ++ cut)) failure)) ∥₁
       go FileSystem cuts fails =
-          subst (λ (cut : CutRound). ∥ v.leaves new cut ∥₁) (sym (standing_here W rounds requests refused))
+          subst (λ (stood : CutRound). ∥ v.leaves new stood ∥₁) (sym (standing_here W rounds requests refused cut are))
           (∥∥₁_map (opens fails.1) (cuts.left (reached W rounds)))
       go Memory cuts fails = same cuts.left
       go Failed cuts fails = same cuts.left
       go TooLong cuts fails = same cuts.left
 
--- how a store came to fail is known behind a round that was cut off as it was before
+-- how a store came to fail is known behind rounds that were cut off as it was before
 pub cut_alive :
-    (cause : Cause) (count place : ℕ) (failure : Option Failure) (before now : Bool) → FailsAs cause count before now
-    → (before ≡ false → failure ≡ None) → now ≡ false → failure_behind cause place failure ≡ None
-cut_alive FileSystem count place failure before now fails none alive = absurd (cc)
-cut_alive Memory count place failure before now fails none alive = none fails.1
-cut_alive Failed count place failure before now fails none alive = absurd (cc)
-cut_alive TooLong count place failure before now fails none alive = none (sym fails.1 ∙ alive)
+    (cause : Cause) (count first end : ℕ) (failure : Option Failure) (before now : Bool) → FailsAs cause count before now
+    → (before ≡ false → failure ≡ None) → now ≡ false → failure_behind cause first end failure ≡ None
+cut_alive FileSystem count first end failure before now fails none alive = absurd (cc)
+cut_alive Memory count first end failure before now fails none alive = none fails.1
+cut_alive Failed count first end failure before now fails none alive = absurd (cc)
+cut_alive TooLong count first end failure before now fails none alive = none (sym fails.1 ∙ alive)
 
 pub cut_cause :
-    (cause : Cause) (count place : ℕ) (failure : Option Failure) (before now had : Bool) → FailsAs cause count before now
+    (cause : Cause) (count first end : ℕ) (failure : Option Failure) (before now had : Bool) → FailsAs cause count before now
     → (before ≡ true → had ≡ false → is_some failure ≡ true) → now ≡ true → had ≡ false
-    → is_some (failure_behind cause place failure) ≡ true
-cut_cause FileSystem count place failure before now had fails some dead lived = refl
-cut_cause Memory count place failure before now had fails some dead lived = absurd (cc)
-cut_cause Failed count place failure before now had fails some dead lived = some fails.1 lived
-cut_cause TooLong count place failure before now had fails some dead lived = some (sym fails.1 ∙ dead) lived
+    → is_some (failure_behind cause first end failure) ≡ true
+cut_cause FileSystem count first end failure before now had fails some dead lived = refl
+cut_cause Memory count first end failure before now had fails some dead lived = absurd (cc)
+cut_cause Failed count first end failure before now had fails some dead lived = some fails.1 lived
+cut_cause TooLong count first end failure before now had fails some dead lived = some (sym fails.1 ∙ dead) lived
 
 pub cut_last :
-    (cause : Cause) (rounds : List Round) (requests : List (ℕ × Request)) (refused : List ℕ) (failure : Option Failure)
-    → is_last failure rounds ≡ true
-    → is_last (failure_behind cause (length rounds) failure) (rounds ++ cut_off requests refused ∷ []) ≡ true
-cut_last FileSystem rounds requests refused failure last = last_here rounds requests refused
-cut_last Memory rounds requests refused failure last = last-append failure rounds (cut_off requests refused) last refl
-cut_last Failed rounds requests refused failure last = last-append failure rounds (cut_off requests refused) last refl
-cut_last TooLong rounds requests refused failure last = last-append failure rounds (cut_off requests refused) last refl
+    (cause : Cause) (rounds : List Round) (requests : List (ℕ × Request)) (refused : List ℕ) (cut : List Round)
+    (failure : Option Failure) → AreCutOff requests refused cut → is_last failure rounds ≡ true
+    → is_last (failure_behind cause (length rounds) (length (rounds ++ cut)) failure) (rounds ++ cut) ≡ true
+cut_last FileSystem rounds requests refused cut failure are last = last_here rounds requests refused cut are
+cut_last Memory rounds requests refused cut failure are last = last-append failure rounds cut last are.cut
+cut_last Failed rounds requests refused cut failure are last = last-append failure rounds cut last are.cut
+cut_last TooLong rounds requests refused cut failure are last = last-append failure rounds cut last are.cut
 
--- what is told of a round's length is so
-pub told_of_length :
-    {S : Type 0} (v : Service S) (fault : SharedFault) (requests : List (ℕ × Request)) (old : S) (rounds : List Round) (new : S)
-    (rounds' : List Round) → GivesNoReceipt v fault requests old rounds new rounds' → ToldOfLength fault (length requests)
-told_of_length v (faults.Cut place FileSystem) requests old rounds new rounds' h = h.1.fails.0
-told_of_length v (faults.Cut place Memory) requests old rounds new rounds' h = h.1.fails.0
-told_of_length v (faults.Cut place Failed) requests old rounds new rounds' h = h.1.fails.0
-told_of_length v (faults.Cut place TooLong) requests old rounds new rounds' h = h.1.fails.0
-told_of_length v faults.Memory requests old rounds new rounds' h = tt
+-- What is told of a round's length is so.
+
+-- what is so of each number is so of what they are the numbers of
+pub each_of : {A : Type 0} (P : ℕ → Type 0) (f : A → ℕ) (xs : List A) → All P (map f xs) → All (λ x. P (f x)) xs
+each_of P f [] all = All-nil (λ x. P (f x))
+each_of P f (x ∷ xs) all =
+    All-cons (λ y. P (f y)) x xs (All-head P (f x) (map f xs) all) (each_of P f xs (All-tail P (f x) (map f xs) all))
+
+-- each of these rounds may be cut off for the cause of all of them
+pub each_may_cut :
+    (cause : Cause) (counts : List ℕ) (count : ℕ) (before now : Bool) → sum counts ≡ count
+    → (4096 < count → length counts ≡ 1) → FailsAs cause count before now → All (λ n. may_cut cause n ≡ true) counts
+each_may_cut TooLong counts count before now all alone fails = only counts all (alone fails.0)
+  where
+    only : (counts : List ℕ) → sum counts ≡ count → length counts ≡ 1 → All (λ n. may_cut TooLong n ≡ true) counts
+    only [] all one = absurd (omega (arith, one))
+    only (n ∷ []) all one =
+        let is = sum_by-cons (λ (m : ℕ). m) n [] in
+        All-cons (λ (m : ℕ). may_cut TooLong m ≡ true) n [] (lt-ltb 4096 n (omega (arith, is, all, fails.0)))
+        (All-nil (λ (m : ℕ). may_cut TooLong m ≡ true))
+    only (n ∷ m ∷ counts) all one = absurd (omega (arith, one))
+each_may_cut FileSystem counts count before now all alone fails =
+    All-weaker (λ (n : ℕ). n ≤ 4096) (λ (n : ℕ). may_cut FileSystem n ≡ true) (λ n few. le-leb n 4096 few) counts (each_within counts 4096 (omega (arith, all, fails.0)))
+each_may_cut Memory counts count before now all alone fails =
+    All-weaker (λ (n : ℕ). n ≤ 4096) (λ (n : ℕ). may_cut Memory n ≡ true) (λ n few. le-leb n 4096 few) counts (each_within counts 4096 (omega (arith, all, fails.0)))
+each_may_cut Failed counts count before now all alone fails =
+    All-weaker (λ (n : ℕ). n ≤ 4096) (λ (n : ℕ). may_cut Failed n ≡ true) (λ n few. le-leb n 4096 few) counts (each_within counts 4096 (omega (arith, all, fails.0)))
+
+pub told_short : (answer : Result Told SharedFault) (count : ℕ) → may_tell answer count ≡ true → OnOk answer (count ≤ 4096)
+told_short (Ok told) count may = leb-true count 4096 may
+told_short (Err fault) count may = tt
+
+pub told_long : (answer : Result Told SharedFault) (count : ℕ) → may_tell answer count ≡ true → IfErr answer (λ fault. ToldOfLength fault count)
+told_long (Ok told) count may = tt
+told_long (Err (faults.Cut place FileSystem)) count may = leb-true count 4096 may
+told_long (Err (faults.Cut place Memory)) count may = leb-true count 4096 may
+told_long (Err (faults.Cut place Failed)) count may = leb-true count 4096 may
+told_long (Err (faults.Cut place TooLong)) count may = ltb-true 4096 count may
+told_long (Err faults.Memory) count may = tt

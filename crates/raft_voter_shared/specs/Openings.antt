@@ -1,5 +1,5 @@
 -- A store that is opened several times. Each time it is shared by threads, settled and closed, and has a journal.
-use Rattle.std.specs.Prelude.{◌≡◌, ℕ, ◌≤◌, true, List, [], ◌∷◌, ◌++◌, length, take, drop, Option, Some}
+use Rattle.std.specs.Prelude.{◌≡◌, ℕ, ◌-◌, ◌≤◌, true, List, [], ◌∷◌, ◌++◌, length, min, take, drop, Option, Some}
 use Rattle.std.specs.List.{flat_map}
 use Rattle.raft_voter_messages.specs.declared.round.Outcome.{Outcome}
 use Rattle.raft_voter_messages.specs.declared.round.Outcome.TheVariants.{Answered, Cut}
@@ -7,9 +7,9 @@ use Rattle.raft_voter_messages.specs.declared.round.Round.{Round}
 use Rattle.raft_voter.specs.Rounds.{Explains, Leads, World, after, fresh_world, taken_from}
 use Rattle.raft_voter.specs.Service.{CutRound, Files, FindsVoters, IsOpenAt, LeavesInFiles, LeavesStanding, MayFollow, Service}
 use Rattle.raft_voter_shared.specs.declared.failure.Failure.{Failure}
-use Rattle.raft_voter_shared.specs.declared.failure.Failure.TheVariants.{InRound}
+use Rattle.raft_voter_shared.specs.declared.failure.Failure.TheVariants.{InRounds}
 use Rattle.raft_voter_shared.specs.Journal.{IsLegal}
-use Rattle.raft_voter_shared.specs.Standing.{is_last, standing}
+use Rattle.raft_voter_shared.specs.Standing.{between, is_last, standing}
 
 -- the cut `place` if the round was cut off; no cut if it has replies
 abbrev pub own_cut : Outcome → ℕ → List ℕ
@@ -21,16 +21,18 @@ abbrev pub untaken : List Round → List ℕ
 untaken [] = []
 untaken (r ∷ rounds) = own_cut r.outcome 0 ++ untaken rounds
 
--- The cuts of these rounds, if the first was taken up to position `place`. Nothing was taken of any other that was cut
--- off.
-abbrev pub first_taken : ℕ → List Round → List ℕ
-first_taken place [] = []
-first_taken place (r ∷ rounds) = own_cut r.outcome place ++ untaken rounds
+-- The cuts of these rounds, if they were cut off together at position `place` of all their requests. A round before this
+-- position is cut at its length, the one at it there, and each later one at 0.
+abbrev pub spread : ℕ → List Round → List ℕ
+spread place [] = []
+spread place (r ∷ rounds) =
+    own_cut r.outcome (min place (length r.requests)) ++ spread (place - length r.requests) rounds
 
--- The cuts of a journal's rounds. If the store failed in a round, `place` is that round's cut. Nothing was taken of
--- any other round that was cut off.
+-- The cuts of a journal's rounds. If the store failed in rounds that it served together, `place` is their cut. Nothing
+-- was taken of any other round that was cut off.
 abbrev pub cuts_at : List Round → Option Failure → ℕ → List ℕ
-cuts_at rounds (Some (InRound at)) place = untaken (take at rounds) ++ first_taken place (drop at rounds)
+cuts_at rounds (Some (InRounds first end)) place =
+    untaken (take first rounds) ++ (spread place (between first end rounds) ++ untaken (drop end rounds))
 cuts_at rounds failure place = untaken rounds
 
 -- world `X` is the one after the requests of the cut-off round `cut` before position `place` were taken
@@ -38,14 +40,14 @@ abbrev pub TookUpTo : CutRound → World → ℕ → Type 0
 TookUpTo cut X place =
     (place ≤ length cut.requests) × (X ≡ after cut.before (taken_from 0 place cut.refused cut.requests))
 
--- One opening of a store: the journal, how the store failed, and the cut of the round in which it failed.
+-- One opening of a store: the journal, how the store failed, and the cut of the rounds in which it failed, as one round.
 pub record Session : Type 0 where
   pub journal : List Round
   pub failure : Option Failure
   pub place : ℕ
 
 -- These openings lead from world `W` to world `X`. Each journal is legal, starting with the voters that the opening
--- before left. Each opening leaves voters that took the round in which it failed up to its `place`.
+-- before left. Each opening leaves voters that took the rounds in which it failed up to its `place`.
 abbrev pub Openings : World → List Session → World → Type 0
 Openings W [] X = W ≡ X
 Openings W (s ∷ ss) X =

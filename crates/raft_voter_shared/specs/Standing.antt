@@ -1,7 +1,8 @@
--- Which voters are possible after a journal. They are those after all its records, or, if the store failed in a round,
--- those that took some of that round.
-use Rattle.std.specs.Prelude.{ℕ, Bool, true, false, List, [], ◌∷◌, take, drop, Option, Some}
-use Rattle.std.specs.List.{list_all}
+-- Which voters are possible after a journal. They are those after all its records. If the store failed in rounds that it
+-- served together, they are those that took some of these.
+use Rattle.std.specs.Prelude.{ℕ, ◌+◌, ◌-◌, ◌&&◌, nat_le, nat_lt, Bool, true, false, List, [], ◌∷◌, ◌++◌, length, map, take, drop, Option, Some}
+use Rattle.std.specs.List.{flat_map, list_all}
+use Rattle.raft_voter_messages.specs.declared.request.Request.{Request}
 use Rattle.raft_voter_messages.specs.declared.round.Outcome.{Outcome}
 use Rattle.raft_voter_messages.specs.declared.round.Outcome.TheVariants.{Answered, Cut}
 use Rattle.raft_voter_messages.specs.declared.round.Round.{Round}
@@ -10,19 +11,30 @@ use Rattle.raft_voter.specs.Service.{CutRound, uncut}
 use Rattle.raft_voter.specs.declared.service.Cause.{Cause}
 use Rattle.raft_voter.specs.declared.service.Cause.TheVariants.{FileSystem}
 use Rattle.raft_voter_shared.specs.declared.failure.Failure.{Failure}
-use Rattle.raft_voter_shared.specs.declared.failure.Failure.TheVariants.{InRound}
+use Rattle.raft_voter_shared.specs.declared.failure.Failure.TheVariants.{InRounds}
 use Rattle.raft_voter_shared.specs.Journal.{reached}
 
--- the first of these rounds as the one that was cut off, with the voters of world `W` before it; without rounds, none
--- was cut off
-abbrev pub cut_first : World → List Round → CutRound
-cut_first W [] = uncut W
-cut_first W (r ∷ rounds) = record { before = W; requests = r.requests; refused = r.refused }
+-- the requests of these rounds, in order
+abbrev pub requests_of : List Round → List (ℕ × Request)
+requests_of rounds = flat_map (λ r. r.requests) rounds
 
--- What a store with this journal leaves. If it failed in a round, that round was cut off; otherwise its voters are
--- those after all records.
+-- the refused positions of these rounds, as positions in the requests of all of them, which count from `start`
+abbrev pub refused_of : ℕ → List Round → List ℕ
+refused_of start [] = []
+refused_of start (r ∷ rounds) = map (λ p. start + p) r.refused ++ refused_of (start + length r.requests) rounds
+
+-- these rounds as one round that was cut off, with the voters of world `W` before it
+abbrev pub cut_together : World → List Round → CutRound
+cut_together W rounds = record { before = W; requests = requests_of rounds; refused = refused_of 0 rounds }
+
+-- the records from place `first` up to, not including, place `end`
+abbrev pub between : ℕ → ℕ → List Round → List Round
+between first end rounds = take (end - first) (drop first rounds)
+
+-- What a store with this journal leaves. If it failed in rounds that it served together, they were cut off as one round.
+-- Otherwise its voters are those after all records.
 abbrev pub standing : World → List Round → Option Failure → CutRound
-standing W rounds (Some (InRound place)) = cut_first (reached W (take place rounds)) (drop place rounds)
+standing W rounds (Some (InRounds first end)) = cut_together (reached W (take first rounds)) (between first end rounds)
 standing W rounds failure = uncut (reached W rounds)
 
 -- the round was cut off
@@ -30,17 +42,17 @@ abbrev pub is_cut : Outcome → Bool
 is_cut (Answered replies) = false
 is_cut Cut = true
 
--- there is at least one round, and all of them were cut off
+-- all of these rounds were cut off
 abbrev pub are_cut : List Round → Bool
-are_cut [] = false
-are_cut (r ∷ rounds) = list_all (λ round. is_cut round.outcome) (r ∷ rounds)
+are_cut rounds = list_all (λ round. is_cut round.outcome) rounds
 
--- if the store failed in a round, the journal has its record, and that record and all later ones were cut off
+-- if the store failed in rounds, the journal has their records, at least one, and these and all later ones were cut off
 abbrev pub is_last : Option Failure → List Round → Bool
-is_last (Some (InRound place)) rounds = are_cut (drop place rounds)
+is_last (Some (InRounds first end)) rounds = nat_lt first end && nat_le end (length rounds) && are_cut (drop first rounds)
 is_last failure rounds = true
 
--- how the store failed, noted after the round at `place` was cut off for this cause; only `FileSystem` changes it
-abbrev pub failure_behind : Cause → ℕ → Option Failure → Option Failure
-failure_behind FileSystem place failure = Some (InRound place)
-failure_behind cause place failure = failure
+-- how the store failed, noted after the rounds of the records from `first` up to `end` were cut off together for this
+-- cause; only `FileSystem` changes it
+abbrev pub failure_behind : Cause → ℕ → ℕ → Option Failure → Option Failure
+failure_behind FileSystem first end failure = Some (InRounds first end)
+failure_behind cause first end failure = failure

@@ -1,41 +1,52 @@
-//! The state under the lock.
-ghost use Rattle.std.specs.Prelude.{◌≡◌, ◌+◌, ◌<◌, ◌++◌, ◌∷◌, [], false, true, is_some, length, vec_capacity, vec_len, None};
+//! What only one caller at a time works with.
+ghost use Rattle.std.specs.Prelude.{◌≡◌, ◌≤◌, [], false, true, is_some, length, None};
 ghost use Rattle.raft_voter.specs.Rounds.{World};
 ghost use Rattle.raft_voter.specs.Service.{IsOpenAt};
 ghost use Rattle.raft_voter_shared.specs.Failing.{CameToFailAs};
 ghost use Rattle.raft_voter_shared.specs.Journal.{IsLegal, reached};
 ghost use Rattle.raft_voter_shared.specs.Standing.{is_last, standing};
 
-use crate::draft::Draft;
+use crate::done::{Done, fetch};
 use crate::failure::{Failure, failure_behind, failure_in_purge};
+use crate::hall::Hall;
 use crate::maintenance::Maintenance;
+use crate::merged_round::MergedRound;
 use crate::opening::Opening;
 use crate::receipt::{Receipt, SharedFault};
 use crate::receipts::least_wrong;
+use crate::records::{hand_out, note_answers, note_cuts, refuse_all};
 use crate::seat::{Seat, have_all, merged};
 use crate::settled::{SettleCause, Settled};
-use raft_voter::{Request, Round, RoundFault, RoundService};
+use crate::ticket::Ticket;
+use raft_voter::{Round, RoundFault, RoundService};
 use std::alloc::Global;
 use std::marker::PhantomData;
 use std::sync::ledger::Book;
 
-/// The state under the lock: the store, the journal of the rounds that it served, how it failed, and the ledger's book,
-/// which counts the records.
+/// The store, the journal of the rounds that it served, how it failed, and the ledger's book, which counts the records.
+/// Also the answers that the hall hasn't taken over, how many rounds were served together last, and how often the store was
+/// called.
 ///
 /// For any voters that the store served when it was shared:
 /// - The journal is a legal history of them.
 /// - Unless the store failed, it serves the voters that the journal leads to.
-/// - A crash leaves these voters or, if the store failed in a round, voters that took that round up to some place.
+/// - A crash leaves these voters. If the store failed in rounds that it served together, a crash leaves voters that took
+///   these up to some place.
 /// - If a failure is noted, a file call failed between two states of the store. The first served the voters that the
 ///   records before had led to.
 #[derive(Drop)]
 pub struct Desk<R, S: RoundService<R>, L: Opening> {
+    alloc: Global,
     store: S,
     journal: Vec<Round>,
     failure: Option<Failure>,
     book: Book<L>,
+    done: Vec<Done<L>>,
+    together: usize,
+    calls: usize,
     runtime: PhantomData<R>,
     ghost counted: { length journal.items ≡ book.total },
+    ghost fewer: { calls ≤ length journal.items },
     ghost legal: { (W : World) → L.served W → IsLegal W journal.items },
     ghost serves: { (W : World) → L.served W → S.service.is_failed store ≡ false
         → ∥ IsOpenAt S.service store (reached W journal.items) ∥₁ },
@@ -49,8 +60,8 @@ pub struct Desk<R, S: RoundService<R>, L: Opening> {
 }
 
 impl<R, S: RoundService<R>, L: Opening> Desk<R, S, L> {
-    ghost use Rattle.std.specs.Prelude.{sum_by, IfErr, IfOk, OnOk};
-    ghost use Rattle.raft_voter_shared.specs.Noting.{records_of, GivesNoReceipt, NotesAnswered};
+    ghost use Rattle.std.specs.Prelude.{◌==◌, ◌<◌, ◌++◌, nat_lt, map, sum_by, IfErr, IfSome, OnOk};
+    ghost use Rattle.raft_voter_shared.specs.Noting.{GivesNoReplies, NotesAnswered};
     ghost use Rattle.raft_voter_shared.specs.Settling.{SettlesUnless};
 
     /// Returns a desk with an empty journal.
@@ -62,77 +73,110 @@ impl<R, S: RoundService<R>, L: Opening> Desk<R, S, L> {
         ensures journal { result.journal.items ≡ [] }
     {
         Desk {
+            alloc,
             store,
             journal: Vec::new(alloc),
             failure: None,
             book,
+            done: Vec::new(alloc),
+            together: 0,
+            calls: 0,
             runtime: PhantomData,
         }
     }
 
-    /// The store serves a round of a seat. The round is appended to the journal, with the replies that the caller gets,
-    /// or as cut off. The receipt names the seat and the place in the journal.
-    ///
-    /// Fails with `Cut` if the round was cut off. Fails with `Memory` if there is no memory for the record; then
-    /// nothing was taken. The draft must be of these requests. If a read can't be copied for lack of memory, its reply
-    /// is `Refused`.
-    pub fn serve(
-        &mut self,
-        rt: &R,
-        seat: &mut Seat<L>,
-        requests: &[(u64, Request)],
-        draft: Draft,
-    ) -> Result<Receipt, SharedFault>
-        requires drafted { draft.requests ≡ requests.now }
-        requires asked { draft.asked ≡ requests.now }
-        ensures noted { IfOk result (λ receipt. NotesAnswered S.service requests.now receipt.replies
-            self.old.store self.old.journal.items self.new.store self.new.journal.items) }
-        ensures whose { IfOk result (λ receipt. receipt ≡ record {
-          seat = seat.old.number;
-          turn = seat.old.turn;
-          place = length self.old.journal.items;
-          requests = requests.now;
-          replies = receipt.replies;
-        }) }
-        ensures err { IfErr result (λ fault. GivesNoReceipt S.service fault requests.now
-            self.old.store self.old.journal.items self.new.store self.new.journal.items) }
+    /// Whether the hall has taken over all answers.
+    pub fn is_cleared(&self) -> bool
+        ensures { result ≡ (length self.now.done.items == 0) }
+    {
+        self.done.is_empty()
+    }
 
-        // The seat counts each record.
-        ensures counts { OnOk result (seat.new.turn ≡ seat.old.turn + 1) }
-        ensures faults { IfErr result (λ fault. seat.new.turn ≡ seat.old.turn + records_of fault) }
-        ensures seat { (seat.new.number ≡ seat.old.number) × (seat.new.parts ≡ seat.old.parts) }
+    /// Whether rounds of several callers were served together last.
+    pub fn served_several(&self) -> bool
+        ensures { result ≡ nat_lt 1 self.now.together }
+    {
+        1 < self.together
+    }
+
+    /// The store serves a merged round, with one sync. A record of each of its rounds is appended to the journal, with the
+    /// replies that its caller gets, or as cut off. Each caller's answer has the place of its own record and its own
+    /// replies. If a read can't be copied for lack of memory, its reply is `Refused`.
+    ///
+    /// Fails with `Cut` and the place of the first record if the rounds were cut off. Fails with `Memory` if there is no
+    /// memory for the records; then nothing was taken, and each caller's answer is `Memory`.
+    pub fn serve(&mut self, rt: &R, merged: MergedRound<L>) -> Result<(), SharedFault>
+        requires some { 0 < length merged.parts.items }
+        requires cleared { length self.old.done.items ≡ 0 }
+        ensures ok { OnOk result (NotesAnswered S.service (map (λ part. part.ticket.count) merged.parts.items)
+            merged.asked.items self.old.store self.old.journal.items self.new.store self.new.journal.items
+            (map (λ done. done.answer) self.new.done.items)) }
+        ensures err { IfErr result (λ fault. GivesNoReplies S.service fault
+            (map (λ part. part.ticket.count) merged.parts.items) merged.asked.items
+            self.old.store self.old.journal.items self.new.store self.new.journal.items
+            (map (λ done. done.answer) self.new.done.items)) }
+        ensures whose { map (λ done. done.ticket) self.new.done.items
+            ≡ map (λ part. part.ticket) merged.parts.items }
     {
         let Desk {
+            alloc,
             store,
             journal,
             failure,
             book,
+            done: answers,
+            together,
+            calls,
             runtime: _,
         } = self;
-        let Ok(()) = journal.reserve(1) else {
+        let MergedRound {
+            asked,
+            parts,
+            noted,
+            handed,
+            done,
+        } = merged;
+        *together = parts.len();
+        let Ok(()) = journal.reserve(parts.len()) else {
+            *answers = refuse_all(parts, done);
             return Err(SharedFault::Memory);
         };
-        let place = journal.len();
-        let (number, turn) = (seat.number(), seat.turn());
-        match store.serve(rt, requests) {
+        *calls += 1;
+        let first = journal.len();
+        match store.serve(rt, asked.as_slice()) {
             Ok(replies) => {
-                let (round, asked, handed) = draft.answered(replies);
-                note(journal, book, seat, round);
-                Ok(Receipt {
-                    seat: number,
-                    turn,
-                    place,
-                    requests: asked,
-                    replies: handed,
-                })
+                let mut told = replies.into_vec();
+                told.truncate(asked.len());
+                let (noted, handed) = hand_out(*alloc, told, noted, handed);
+                *answers = note_answers(journal, book, parts, asked, noted, handed, done);
+                Ok(())
             }
             Err(fault) => {
                 let RoundFault { refused, cause } = fault;
-                note(journal, book, seat, draft.cut_off(refused));
-                *failure = failure_behind(cause, place, *failure);
-                Err(SharedFault::Cut { place, cause })
+                *answers = note_cuts(journal, book, cause, parts, asked, refused.as_slice(), done);
+                *failure = failure_behind(cause, first, journal.len(), *failure);
+                Err(SharedFault::Cut {
+                    place: first,
+                    cause,
+                })
             }
         }
+    }
+
+    /// Removes the answer to this round from those that the hall hasn't taken over, and returns it.
+    pub fn fetch(&mut self, ticket: Ticket) -> Option<Done<L>>
+        ensures answer { IfSome result (λ done. done.ticket ≡ ticket) }
+        ensures same { (self.new.store ≡ self.old.store) × (self.new.journal ≡ self.old.journal) }
+    {
+        fetch(&mut self.done, ticket)
+    }
+
+    /// Hands the answers over to the hall, unless there is no memory there, and nobody leads any more.
+    pub fn hand_over(&mut self, hall: &mut Hall<L>)
+        ensures answers { hall.new.done.items ++ self.new.done.items ≡ hall.old.done.items ++ self.old.done.items }
+        ensures same { (self.new.store ≡ self.old.store) × (self.new.journal ≡ self.old.journal) }
+    {
+        hall.take_over(&mut self.done);
     }
 
     /// Returns why these seats and receipts can't settle the store, which has a ledger of this many parts, or `None` if
@@ -158,13 +202,18 @@ impl<R, S: RoundService<R>, L: Opening> Desk<R, S, L> {
         ensures store { result.store ≡ self.store }
         ensures journal { result.journal ≡ self.journal }
         ensures failure { result.failure ≡ self.failure }
+        ensures calls { result.calls ≤ length result.journal.items }
         ensures count { length result.journal.items ≡ sum_by (λ seat. seat.turn) seats.items }
     {
         let Desk {
+            alloc: _,
             store,
             journal,
             failure,
             mut book,
+            done: _done,
+            together: _,
+            calls,
             runtime: _,
         } = self;
         if let Some(mut whole) = merged(seats) {
@@ -174,6 +223,7 @@ impl<R, S: RoundService<R>, L: Opening> Desk<R, S, L> {
             store,
             journal,
             failure,
+            calls,
         }
     }
 }
@@ -188,10 +238,14 @@ impl<R, S: Maintenance<R>, L: Opening> Desk<R, S, L> {
         ensures keeps { KeepsServed S.service self.old.store self.new.store }
     {
         let Desk {
+            alloc: _,
             store,
             journal: _,
             failure,
             book: _,
+            done: _,
+            together: _,
+            calls: _,
             runtime: _,
         } = self;
         let before = store.is_failed();
@@ -199,17 +253,4 @@ impl<R, S: Maintenance<R>, L: Opening> Desk<R, S, L> {
         *failure = failure_in_purge(before, store.is_failed(), *failure);
         purged
     }
-}
-
-/// Appends a record to a journal that has room for it; the book and the seat count it.
-fn note<L: Opening>(journal: &mut Vec<Round>, book: &mut Book<L>, seat: &mut Seat<L>, round: Round)
-    requires counted { length journal.old.items ≡ book.old.total }
-    requires room { vec_len journal.old < vec_capacity journal.old }
-    ensures journal { journal.new.items ≡ journal.old.items ++ round ∷ [] }
-    ensures counted { length journal.new.items ≡ book.new.total }
-    ensures turn { seat.new.turn ≡ seat.old.turn + 1 }
-    ensures same { (seat.new.number ≡ seat.old.number) × (seat.new.parts ≡ seat.old.parts) }
-{
-    seat.count(book);
-    journal.push_reserved(round);
 }

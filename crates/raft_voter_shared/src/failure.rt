@@ -8,22 +8,29 @@ use raft_voter::Cause;
 /// How a store failed while it was shared, if it hadn't failed before: a file call failed.
 #[derive(Clone, Copy, Debug, PartialEq, Eq)]
 pub enum Failure {
-    /// In a round that was cut off, whose record is at this place of the journal. The round may have been taken up to
-    /// some place.
-    InRound {
-        /// The place of the record, counted from 0.
-        place: usize,
+    /// In rounds that it served together, and that were cut off as one round. Their records are at these places of the
+    /// journal. All their requests, in order, may have been taken up to some place.
+    InRounds {
+        /// The place of the first record, counted from 0.
+        first: usize,
+        /// The place after that of the last record.
+        end: usize,
     },
     /// In a purge, which changes no voter.
     InPurge,
 }
 
-/// How a store failed, after the round at this place was cut off for this cause.
-pub fn failure_behind(cause: Cause, place: usize, failure: Option<Failure>) -> Option<Failure>
-    ensures { result ≡ failure_behind cause place failure }
+/// How a store failed, after the rounds from the first place up to the other were cut off together for this cause.
+pub fn failure_behind(
+    cause: Cause,
+    first: usize,
+    end: usize,
+    failure: Option<Failure>,
+) -> Option<Failure>
+    ensures { result ≡ failure_behind cause first end failure }
 {
     match cause {
-        Cause::FileSystem => Some(Failure::InRound { place }),
+        Cause::FileSystem => Some(Failure::InRounds { first, end }),
         _ => failure,
     }
 }

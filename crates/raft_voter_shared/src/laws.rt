@@ -4,8 +4,8 @@ ghost use Rattle.raft_voter_shared.specs.Openings.{OpeningsAreExplained, Opening
 use raft_voter::{RoundService, StoreFiles};
 
 /// Suppose each journal of successive openings is a legal history of the voters that the one before left. Then together
-/// they are rounds that lead from the first voters to the last. The cuts are 0, except for the round in which an
-/// opening's store failed. Its cut is the place that the next open shows.
+/// they are rounds that lead from the first voters to the last. The cuts are 0, except for the rounds in which an
+/// opening's store failed. They are cut as one round, at the place that the next open shows.
 pub fn openings_lead()
     ensures { OpeningsLead }
 {}

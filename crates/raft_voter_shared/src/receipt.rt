@@ -20,7 +20,8 @@ pub struct Receipt {
 /// Why there is no receipt for a round.
 #[derive(Clone, Copy, Debug, PartialEq, Eq, Error)]
 pub enum SharedFault {
-    /// The round was cut off for this cause, and its record is in the journal at this place.
+    /// The round was cut off for this cause, and its record is in the journal at this place. If the cause is `FileSystem`
+    /// or `Memory`, each round that was served with it was cut off, too.
     #[error("round {place} cut off: {cause}")]
     Cut {
         /// The place of its record.
@@ -28,7 +29,8 @@ pub enum SharedFault {
         /// The cause.
         cause: Cause,
     },
-    /// There was no memory for its record or for its receipt: nothing was taken, and the journal has no record of it.
+    /// There was no memory for its receipt, for the queue, or for the records of the rounds that were to be served with
+    /// it. Nothing was taken, and the journal has no record of it.
     #[error("out of memory")]
     Memory,
 }

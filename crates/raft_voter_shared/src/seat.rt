@@ -3,16 +3,16 @@ ghost use Rattle.std.specs.Prelude.{◌≡◌, ◌+◌, ◌/◌, ◌<◌, ◌≤
 ghost use Rattle.std.specs.Bool.{Decides};
 
 use crate::opening::Opening;
-use std::sync::ledger::{Book, Share};
+use std::sync::ledger::Share;
 
 /// A seat at a shared store: some of the parts of the store's ledger, and how many of its rounds are in the journal.
 /// Its number is that of its first part, so no two seats have the same number.
 #[derive(Drop)]
 pub struct Seat<L: Opening> {
-    share: Share<L>,
-    number: u64,
-    parts: u64,
-    turn: u64,
+    pub(crate) share: Share<L>,
+    pub(crate) number: u64,
+    pub(crate) parts: u64,
+    pub(crate) turn: u64,
     ghost held: { share.parts ≡ parts },
     ghost counted: { share.amount ≡ turn },
     ghost some: { 0 < parts },
@@ -87,24 +87,6 @@ impl<L: Opening> Seat<L> {
             parts: half,
             turn: 0,
         })
-    }
-
-    /// Counts another of its rounds, in the book and in the seat.
-    pub(crate) fn count(&mut self, book: &mut Book<L>)
-        requires { book.old.total + 1 < 2 ^ 64 }
-        ensures total { book.new.total ≡ book.old.total + 1 }
-        ensures turn { self.new.turn ≡ self.old.turn + 1 }
-        ensures same { (self.new.number ≡ self.old.number) × (self.new.parts ≡ self.old.parts) }
-    {
-        let Seat {
-            share,
-            number: _,
-            parts: _,
-            turn,
-        } = self;
-        book.audit(share);
-        book.add(share, 1);
-        *turn += 1;
     }
 }
 

@@ -15,6 +15,8 @@ pub struct Settled<S> {
     pub journal: Vec<Round>,
     /// How the store failed while it was shared, if it did.
     pub failure: Option<Failure>,
+    /// How many rounds the store was given, each with one sync. Rounds that were served together count as one.
+    pub calls: usize,
 }
 
 /// Why a shared store can't be settled.

@@ -8,20 +8,22 @@ use Rattle.raft_voter_shared.specs.Openings.{Session, TookUpTo, all_cuts, all_ro
 use Rattle.raft_voter_shared.specs.Standing.{is_last, standing}
 
 -- One opening: the store as it was opened, what settling it returned, and the store as it was settled. Settling returns
--- a journal of the rounds, how the store failed, and the cut of the round in which it failed.
+-- a journal of the rounds and how the store failed. The session has also the cut of the rounds in which it failed, which
+-- are cut as one round.
 pub record Sharing (S : Type 0) : Type 0 where
   pub opened : S
   pub session : Session
   pub settled : S
 
 -- The round after which the voters of the store are possible, if it was opened with the voters of `W`. If the store
--- failed in a round, this is the round. Otherwise it is no round, with the voters after all records.
+-- failed in rounds that it served together, this is these rounds as one. Otherwise it is no round, with the voters after
+-- all records.
 abbrev pub behind : World → Session → CutRound
 behind W s = standing W s.journal s.failure
 
 -- What settling a store returns, for any voters that it served when it was opened:
 -- - `legal`: the journal is a legal history that begins with these voters.
--- - `last`: if the store failed in a round, the record of this round and all later ones were cut off.
+-- - `last`: if the store failed in rounds, the records of these rounds and all later ones were cut off.
 -- - `left`: the store leaves voters that are possible after the journal.
 pub record Settles {S : Type 0} (v : Service S) (x : Sharing S) : Type 0 where
   pub legal : (W : World) → IsOpenAt v x.opened W → IsLegal W x.session.journal
@@ -33,14 +35,14 @@ abbrev pub GoesOn : {S : Type 0} → Service S → S → S → Type 0
 GoesOn v old new =
     (cut : CutRound) → ∥ v.leaves old cut ∥₁ → ∥ ((X : World) × MayFollow cut X × IsOpenAt v new X) ∥₁
 
--- Which voters the next opened store serves. They took the journal's rounds before the one in which the store failed.
--- Of this round, they took the requests before the session's cut, without the refused ones.
+-- Which voters the next opened store serves. They took the journal's rounds before those in which the store failed. Of
+-- these rounds, as one, they took the requests before the session's cut, without the refused ones.
 abbrev pub ShowsPlace : {S : Type 0} → Service S → Sharing S → S → Type 0
 ShowsPlace v x next = (W X : World) → IsOpenAt v x.opened W → IsOpenAt v next X
     → TookUpTo (behind W x.session) X x.session.place
 
--- if no open follows, the session's cut may be any position in the round in which the store failed; it is 0 if there is
--- no such round
+-- if no open follows, the session's cut may be any position in the rounds in which the store failed, as one; it is 0 if
+-- there are no such rounds
 abbrev pub HasPlace : {S : Type 0} → Service S → Sharing S → Type 0
 HasPlace v x = (W : World) → IsOpenAt v x.opened W → x.session.place ≤ length (behind W x.session).requests
 
@@ -64,8 +66,8 @@ BeginsFresh v (x ∷ xs) = ∥ IsOpenAt v x.opened fresh_world ∥₁
 abbrev pub sessions_of : {S : Type 0} → List (Sharing S) → List Session
 sessions_of xs = map (λ x. x.session) xs
 
--- Voters that never fail give exactly the replies in all journals, one after another. The cut of a round in which a
--- store failed is the position that the next open shows. The cut of each other round without replies is 0.
+-- Voters that never fail give exactly the replies in all journals, one after another. The rounds in which a store failed
+-- are cut, as one round, at the position that the next open shows. The cut of each other round without replies is 0.
 abbrev pub JoinedOpeningsAreExplained : {S : Type 0} → Service S → Type 0
 JoinedOpeningsAreExplained {S} v = (xs : List (Sharing S)) → BeginsFresh v xs → AreJoined v xs
     → Explains (all_rounds (sessions_of xs)) (all_cuts (sessions_of xs))

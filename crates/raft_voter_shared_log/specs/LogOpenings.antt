@@ -106,8 +106,8 @@ ClosedImagesMean home d cut = (left : IsLeftAmong home d (MayFollow cut))
     × ((image : Disk) → IsCrashOf home left.left.1.lies.state d image → RestsMeaning home image (MayFollow cut))
 
 -- A store was settled, whether it had failed or not. Each crash image under it, before it is closed or after, has the
--- voters that it served at its open, after the records with replies. If it failed in a round, they also took the
--- requests of this round before some position. This requires that there is no CRC collision in the image.
+-- voters that it served at its open, after the records with replies. If it failed in rounds that it served together, they
+-- also took the requests of these before some position. This requires that there is no CRC collision in the image.
 abbrev pub SettledStoresMean : {F : Type 0} → (LogStore F → EngineState) → Type 0
 SettledStoresMean {F} shows = (x : Sharing (LogStore F)) (W : World) → Settles (log_service shows) x
     → IsOpenAt (log_service shows) x.opened W

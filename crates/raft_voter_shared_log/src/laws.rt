@@ -17,16 +17,16 @@ pub fn closed_stores_go_on<F: FileSystem>()
 {}
 
 /// What settling returns, whether it fails or not. Any crash image of its files, before or after they are closed, means
-/// the voters that the store served at its open, after the records with replies. If the store failed at a record, they
-/// also took its requests below some place. This requires that there is no CRC collision.
+/// the voters that the store served at its open, after the records with replies. If the store failed in rounds that it
+/// served together, they also took the requests of these below some place. This requires that there is no CRC collision.
 pub fn settled_stores_mean<F: FileSystem + Sync>()
     ensures { SettledStoresMean {F = F}
         (λ store. shows_of ⟦<EnginePipes<F, Nobody> as PipeLog>⟧.shown store.store.engine) }
 {}
 
 /// Consecutive openings of a store, each of which finds what the one before left; the first finds fresh voters. Voters
-/// that never fail explain their journals, one after another. The cut of a round at which a store failed is the place
-/// up to which the voters that the next open shows took it.
+/// that never fail explain their journals, one after another. The rounds in which a store failed are cut, as one round, at
+/// the place up to which the voters that the next open shows took them.
 pub fn joined_openings_are_explained<R, S: RoundService<R>>()
     ensures { JoinedOpeningsAreExplained S.service }
 {}

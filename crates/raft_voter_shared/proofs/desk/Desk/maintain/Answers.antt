@@ -24,6 +24,7 @@ invariant_of-self g c =
     ∙ ap (λ b. failure_in_purge before b old.failure) c.is_failed.ensures in
     record {
       counted = old.counted;
+      fewer = old.fewer;
       legal = old.legal;
       serves = λ W s alive. ∥∥₁_map (old.serves W s (was_alive before after kept.failed alive)) (λ o. kept.served (reached W rounds) o alive);
       left = λ W s. subst (λ (f : Option Failure). ∥ v.leaves now (standing W rounds f) ∥₁) (sym failed)

@@ -1,4 +1,4 @@
-use Rattle.std.proofs.Common.{List, length, refl, sym, ap, subst, ◌∙◌}
+use Rattle.std.proofs.Common.{List, length, refl, sym, ap, subst, ◌∙◌, arith}
 use Rattle.std.proofs.Math.Logic.{∥∥₁_map}
 use Rattle.std.proofs.lemmas.Bool.{false≢true}
 use Rattle.raft_voter_messages.specs.declared.round.Round.{Round}
@@ -12,6 +12,7 @@ invariant_of-result g c =
     let none = c.new.ensures.items in
     record {
       counted = ap length none ∙ sym c.requires.unused;
+      fewer = omega arith;
       legal = λ W s. subst (λ (rounds : List Round). IsLegal W rounds) (sym none) refl;
       serves = λ W s alive. subst (λ (rounds : List Round). ∥ IsOpenAt v c.args.store (reached W rounds) ∥₁) (sym none) (c.requires.served W s);
       left = λ W s. subst (λ (rounds : List Round). ∥ v.leaves c.args.store (uncut (reached W rounds)) ∥₁) (sym none) (∥∥₁_map (c.requires.served W s) (λ o. o.left));

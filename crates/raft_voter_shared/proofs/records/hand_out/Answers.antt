@@ -3,7 +3,7 @@ use Rattle.std.proofs.lemmas.Slice.Zip.{all_zipped_more}
 use Rattle.std.specs.List.{AllZip}
 use Rattle.raft_voter_messages.specs.declared.reply.Reply.{Reply}
 use Rattle.raft_voter_shared.specs.Handing.{HandsOut}
-use Rattle.raft_voter_shared.proofs.draft.hand_out.Goals as goal
+use Rattle.raft_voter_shared.proofs.records.hand_out.Goals as goal
 
 pub loop-reply-init : goal.loop-reply-init
 loop-reply-init c =

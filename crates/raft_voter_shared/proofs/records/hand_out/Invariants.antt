@@ -2,7 +2,7 @@ use Rattle.std.proofs.Common.{◌≡◌, ◌+◌, ◌≤◌, length, vec_capacit
 use Rattle.std.specs.List.{AllZip}
 use Rattle.std.specs.Vec.Iter.{into_iter_items}
 use Rattle.raft_voter_shared.specs.Handing.{HandsOut}
-use Rattle.raft_voter_shared.proofs.draft.hand_out.Given as goal
+use Rattle.raft_voter_shared.proofs.records.hand_out.Given as goal
 
 -- what was handed out so far, and room for the others
 abbrev pub invariant-loop-reply : goal.invariant-loop-reply

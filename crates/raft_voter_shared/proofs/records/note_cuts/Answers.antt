@@ -1,0 +1,50 @@
+use Rattle.std.proofs.Common.{◌≡◌, ℕ, ◌+◌, true, [], ◌∷◌, ◌++◌, length, length-append, map, sym, ap, ◌∙◌, arith}
+use Rattle.std.specs.Prelude.{Err, option_to_list, sum_by}
+use Rattle.std.proofs.lemmas.List.{map_push}
+use Rattle.std.proofs.lemmas.List.Elements.{All-rest}
+use Rattle.std.proofs.lemmas.List.Sums.{sum_by-cons}
+use Rattle.raft_voter_shared.specs.declared.receipt.SharedFault.TheVariants as faults
+use Rattle.raft_voter_shared.specs.Noting.{may_cut}
+use Rattle.raft_voter_shared.proofs.Cutting.{few_within}
+use Rattle.raft_voter_shared.proofs.Noted.{cut_is_told, cut_noted, one_more}
+use Rattle.raft_voter_shared.proofs.records.note_cuts.Goals as goal
+
+pub cut_off-round-requires-clause-few : goal.cut_off-round-requires-clause-few
+cut_off-round-requires-clause-few g c =
+    few_within c.loop-part.start c.in-Some.part.ticket.count 0 (length c.args.asked.items) c.args.refused.now c.requires.rising
+
+pub loop-part-preserved : goal.loop-part-preserved
+loop-part-preserved g c =
+    let before = c.loop-part in
+    let so_far = before.invariant in
+    let part = c.in-Some.part in
+    let rest = c.pop_front.new.self.items in
+    let n : ℕ = part.ticket.count in
+    let popped : before.left.items ≡ part ∷ rest = c.pop_front.ensures.items ∙ ap (λ r. option_to_list r ++ rest) c.in-Some.is in
+    let counts : map (λ part. part.ticket.count) before.left.items ≡ n ∷ map (λ part. part.ticket.count) rest =
+    ap (λ ps. map (λ part. part.ticket.count) ps) popped in
+    let js = before.journal.items in
+    let js' = c.push_reserved.new.self.items in
+    let here : c.len-place.result ≡ length js = omega (arith, c.len-place.ensures, before.journal.ok) in
+    let next : length js' ≡ length js + 1 = omega (arith, ap length c.push_reserved.ensures.items, length-append js (c.cut_off-round.result.0 ∷ [])) in
+    let cut = c.cut_off-round.ensures in
+    let told' = c.push_reserved-in-Some.new.self.items in
+    let answer = c.cut_off-round.result.1 in
+    record {
+      counted = omega (arith, next, so_far.counted, cut.total);
+      journal = cut_noted n _ _ counts js js' c.cut_off-round.result.0 before.start before.asked.items _ c.args.refused.now _
+          c.push_reserved.ensures.items cut.round cut.asked so_far.journal;
+      answers = cut_is_told n _ _ counts (map (λ done. done.answer) before.told.items) (map (λ done. done.answer) told') answer.answer
+          (length js) (length js') c.args.cause _
+          (ap (λ ds. map (λ done. done.answer) ds) c.push_reserved-in-Some.ensures.items ∙ map_push (λ done. done.answer) before.told.items answer)
+          (cut.answer ∙ ap (λ (p : ℕ). Err (faults.Cut p c.args.cause)) here) next so_far.answers;
+      whose = one_more (map (λ done. done.ticket) before.told.items) (map (λ done. done.ticket) told') answer.ticket part.ticket
+          (map (λ part. part.ticket) rest) _
+          (ap (λ ds. map (λ done. done.ticket) ds) c.push_reserved-in-Some.ensures.items ∙ map_push (λ done. done.ticket) before.told.items answer)
+          cut.ticket (sym (ap (λ ps. map (λ done. done.ticket) before.told.items ++ map (λ part. part.ticket) ps) popped) ∙ so_far.whose);
+      causes = All-rest (λ part. may_cut c.args.cause part.ticket.count ≡ true) part rest before.left.items popped so_far.causes;
+      all = let is = sum_by-cons (λ part. part.ticket.count) part rest in
+          omega (arith, so_far.all, is, ap (λ ps. sum_by (λ part. part.ticket.count) ps) popped);
+      records = omega (arith, so_far.records, ap length popped, c.push_reserved.ensures.len, c.push_reserved.ensures.capacity);
+      room = omega (arith, so_far.room, ap length popped, c.push_reserved-in-Some.ensures.len, c.push_reserved-in-Some.ensures.capacity);
+    }

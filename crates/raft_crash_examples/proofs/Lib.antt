@@ -1,12 +1,14 @@
 mod Between
 mod Both
 mod Closed
+mod ClosedAlone
 mod Copied
 mod Crashed
 mod Folded
 mod Kept
 mod Named
 mod Purged
+mod Reopened
 mod Rested
 mod Saved
 pub mod Served

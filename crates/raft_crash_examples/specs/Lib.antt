@@ -6,6 +6,7 @@ pub mod Ending
 pub mod Keys
 pub mod Lives
 pub mod Purging
+pub mod Reopening
 pub mod Saving
 pub mod Serving
 pub mod Standing

@@ -3,6 +3,7 @@
 ghost use Rattle.raft_crash_examples.specs.Copies.{CopiesReadAlike};
 ghost use Rattle.raft_crash_examples.specs.Crashing.{SavedValuesAreLoaded};
 ghost use Rattle.raft_crash_examples.specs.Keys.{LastChangeCounts};
+ghost use Rattle.raft_crash_examples.specs.Reopening.{ForeignRecordsBehindACloseAreChance, ProperClosesLeaveNoChance};
 
 use raft_log_engine::FileSystem;
 
@@ -21,4 +22,15 @@ pub fn copies_read_alike<F: FileSystem, C>()
 /// The last change of a key gives its value; a key that was deleted has none.
 pub fn last_change_counts()
     ensures { LastChangeCounts }
+{}
+
+/// A proper close of an engine leaves no CRC collision in its active files.
+pub fn proper_closes_leave_no_chance()
+    ensures { ProperClosesLeaveNoChance }
+{}
+
+/// If a close leaves another record after all that was written, which no unsynced write passed to the file, there is a
+/// CRC collision.
+pub fn foreign_records_behind_a_close_are_chance()
+    ensures { ForeignRecordsBehindACloseAreChance }
 {}

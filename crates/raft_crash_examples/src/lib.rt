@@ -9,6 +9,7 @@ pub mod ending;
 pub mod laws;
 pub mod lives;
 pub mod purging;
+pub mod reopening;
 pub mod saving;
 pub mod serving;
 pub mod unsynced;

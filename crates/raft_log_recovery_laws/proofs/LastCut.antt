@@ -58,7 +58,7 @@ empty_header F content headless (x ∷ header) has = (let never : [] ≡ x ∷ (
 
 module _ {R : Type 0} (F : Format R) (lawful : IsFormat F) (q : LogFiles R) where
   -- a file of its header and its records alone is one of which these are read
-  finished_leftover : (front : List ℕ) (file : File) → IsPast F q.last (finished (reread front [] q)) file → IsLeftover F q file
+  pub finished_leftover : (front : List ℕ) (file : File) → IsPast F q.last (finished (reread front [] q)) file → IsLeftover F q file
   finished_leftover front file past =
       let same : recent q ++ [] ≡ recent q = append-nil (recent q) in
       let bytes : List ℕ = front ++ spelled (recent q) in

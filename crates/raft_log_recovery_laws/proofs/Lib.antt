@@ -63,3 +63,9 @@ pub mod Keeping
 pub mod Calls
 pub mod LastCut
 pub mod Running
+pub mod RestingFiles
+pub mod ClosingCalls
+pub mod ClosingPipes
+pub mod ClosingLog
+pub mod ProperCloses
+pub mod ClosedFiles

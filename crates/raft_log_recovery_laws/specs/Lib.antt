@@ -21,6 +21,7 @@ pub mod RefusedByCalls
 pub mod Outcomes
 pub mod Directory
 pub mod Bare
+pub mod Closed
 pub mod Keeping
 -- libraries below, re-exported to crates above
 pub use Rattle.raft_log_engine_laws.specs.raft_log_memtables

@@ -6,6 +6,7 @@
 //! what is proved.
 #![tactic(auto)]
 
+pub mod closed;
 pub mod forks;
 pub mod found;
 pub mod in_place;

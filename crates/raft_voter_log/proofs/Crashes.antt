@@ -56,7 +56,7 @@ crashed_once before d e is again =
     disk_ext e d again.directories again.names (fun_ext (λ id. file_once (before.files id) (d.files id) (e.files id) (is.files id) (again.files id))) again.unused
     (fun_ext (λ id. fun_ext (λ place. again.readable id place ∙ sym (is.readable id place)))) (again.running ∙ sym is.running) (again.uncounted ∙ sym is.uncounted) (again.untold ∙ sym is.untold)
 
-bare_image : (config : Config) (d e : OnDisk) → IsImage d e → IsBare config d → IsBare config e
+pub bare_image : (config : Config) (d e : OnDisk) → IsImage d e → IsBare config d → IsBare config e
 bare_image config d e is b = record {
   numbered = λ queue n path at. (let free = b.numbered queue n path at in (ap (λ names. names path) is.names ∙ free.0, ap (λ directories. directories path) is.directories ∙ free.1));
   reserved = λ n path at. ap (λ names. names path) is.names ∙ b.reserved n path at;
@@ -120,7 +120,7 @@ copy_leaves config target old new cut sound ends known = by_known known
     by_known (left l) = left (record { map = l.map; pending = l.pending; left = keeps.left l.map l.pending l.left; among = l.among })
 
 -- an armed stop or refusal changes nothing on the disk
-on_disk : (fault : Fault) (old new : OnDisk) → Arms (fault_of fault) old new → new ≡ old
+pub on_disk : (fault : Fault) (old new : OnDisk) → Arms (fault_of fault) old new → new ≡ old
 on_disk fault old new arms = by_mark fault arms.marks
   where
     by_mark : (f : Fault) → (new ≡ old) ⊎ (new ≡ denied_by (fault_of f) old) → new ≡ old

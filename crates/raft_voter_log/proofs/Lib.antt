@@ -1,6 +1,8 @@
 pub mod Alike
 pub mod Arming
 pub mod Causing
+mod ClosedWalking
+pub mod ClosedStores
 pub mod Crashes
 pub mod Finding
 pub mod Forking

@@ -49,7 +49,7 @@ plain_spared config d cut (rests before image m at W means follows) plain read =
 plain_spared config d cut (left l) plain read = absurd plain
 
 -- what a crash leaves of a file system in memory is an image of it
-left_is_one : (what : Remainder) (system after : MemoryFileSystem) → IsLeftOf what system after → IsImage (disk_of system) (disk_of after)
+pub left_is_one : (what : Remainder) (system after : MemoryFileSystem) → IsLeftOf what system after → IsImage (disk_of system) (disk_of after)
 left_is_one what system after is =
     let i = left_is_image what system.storage system.whole in
     let image : IsImage (disk_of system) (left_disk what (unsynced system) (disk_of system)) = record {

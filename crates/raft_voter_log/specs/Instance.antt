@@ -1,5 +1,5 @@
 -- A store of voters on a log, and the log's files, as the store and the disk of a simulated world.
-use Rattle.std.specs.Prelude.{◌≡◌, ◌⊎◌, ℕ, false, true, List, Option, None}
+use Rattle.std.specs.Prelude.{◌≡◌, ◌⊎◌, ℕ, false, true, List, Option, None, Result}
 use Rattle.raft_log_fs.specs.Disk.{Disk as OnDisk}
 use Rattle.raft_log_fs.specs.Exits.{Arms}
 use Rattle.raft_log_fs_memory.specs.Answers.{IsLeftOf}
@@ -9,7 +9,7 @@ use Rattle.raft_log_fs_memory.specs.declared.memory.MemoryFileSystem.{MemoryFile
 use Rattle.raft_log_record_base.specs.declared.errors.Error.{Error}
 use Rattle.raft_log_file_settings.specs.Settings.{settings_of}
 use Rattle.raft_log_file_settings.specs.declared.config.Config.{Config}
-use Rattle.raft_voter_durability_laws.specs.raft_log_engine_laws.specs.raft_log_dual_pipes.specs.ClosingCalls.{ClosesLog}
+use Rattle.raft_voter_durability_laws.specs.raft_log_engine_laws.specs.raft_log_dual_pipes.specs.ClosingCalls.{ClosesAs, ClosesLog}
 use Rattle.raft_voter_durability_laws.specs.raft_log_engine_laws.specs.raft_log_dual_pipes.specs.Pipes.{LogPipes}
 use Rattle.raft_voter_durability_laws.specs.raft_log_engine_laws.specs.EngineState.{EngineState, has_failed}
 use Rattle.raft_log_purge.specs.Append.{RewritesAppend}
@@ -116,6 +116,10 @@ pub record ClosesStore (s : EngineState) (d : OnDisk) : Type 0 where
   pub held : has_failed s ≡ false → ClosesLog s.pipes d
   pub failed : has_failed s ≡ true → d ≡ s.pipes.disk
 
+-- if the store's engine hasn't failed, these are the calls of its close, in order, with what they result in
+abbrev pub ClosesByCalls : EngineState → OnDisk → Type 0
+ClosesByCalls s d = has_failed s ≡ false → (result : Result (Unit {0}) Error) × ClosesAs s.pipes result d
+
 -- `left` is what a crash leaves of the disk `d` under an open store; `gone` says which unsynced writes it keeps
 abbrev pub CrashesUnder : OnDisk → Left → OnDisk → Type 0
 CrashesUnder d gone left = (system : MemoryFileSystem) × (after : MemoryFileSystem) × (disk_of system ≡ d)
@@ -131,7 +135,8 @@ log_disk tells config shows outlines = record {
   spares = λ store cut known left. SparesStore (home_of (config store)) (shows store) cut known (disk_of left.files);
   opens = λ files workers store. OpensFiles tells files workers (shows store) (outlines store) × AreSame (config store) files.config;
   refuses = λ files workers cause back. RefusesFiles tells files workers cause back.files × AreSame back.config files.config;
-  closes = λ store files. ClosesStore (shows store) (disk_of files.files) × AreSame files.config (config store);
+  closes = λ store files. ClosesStore (shows store) (disk_of files.files) × AreSame files.config (config store)
+      × ClosesByCalls (shows store) (disk_of files.files);
   crashes = λ files gone left. IsLeftOf (remainder_of gone) files.files left.files × AreSame left.config files.config;
   crashes_under = λ store gone left. CrashesUnder (shows store).pipes.disk gone (disk_of left.files) × AreSame left.config (config store);
   forks = λ target old new. EndsCopy old.config target (disk_of old.files) (disk_of new.files) × AreSame new.config old.config;

@@ -4,6 +4,7 @@
 
 mod causes;
 pub mod chance;
+pub mod closed_stores;
 mod faults;
 mod files;
 pub mod forks;

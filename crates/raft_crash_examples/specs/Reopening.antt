@@ -1,0 +1,71 @@
+-- A log that is opened, changed and closed properly, and then opened again. Nothing is asked of chance.
+use Rattle.std.specs.Prelude.{◌≡◌, ◌⊎◌, ℕ, ◌+◌, Some, None, List, ◌++◌, length, Option}
+use Rattle.raft_log_file_writer.specs.LawsChains.{AreFrames, Written, spelled}
+use Rattle.raft_log_file_writer.specs.KeepsSynced.{IsHandedIn}
+use Rattle.raft_log_file_writer.specs.LogFormat.{Format}
+use Rattle.raft_log_file_pipe.specs.declared.pipe_files.PipeFiles.{PipeFiles}
+use Rattle.raft_log_engine.specs.raft_log_fs.specs.Disk.{Disk, File}
+use Rattle.raft_log_engine.specs.raft_log_fs.specs.Image.{IsSound}
+use Rattle.raft_log_engine.specs.raft_log_file_settings.specs.declared.config.Config.{Config}
+use Rattle.raft_log_engine.specs.raft_log_dual_pipes.specs.Pipes.{LogPipes, LogRecordValue}
+use Rattle.raft_log_engine.specs.raft_log_engine_laws.specs.raft_log_active_file.specs.declared.record.LogRecord.{LogRecord}
+use Rattle.raft_log_engine.specs.raft_log_engine_laws.specs.EngineState.{LogDirectories, LogMap, EngineState, log_in}
+use Rattle.raft_log_engine.specs.raft_log_engine_laws.specs.Holding.{Represents}
+use Rattle.raft_log_recovery_laws.specs.Bare.{IsBare}
+use Rattle.raft_log_recovery_laws.specs.ByCalls.{home_of}
+use Rattle.raft_log_recovery_laws.specs.Closed.{ClosesProperly}
+use Rattle.raft_log_recovery_laws.specs.Running.{active_header, own_bytes}
+use Rattle.raft_crash_examples.specs.declared.changing.KeyChange.{KeyChange}
+use Rattle.raft_crash_examples.specs.Ending.{ClosesWithoutChance}
+use Rattle.raft_crash_examples.specs.Keys.{value_behind}
+use Rattle.raft_crash_examples.specs.Lives.{OpensAndChanges}
+
+-- The log of these settings was opened, the changes were written durably, and the log was closed properly.
+pub record ChangesAndCloses {F : Type 0} (disk : F → Disk) (tells : F → List ℕ → ℕ → Type 0) (config : Config)
+    (changes : List KeyChange) (old left : F) : Type 0 where
+  pub engine : EngineState
+  pub sound : IsSound engine.pipes.disk
+  pub changed : OpensAndChanges disk tells config changes old engine
+  pub closes : ClosesProperly engine.pipes (disk left)
+
+-- A log was opened, changed and closed twice, and then a key was read. Suppose that there was no log at first, and all
+-- settings name the same directories. Then the key has the value that it has after all changes.
+abbrev pub ReadsAllChanges : {F : Type 0} → (F → Disk) → (first second last : Config) → (before after : List KeyChange)
+    → (group : ℕ) (key : List ℕ) (old : F) (found : Option (List ℕ)) → Type 0
+ReadsAllChanges disk first second last before after group key old found = IsBare first (disk old)
+    → home_of second ≡ home_of first → home_of last ≡ home_of first
+    → found ≡ value_behind group key (before ++ after) None
+
+-- A proper close leaves no CRC collision in the active files, whatever the log's contents and pending batches are.
+abbrev pub ProperClosesLeaveNoChance : Type 0
+ProperClosesLeaveNoChance = (home : LogDirectories) (e : EngineState) (m : LogMap) (pending : List LogRecordValue) (d : Disk)
+    → IsSound e.pipes.disk → Represents home e m pending → ClosesProperly e.pipes d
+    → ClosesWithoutChance home e.pipes d
+
+-- What a close left of the pipe's active file has all that the pipe wrote to it, which are whole records, and then
+-- another record of the file. No unsynced write was asked to write that record there.
+pub record LeavesForeignBehind (F : Format LogRecord) (files : PipeFiles) (old new : Disk) : Type 0 where
+  pub before : File
+  pub was : old.files files.writer.handle.file ≡ Some before
+  pub path : List ℕ
+  pub at : F.IsPath files.active.seq path
+  pub id : ℕ
+  pub named : new.names path ≡ Some id
+  pub file : File
+  pub left : new.files id ≡ Some file
+  pub own : List (Written LogRecord)
+  pub frames : AreFrames (F.IsFrame files.active.seq (active_header files)) own
+  pub wrote : own_bytes files before ≡ spelled own
+  pub foreign : Written LogRecord
+  pub is : F.IsFrame files.active.seq (active_header files) foreign.bytes foreign.value
+  pub behind : List ℕ
+  pub are : file.content ≡ active_header files ++ (spelled own ++ (foreign.bytes ++ behind))
+  pub unhanded : IsHandedIn file.changes (length (active_header files) + length (spelled own)) foreign.bytes → ⊥
+
+-- If a close leaves such a record in either queue, as one that fails may over a recycled file, there is a CRC collision.
+abbrev pub ForeignRecordsBehindACloseAreChance : Type 0
+ForeignRecordsBehindACloseAreChance = (home : LogDirectories) (e : EngineState) (m : LogMap) (pending : List LogRecordValue)
+    → Represents home e m pending → (d : Disk)
+    → LeavesForeignBehind (log_in home).append.format e.pipes.append.files e.pipes.disk d
+    ⊎ LeavesForeignBehind (log_in home).rewrite.format e.pipes.rewrite.files e.pipes.disk d
+    → ClosesWithoutChance home e.pipes d → ⊥

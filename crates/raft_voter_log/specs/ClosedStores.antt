@@ -1,0 +1,37 @@
+-- A store whose log was closed properly: its files ask nothing of chance, whatever reads them.
+use Rattle.std.specs.Prelude.{◌≡◌, ℕ, List}
+use Rattle.raft_log_fs.specs.Disk.{Disk}
+use Rattle.raft_log_fs.specs.Image.{IsSound}
+use Rattle.raft_log_file_settings.specs.declared.config.Config.{Config}
+use Rattle.raft_voter_durability_laws.specs.raft_log_engine_laws.specs.raft_log_dual_pipes.specs.OnDisk.{IsDurableAs}
+use Rattle.raft_voter_durability_laws.specs.raft_log_engine_laws.specs.EngineState.{EngineState, LogDirectories, LogMap, log_in}
+use Rattle.raft_log_recovery_laws.specs.ByCalls.{ForAllNaming, home_of}
+use Rattle.raft_log_recovery_laws.specs.Closed.{ClosesProperly, IsThatOrItsImage}
+use Rattle.raft_voter.specs.Rounds.{World}
+use Rattle.raft_voter.specs.Service.{CutRound, MayFollow, uncut}
+use Rattle.raft_voter_records.specs.Voters.{Means}
+use Rattle.raft_voter_durability_laws.specs.Standing.{Keeps}
+use Rattle.raft_voter_log.specs.Leaving.{FilesLeave, SparesFiles}
+use Rattle.raft_voter_log.specs.Opens.{FindsVoters}
+
+-- The files have voters that are possible after the round `cut`. There is no CRC collision in them as they are, nor in
+-- any crash image of them.
+abbrev pub AskNothing : Config → Disk → CutRound → Type 0
+AskNothing config d cut = (known : FilesLeave config d cut) × ((read : Disk) → SparesFiles config d cut known read)
+
+-- A log at rest, whose contents store voters that are possible after the round `cut`, asks nothing of chance.
+abbrev pub RestingVotersAskNothing : Type 0
+RestingVotersAskNothing = (config : Config) (d : Disk) (cut : CutRound) (m : LogMap) (W : World) → IsSound d
+    → IsDurableAs (log_in (home_of config)) d m → Means m W → MayFollow cut W → AskNothing config d cut
+
+-- If the log of a running store is closed properly, its files have the store's voters and ask nothing of chance.
+abbrev pub ClosedStoresMeetThePremise : Type 0
+ClosedStoresMeetThePremise = (config : Config) (s : EngineState) (W : World) (d : Disk) → IsSound s.pipes.disk
+    → Keeps (home_of config) s W → ClosesProperly s.pipes d → AskNothing config d (uncut W)
+
+-- The log of a running store was closed properly, and maybe there was a crash after that. An open finds the voters that
+-- the store kept, and all settings that name the directories find them. There is no premise on CRC collisions.
+abbrev pub ClosedStoresAreFound : {F : Type 0} → (F → Disk) → (F → List ℕ → ℕ → Type 0) → Type 0
+ClosedStoresAreFound {F} disk tells = (home : LogDirectories) (s : EngineState) (W : World) (d : Disk) (old : F)
+    → IsSound s.pipes.disk → IsSound (disk old) → Keeps home s W → ClosesProperly s.pipes d
+    → IsThatOrItsImage d (disk old) → ForAllNaming home (λ config. FindsVoters disk tells config old W (λ X. X ≡ W))

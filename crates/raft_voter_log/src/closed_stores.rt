@@ -1,0 +1,39 @@
+//! Stores whose logs are closed properly: an open finds their voters, whatever chance does.
+
+ghost use Rattle.raft_log_engine.specs.raft_log_engine_core.specs.Reads.{shows_of};
+ghost use Rattle.raft_voter_log.specs.ClosedRuns.{ClosedRunsAskNothing};
+ghost use Rattle.raft_voter_log.specs.ClosedStores.{ClosedStoresAreFound, ClosedStoresMeetThePremise, RestingVotersAskNothing};
+
+use crate::{LogFiles, LogVoters};
+use log::Log;
+use raft_log_engine::{EnginePipes, MemoryFileSystem, Nobody, PipeLog};
+use raft_log_fs::FileSystem;
+use raft_voter::RoundService;
+use raft_voter_world::{VoterDisk, VoterStorage};
+
+/// A log at rest asks nothing of chance, whatever left it so.
+pub fn resting_voters_ask_nothing()
+    ensures { RestingVotersAskNothing }
+{}
+
+/// If the log of a running store is closed properly, there is no CRC collision in its files: neither as they are nor in
+/// what a crash leaves of them.
+pub fn closed_stores_meet_the_premise()
+    ensures { ClosedStoresMeetThePremise }
+{}
+
+/// An open of a log that a store closed properly finds the voters that the store kept. There may be a crash between the
+/// two.
+pub fn closed_stores_are_found<F: FileSystem>()
+    ensures { ClosedStoresAreFound F.disk F.tells_space }
+{}
+
+/// Runs over a log in which stores are opened, serve, are purged, are closed, and crash while they run or are closed, and
+/// in which closed logs are copied. If no file call fails in the closes, and each crash leaves in the active files no more than what was written there, and zeros, there
+/// is no CRC collision. Each open serves voters, none loses them, and voters that never fail explain the rounds.
+pub fn closed_runs_ask_nothing<R: Log>()
+    ensures { ClosedRunsAskNothing ⟦<LogVoters as RoundService<R>>⟧.service
+        ⟦<LogVoters as VoterStorage<R>>⟧.upkeep ⟦<LogFiles as VoterDisk<R, LogVoters>>⟧.disk
+        (λ voters. voters.config)
+        (λ voters. shows_of ⟦<EnginePipes<MemoryFileSystem, Nobody> as PipeLog>⟧.shown voters.store.engine) }
+{}

@@ -124,7 +124,7 @@ pub(crate) fn fill_reserves<R: Files<File = File>>(
     }
 }
 
-/// Fills the reserve of the directory in which a file lies.
+/// Fills the reserve of a file's directory.
 pub(crate) fn fill_beside<R: Files<File = File>>(
     rt: &R,
     directories: &mut [LockedDirectory],
@@ -139,7 +139,7 @@ pub(crate) fn fill_beside<R: Files<File = File>>(
     }
 }
 
-/// Gives the reserve of the directory away in which a file lies. Returns whether there was any.
+/// Gives away the reserve of a file's directory. Returns whether there was any.
 fn give<R: Files<File = File>>(rt: &R, directories: &mut [LockedDirectory], path: &str) -> bool {
     let home = directory_of(path);
     for directory in directories.iter_mut() {
@@ -155,7 +155,7 @@ fn may_use(path: &str, offset: usize) -> bool {
     offset == 0 || path.ends_with(REWRITE)
 }
 
-/// The directory in which a file lies.
+/// The directory that a file is in.
 fn directory_of(path: &str) -> &str {
     match Path::new(path).parent() {
         Some(parent) => parent.as_str(),

@@ -113,7 +113,7 @@ LeavesUnopened {R} log which o s (errors.Io kind) new = (files : LogFiles R) × 
 LeavesUnopened log which o s _ new = ⊥
 
 -- A pipe was opened over the queue `was` that was found, and continues with the queue `now`. Both have the same earlier
--- files. The last file of `now` has the header of the pipe's format, and then all recent records of `was`, synced.
+-- files. The last file of `now` has the header of the pipe's format, and then all records of `was`'s last file, synced.
 pub record GoesOnFound {R : Type 0} (files : PipeFiles) (was now : LogFiles R) : Type 0 where
   pub older : now.older ≡ was.older
   pub last : now.last ≡ was.last

@@ -79,8 +79,8 @@ TrimsLeftover {R} F own handle end old new = (base : Disk) (q : LogFiles R) (pat
     → IsLeftBehind F own base handle end q path N old
     → IsTrimmed F own base handle end q path N old new
 
--- Truncating the queue's last file failed. If the queue was as a stop left it, a file call failed, and the queue still
--- has all records that were read, whatever header its last file is to get.
+-- Truncating the queue's last file failed. Suppose the queue was as a stop left it. Then a file call failed, and the
+-- queue still has all records that were read, whatever header its last file is to get.
 abbrev pub FailsToTrim : {R : Type 0} → Format R → (List ℕ → Type 0) → Handle → Option ℕ → Disk → Disk
     → Type 0
 FailsToTrim {R} F own handle end old new = (base : Disk) (q : LogFiles R) (path : List ℕ) (N : Names)
@@ -127,8 +127,8 @@ Reopens {R} F own handle end header writer old new = (base : Disk) (q : LogFiles
     → (front : List ℕ) × (room : ℕ) × GoesOnBehind F handle end header old front
     × IsOpen F own base writer (with_room room (reread front [] q)) path N new
 
--- The last file wasn't reopened. If the queue was as a stop left it, a file call failed, and the queue still has all
--- records that were read.
+-- The last file wasn't reopened. Suppose the queue was as a stop left it. Then a file call failed, and the queue still
+-- has all records that were read.
 abbrev pub FailsToReopen : {R : Type 0} → Format R → (List ℕ → Type 0) → Handle → Option ℕ → List ℕ → Disk
     → Disk → Type 0
 FailsToReopen {R} F own handle end header old new = (base : Disk) (q : LogFiles R) (path : List ℕ)

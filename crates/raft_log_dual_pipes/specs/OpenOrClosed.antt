@@ -68,10 +68,10 @@ LeavesQueue {R} log which o now s new becomes takes = (files : LogFiles R) × be
 -- A log of two queues, of which each may have a running pipe or only files on the disk (`IsOpenOrClosed`).
 -- - `allowed`: after any crash a recovery reads what the numbered files allow.
 -- - `log_of`: so if the numbered files contain a map with pending batches, that is true of the log.
--- - `running`: if both pipes run, the log is such a log.
--- - `held`: if no pipe runs, the log is such a log, provided that the last file of each queue holds its records, and no
---   file of the live ranges is missing.
--- - `dropped`: if the running pipes are dropped, the log is such a log without pipes.
+-- - `running`: a log over which both pipes run is such a log.
+-- - `held`: a log without running pipes is such a log, if each last file holds its records and no file of a live range
+--   is missing.
+-- - `dropped`: if its running pipes are dropped, a log still is such a log.
 pub record LyingLogIsALog {R E V : Type 0} (log : TwoQueues R E V) : Type 0 where
   pub allowed : (o : OpenPipes) (s : LogOnDisk R) (f : Files E V) → IsSound s.disk → IsOpenOrClosed log o s
       → Ties log s f → AllowsIn log s f

@@ -43,8 +43,7 @@ first_file s = (pipe_at InRewrite (files_of s.pipes)).first_seq
 -- Rewrite was rewritten. It rotated, all groups were restated, and it was synced. Then files left its live range. If no
 -- batch was pending:
 -- - `settles`: the log has the same contents, and nothing is pending in either queue.
--- - `begins`: the live range begins at the lowest file in which a group has an entry or value, or at the active file if
---   that is lower. If it began later before, it begins there.
+-- - `begins`: the live range begins at the lowest file in use (`loses.least`), or where it began if that is later.
 -- - `past`: it begins after the file that was active at the start.
 -- - `from`: all that a group has in Rewrite is after that file too.
 pub record RewritesRewrite (m : MemTables) (s t : EngineState) : Type 0 where

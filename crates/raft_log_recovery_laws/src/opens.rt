@@ -26,8 +26,9 @@ pub fn resting_logs_open_by_calls<F: FileSystem>()
     ensures { RestingLogsOpenByCalls F.disk F.tells_space }
 {}
 
-/// Opening any crash image of what an engine left so gives the map after some first pending batches, whether it
-/// succeeds or fails. They are the same ones for all settings that name its directories, and for any number of workers.
+/// Opening any crash image of what an engine left, by these steps, gives the map after a prefix of the pending batches,
+/// whether the open succeeds or fails. The prefix is the same for all settings that name its directories, and for any
+/// number of workers. The image must have no CRC collision.
 pub fn crashed_logs_open_by_calls<F: FileSystem>()
     ensures { CrashedLogsOpenByCalls F.disk F.tells_space }
 {}
@@ -38,17 +39,17 @@ pub fn resting_directories_open<F: FileSystem>()
     ensures { RestingDirectoriesOpen F.disk F.tells_space }
 {}
 
-/// Opening the directories of any crash image of what an engine left so gives the map after some first pending batches,
-/// whether it succeeds or fails. They are the same ones for all settings that name the directories, and for any number
-/// of workers.
+/// Opening the directories of any crash image of what an engine left, with `open_directory`, gives the map after a
+/// prefix of the pending batches. This is so whether the open succeeds or fails. The prefix is the same for all
+/// settings that name the directories, and for any number of workers. The image must have no CRC collision.
 pub fn crashed_directories_open<F: FileSystem>()
     ensures { CrashedDirectoriesOpen F.disk F.tells_space }
 {}
 
-/// Opening the directories of any crash image of a running engine so gives the map after some first pending batches,
-/// whether it succeeds or fails. They are the same ones for all settings that name the directories. That there is no
-/// CRC collision depends only on its pipes and on the bytes on the disk. Nothing is read that it didn't write, or that
-/// a write that isn't synced didn't pass to it.
+/// Opening the directories of any crash image of a running engine, with `open_directory`, gives the map after a prefix
+/// of the pending batches. This is so whether the open succeeds or fails. The prefix is the same for all settings that
+/// name the directories. The image must have no CRC collision, which depends only on the engine's pipes and on the
+/// bytes on the disk. So whatever is read of a file was written there, or passed to it by an unsynced write.
 pub fn crashed_engines_open<F: FileSystem>()
     ensures { CrashedEnginesOpen F.disk F.tells_space }
 {}

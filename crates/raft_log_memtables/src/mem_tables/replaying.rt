@@ -101,8 +101,8 @@ impl MemTables {
         }
     }
 
-    /// Notes the files of an atomic group of Rewrite that was read, for a group whose items of it are applied, with
-    /// those that were noted before.
+    /// Notes the files of an atomic group of Rewrite that was read, for a raft group to which its items were applied.
+    /// Files that were noted before stay noted.
     pub fn note_read_group(&mut self, group: u64, files: GroupFiles)
         ensures noted { replayed_of self.new group ≡ read_noted_in files (raw_of self.old group) }
         ensures others { (g : ℕ) → (group == g) ≡ false → replayed_of self.new g ≡ replayed_of self.old g }

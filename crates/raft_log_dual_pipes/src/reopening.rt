@@ -4,8 +4,8 @@ ghost use Rattle.raft_log_dual_pipes.specs.Reopening.{CrashIsAStep, FoundLogIsAL
 
 use crate::queues::LogQueues;
 
-/// In any state of the queues, a crash without a CRC collision leaves the files of both at rest, with a prefix of the
-/// unsynced records of each.
+/// In any state of the queues, a crash without a CRC collision leaves the files of both at rest. Each queue keeps a
+/// prefix of its unsynced records.
 pub fn crash_is_a_step<G: LogQueues>()
     ensures { (log : G) → CrashIsAStep (G.queues log) }
 {}

@@ -5,8 +5,8 @@ ghost use Rattle.raft_log_file_pipe.specs.Laws.{PipesAreFound, PipesAreKept};
 
 use raft_log_active_file::PipeFormat;
 
-/// After any stop without a CRC collision, all records of a pipe's earlier files are read, and of the last one all
-/// durable records and a prefix of the pending ones. What the stop leaves is the queue again.
+/// After any stop without a CRC collision, all records of a pipe's earlier files are read. Of the last file, all
+/// durable records and a prefix of the pending ones are read. What the stop leaves is the queue again.
 pub fn pipes_are_kept<G: PipeFormat>()
     ensures { (layout : G) → PipesAreKept (G.format layout) (G.own layout) (G.file_paths layout) }
 {}

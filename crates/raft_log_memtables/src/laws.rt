@@ -36,8 +36,8 @@ ghost use Rattle.raft_log_memtables.specs.Rewriting.{
 };
 ghost use Rattle.raft_log_memtables.specs.Tables.{counts, shown_of};
 
-/// A batch in a file of Append may be applied in each group if none of its runs leaves a hole, and none ends past 2^64
-/// - 1. The `whereabouts` follow its items, and the places mean the map after the batch.
+/// A batch in a file of Append may be applied in each group if no run of it leaves a hole or ends past 2^64 - 1. The
+/// `whereabouts` follow its items, and the places mean the map after the batch.
 pub fn batch_grows_everywhere<E>()
     ensures grows { (at : Located → E) (n : ℕ) (v : ℕ → Shown) (xs : List (Tagged Place (List ℕ)))
         → ((g : ℕ) → IsOrderly (v g)) → MayFollowAll v xs

@@ -15,8 +15,8 @@ pub fn no_record_is_longer()
     ensures { NoRecordIsLonger }
 {}
 
-/// Each addition to a batch raises its bound by at most 32 bytes, plus ten for each entry, and the bytes of the
-/// entries, or of the key and value.
+/// Each addition to a batch raises its bound by at most 32 bytes, plus ten for each entry, and the bytes of the entries
+/// or of the pair.
 pub fn additions_raise()
     ensures { AdditionsRaise }
 {}

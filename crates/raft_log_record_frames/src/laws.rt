@@ -22,8 +22,8 @@ ghost use Rattle.raft_log_record_frames.specs.Frames.{
 ghost use Rattle.raft_log_record_frames.specs.Signatures.{SignatureSeparatesFiles};
 ghost use Rattle.raft_log_record_frames.specs.Written.{WrittenIsRecord};
 
-/// A footer that is signed for one file is valid in another signed file if and only if the files' numbers have the same
-/// low 32 bits.
+/// A footer that is signed for one file is valid in another signed file exactly if the files' numbers have the same low
+/// 32 bits.
 pub fn signature_separates_files()
     ensures { SignatureSeparatesFiles }
 {}

@@ -5,9 +5,9 @@ ghost use Rattle.raft_log_recovery_laws.specs.InPlace.{SyncedFilesHoldStill, Unc
 
 use raft_log_fs::FileSystem;
 
-/// If what a failed or closed engine left is opened without a crash, the map is that after a prefix of the pending
-/// batches, and nothing is pending. The bytes that weren't synced are read as they are, and synced. If opening a pipe
-/// fails after the syncs, the log is left with that map. If it fails earlier, the log is left with that map or
+/// What a failed or closed engine left may be opened without a crash. The map then is that after a prefix of the
+/// pending batches, and nothing is pending. The bytes that weren't synced are read as they are, and synced. If opening
+/// a pipe fails after the syncs, the log is left with that map. If it fails earlier, the log is left with that map or
 /// unchanged, with the batches that were pending.
 pub fn standing_logs_open_by_calls<F: FileSystem>()
     ensures { StandingLogsOpenByCalls F.disk F.tells_space }

@@ -8,8 +8,7 @@ ghost use Rattle.raft_log_recovery_laws.specs.Running.{CrashedEnginesOpen};
 
 use raft_log_fs::FileSystem;
 
-/// If a log rests on a disk, a scan of the directories in its settings finds all files of either queue from the last
-/// gap on.
+/// If a log rests on a disk, a scan of the settings' directories finds all files of either queue from the last gap on.
 pub fn scans_find_all_files()
     ensures { ScansFindAllFiles }
 {}
@@ -26,9 +25,9 @@ pub fn resting_logs_open_by_calls<F: FileSystem>()
     ensures { RestingLogsOpenByCalls F.disk F.tells_space }
 {}
 
-/// Opening any crash image of what an engine left, by these steps, gives the map after a prefix of the pending batches,
-/// whether the open succeeds or fails. The prefix is the same for all settings that name its directories, and for any
-/// number of workers. The image must have no CRC collision.
+/// Opening any crash image of what an engine left, by these steps, gives the map after a prefix of the pending batches.
+/// This is so whether the open succeeds or fails. The prefix is the same for all settings that name its directories,
+/// and for any number of workers. The image must have no CRC collision.
 pub fn crashed_logs_open_by_calls<F: FileSystem>()
     ensures { CrashedLogsOpenByCalls F.disk F.tells_space }
 {}

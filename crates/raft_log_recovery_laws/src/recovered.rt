@@ -12,8 +12,8 @@ pub fn read_files_are_the_queue()
     ensures none { NoFilesAreTheQueue }
 {}
 
-/// Suppose an engine's pipes run over a log that was found again, and its tables are merged from all that was read of
-/// the log's files. Then the engine holds the map of the log, and nothing is pending.
+/// Suppose an engine's pipes run over a log that was found again, and its tables are merged from all that was read
+/// there. Then the engine holds the map of the log, and nothing is pending.
 pub fn opened_engines_hold()
     ensures { OpenedEnginesHold }
 {}

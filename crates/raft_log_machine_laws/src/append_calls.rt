@@ -21,8 +21,8 @@ pub fn written_batch_is_pending<P: TiedFiles>()
         → Appends P.ties InAppend y n s t → GrowsTo y n v u → ViewEndsAt (P.ties t) u m (pending ++ y ∷ []) }
 {}
 
-/// A batch that isn't written leaves nothing in the log. If the pipe truncated what it wrote of it, all batches before
-/// it are synced. If it wrote nothing, the first few of them may be synced.
+/// A batch that isn't written leaves nothing in the log. If the pipe truncated a part that was written, all earlier
+/// batches are synced. If nothing was written, a prefix of the earlier batches may be synced.
 pub fn refused_batch_leaves_no_trace<P: TiedFiles>()
     ensures cut_back { (s t : P) (v : View P.Entry P.Value) (m : Map P.Entry P.Value)
         (pending : List (Record P.Entry P.Value)) → IsAt (P.ties s) v m pending

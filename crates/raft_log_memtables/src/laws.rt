@@ -50,8 +50,8 @@ pub fn batch_grows_everywhere<E>()
         → (g : ℕ) → IsMeant at (all_shown n v xs g) (after (m g) (of_group g (all_written at xs))) }
 {}
 
-/// Tables that are ready for a batch before the write are ready for it after it, wherever it was written. A batch that
-/// they are ready for may follow.
+/// If tables are ready for a batch before it is written, they are ready for it after the write, wherever it was
+/// written. A batch that they are ready for may follow.
 pub fn ready_wherever_written()
     ensures written { (m : MemTables) (handle : FileBlockHandle) (items : List LogItem)
         → IsReadyFor m (tagged_items (λ e. e) items)

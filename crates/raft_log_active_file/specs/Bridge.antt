@@ -1,4 +1,4 @@
--- The log's model sees a queue as numbered files with records (`FileQueue`). Here is defined which numbered files
+-- The log's model sees a queue as numbered files with records (`FileQueue`). The definitions say which numbered files
 -- correspond to the files on a disk, and what is read of them after a stop.
 use Rattle.std.specs.Prelude.{◌≡◌, ℕ, ◌+◌, ◌<◌, ◌≤◌, List, [], ◌∷◌, ◌++◌, map, suc, zero}
 use Rattle.raft_log_model_laws.specs.Item.{Record}
@@ -46,7 +46,7 @@ pub record IsFileQueue {R E V : Type 0} (says : R → Record E V) (F : Format R)
   pub gap : (m : ℕ) → suc m ≡ low → IsAbsent F m d
 
 -- After any stop without a CRC collision, the last file has its synced records and a prefix `kept` of its pending ones.
--- Who reads the queue from a number up to `first` gets the numbered files from there on, the last one with these
+-- A read of the queue from any number up to `first` gives the numbered files from there on, the last one with these
 -- records.
 abbrev pub ReadsAsFiles : {R E V : Type 0} → (R → Record E V) → Format R → LogFiles R → ℕ → ℕ → Disk
     → FileQueue E V

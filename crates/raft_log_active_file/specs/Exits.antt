@@ -101,7 +101,8 @@ abbrev pub SyncsAll : {R : Type 0} → Format R → (List ℕ → Type 0) → Lo
 SyncsAll {R} F own writer old new = (base : Disk) (q : LogFiles R) (path : List ℕ) (N : Names)
     → IsOpen F own base writer q path N old → IsOpen F own base writer (synced q) path N new
 
--- A sync of the file failed. If a queue is open to the writer, a file call failed, and its last file holds its records.
+-- A sync of the file failed. If a queue is open to the writer, a file call failed, and the queue's last file holds its
+-- records.
 abbrev pub FailsToSyncAll : {R : Type 0} → Format R → (List ℕ → Type 0) → LogFileWriter → Disk → Disk
     → Type 0
 FailsToSyncAll {R} F own writer old new = (base : Disk) (q : LogFiles R) (path : List ℕ) (N : Names)
@@ -113,7 +114,8 @@ abbrev pub Finishes : {R : Type 0} → Format R → (List ℕ → Type 0) → Lo
 Finishes {R} F own before after old new = (base : Disk) (q : LogFiles R) (path : List ℕ) (N : Names)
     → IsOpen F own base before q path N old → IsFinished F own base after q path N new
 
--- The file wasn't finished. If a queue is open to the writer, a file call failed, and its last file holds its records.
+-- The file wasn't finished. If a queue is open to the writer, a file call failed, and the queue's last file holds its
+-- records.
 abbrev pub FailsToFinish : {R : Type 0} → Format R → (List ℕ → Type 0) → LogFileWriter → Disk → Disk
     → Type 0
 FailsToFinish {R} F own before old new = (base : Disk) (q : LogFiles R) (path : List ℕ) (N : Names)

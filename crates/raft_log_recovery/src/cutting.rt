@@ -14,7 +14,7 @@ use std::io::ErrorKind;
 const ROOM: usize = 4096;
 
 /// Truncates and syncs the damaged ones of these files of a queue, in order. Each then ends after its last good record,
-/// or is empty if it has no header. If a file fails, the damaged ones before it are truncated and synced.
+/// or is empty if it has no header. If that fails for a file, the damaged ones before it are truncated and synced.
 pub fn cut_files<F: FileSystem, L: Log>(
     rt: &L,
     file_system: &mut F,

@@ -91,8 +91,8 @@ pub record OpensStanding {F : Type 0} (disk : F → Disk) (tells : F → List �
   pub refused : (error : Error) (new : F) → FailsToOpenDirectory disk tells config error old new
       → IsLeftEither (home_of config) (disk new) m pending now
 
--- An open in place with the one call gives the contents `m` after a prefix of the pending batches. They are the same
--- for all settings that name the directories.
+-- An open in place with the one call gives the contents `m` after a prefix of the pending batches. The prefix is the
+-- same for all settings that name the directories.
 abbrev pub StandingDirectoriesOpen : {F : Type 0} → (F → Disk) → (F → List ℕ → ℕ → Type 0) → Type 0
 StandingDirectoriesOpen {F} disk tells = (home : LogDirectories) → 0 < length home.append → 0 < length home.rewrite
     → (old : F) (m : LogMap) (pending : List LogRecordValue) → IsSound (disk old)

@@ -53,8 +53,8 @@ AreGone paths N first kept (f ∷ fs) = (f.seq < first) × (f.reserved ≡ false
     × ((id : ℕ) × (N (path_of paths f) ≡ Some id)) × NoneHas paths (path_of paths f) kept
     × NoneHas paths (path_of paths f) fs × AreGone paths N first kept fs
 
--- A pipe runs over a queue, and the files at these paths may be deleted. Then the first `count` of them were deleted,
--- one after the other. The others are still there, and the pipe still runs.
+-- If a pipe runs over a queue, and the files at these paths may be deleted, the first `count` of them were deleted, in
+-- order. The others are still there, and the pipe still runs.
 abbrev pub DropsTo : {R : Type 0} → Format R → (List ℕ → Type 0) → FilePaths → List (List ℕ) → ℕ → Disk → Disk
     → Type 0
 DropsTo {R} F own paths gone count old new = (base : Disk) (files : PipeFiles) (q : LogFiles R)

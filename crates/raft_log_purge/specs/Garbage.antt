@@ -52,8 +52,8 @@ pub record ResetsCounts (old new : GlobalStats) (s t : EngineState) : Type 0 whe
 
 -- The counts after a rewrite of Rewrite failed; `before` are the tables before it. One of three is so:
 -- - The counts are unchanged, and so are the tables.
--- - The number of restated entries and values was added to what was written, and to the garbage. Restated is what is
---   live after the file that was active at the start (`CountsPast`).
+-- - The number of restated entries and values was added to what was written, and to the garbage. What is live after the
+--   file that was active at the start counts as restated (`CountsPast`).
 -- - All groups were restated, and the counts were reset.
 abbrev pub CountsRefused : MemTables → GlobalStats → GlobalStats → EngineState → EngineState → Type 0
 CountsRefused before old new s t = ((t.tables ≡ s.tables) × (new ≡ old))

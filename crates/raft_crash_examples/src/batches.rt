@@ -65,8 +65,8 @@ pub fn load_both<R: Threads + Log + Sync, F: FileSystem + Sync + Drop>(
     Ok(TwoValues { first, second })
 }
 
-/// Begins the log of these settings, writes two changes in one batch, which may fail, and loses power, which leaves
-/// this. Then reads both keys with other settings. Returns whether the write succeeded, and what was read.
+/// Begins the log of these settings, writes two changes in one batch, which may fail, and loses power; `what` says what
+/// that leaves. Then reads both keys with other settings. Returns whether the write succeeded, and what was read.
 pub fn read_both<R: Threads + Log + Sync, F: FileSystem + Sync + Drop, C: Crash<F>>(
     rt: &R,
     alloc: Global,

@@ -9,8 +9,8 @@ use raft_log_engine::{Config, FileSystem, MemoryFileSystem, Remainder, Result};
 use std::alloc::Global;
 use std::thread::Threads;
 
-/// Begins the log of these settings, saves a group's key in it, and loses power, which leaves this. Then reads the key
-/// with other settings, with any number of recovery workers.
+/// Begins the log of these settings, saves a group's key in it, and loses power; `what` says what that leaves. Then
+/// reads the key with other settings, with any number of recovery workers.
 pub fn save_across_a_crash<R: Threads + Log + Sync>(
     rt: &R,
     alloc: Global,

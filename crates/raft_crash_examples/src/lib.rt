@@ -1,4 +1,4 @@
-//! Callers of an engine across a crash: what succeeded before it is there after it, whatever it left.
+//! Callers of an engine across a crash: what succeeded before the crash is there after it, whatever the crash left.
 #![tactic(auto)]
 
 pub mod batches;

@@ -47,8 +47,8 @@ pub fn purge_all<L: Log, P: PipeLog>(rt: &L, engine: &mut LogEngine<P>, purges: 
     }
 }
 
-/// Begins the log of these settings, changes keys in it, purges it, and loses power, which leaves this. Then reads a
-/// key with other settings. Any purge may fail, at any point.
+/// Begins the log of these settings, changes keys in it, purges it, and loses power; `what` says what that leaves. Then
+/// reads a key with other settings. Any purge may fail, at any point.
 pub fn read_behind_purges<R: Threads + Log + Sync, F: FileSystem + Sync + Drop, C: Crash<F>>(
     rt: &R,
     alloc: Global,

@@ -17,8 +17,8 @@ pub enum NotServed {
     Memory,
 }
 
-/// Opens a store over files, serves a round, loses power, which leaves this, opens the store again and serves another
-/// round. Returns the replies to both.
+/// Opens a store over files, serves a round, and loses power; `left` says what that leaves. Then opens the store again
+/// and serves another round. Returns the replies to both.
 pub fn serve_across_a_crash<
     R: Threads + Sync,
     S: VoterStorage<R> + Drop,

@@ -59,7 +59,8 @@ pub fn load_and_end<R: Threads + Log + Sync, F: FileSystem + Sync + Drop, C: Cra
 }
 
 /// Begins the log of these settings, puts a group's key in it without a sync, loses power, and reads the key with other
-/// settings. Then lives on, and reads the key once more. Returns what was read first and last.
+/// settings. Then the log has more lives (`lives`), and the key is read once more. Returns what was read first and
+/// last.
 pub fn read_unsynced<R: Threads + Log + Sync, F: FileSystem + Sync + Drop, C: Crash<F>>(
     rt: &R,
     alloc: Global,

@@ -9,8 +9,8 @@ use raft_voter_world::{Left, VoterDisk, VoterStorage};
 use std::alloc::Global;
 use std::thread::Threads;
 
-/// Candidate 2 requests the vote of group 1 in term 5, the power goes, which leaves this, and then candidate 3 requests
-/// it. Returns the replies to both.
+/// Candidate 2 requests the vote of group 1 in term 5. Power is lost; `left` says what that leaves. Then candidate 3
+/// requests the same vote. Returns the replies to both.
 pub fn vote_across_a_crash<R: Threads + Sync, S: VoterStorage<R> + Drop, F: VoterDisk<R, S> + Drop>(
     rt: &R,
     alloc: Global,

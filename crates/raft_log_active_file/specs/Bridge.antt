@@ -1,5 +1,5 @@
--- The numbered files (`FileQueue`) are how the log's model sees the files of a queue. Which ones correspond to the
--- files on a disk, and what is read of them after a stop.
+-- The log's model sees a queue as numbered files with records (`FileQueue`). The definitions say which numbered files
+-- correspond to the files on a disk, and what is read of them after a stop.
 use Rattle.std.specs.Prelude.{◌≡◌, ℕ, ◌+◌, ◌<◌, ◌≤◌, List, [], ◌∷◌, ◌++◌, map, suc, zero}
 use Rattle.raft_log_model_laws.specs.Item.{Record}
 use Rattle.raft_log_machine_laws.specs.Files.{LogFile, FileQueue, FileEvent, FileStep, IsRead, AllBehind}
@@ -29,7 +29,7 @@ logged says found = record { number = found.number; records = said says found.re
 -- `files` are the numbered files of the queue `q`, whose live range begins at `first`.
 -- - `gone`, `full`: the files from `low` up to the live range, and those of the live range before the last.
 -- - `last`, `synced`, `pending`: the last file's number, synced records and unsynced records.
--- - `gap`: all other files come before a gap, as the number just below `low` has no file.
+-- - `gap`, `behind`: the number just below `low` has no file, and all other files have lower numbers.
 pub record IsFileQueue {R E V : Type 0} (says : R → Record E V) (F : Format R) (q : LogFiles R)
     (low first : ℕ)
     (d : Disk) (files : FileQueue E V) : Type 0 where
@@ -45,8 +45,9 @@ pub record IsFileQueue {R E V : Type 0} (says : R → Record E V) (F : Format R)
   pub behind : AllBehind low files.behind
   pub gap : (m : ℕ) → suc m ≡ low → IsAbsent F m d
 
--- After any stop without a CRC collision, the first pending records `kept` of the last file are left. Reading from any
--- number up to `first` gives the numbered files from there on, the last one with these records.
+-- After any stop without a CRC collision, the last file has its synced records and a prefix `kept` of its pending ones.
+-- A read of the queue from any number up to `first` gives the numbered files from there on, the last one with these
+-- records.
 abbrev pub ReadsAsFiles : {R E V : Type 0} → (R → Record E V) → Format R → LogFiles R → ℕ → ℕ → Disk
     → FileQueue E V
     → Type 0
@@ -56,13 +57,13 @@ ReadsAsFiles {R} {E} {V} says F q low first d files = (image : Disk) → IsImage
     × ((s : ℕ) → s ≤ first → (found : List (Found R)) → ReadsFrom F image s found
     → IsRead low files kept s (map (logged says) found))
 
--- the numbered files can take the step `event`, and then are those of the queue `q` on the disk `d`
+-- by the step `event`, the numbered files `files` can become those of the queue `q` on the disk `d`
 abbrev pub StepsTo : {R E V : Type 0} → (R → Record E V) → Format R → FileEvent E V → FileQueue E V
     → LogFiles R
     → ℕ → ℕ → Disk → Type 0
 StepsTo {R} {E} {V} says F event files q low first d =
     (next : FileQueue E V) × FileStep event files next × IsFileQueue says F q low first d next
 
--- each number below the last one that has no file in `old` has none in `new`
+-- if a number below that of the last file has no file in `old`, it has none in `new`
 abbrev pub GapsStay : {R : Type 0} → Format R → LogFiles R → Disk → Disk → Type 0
 GapsStay F q old new = (m : ℕ) → m < q.last → IsAbsent F m old → IsAbsent F m new

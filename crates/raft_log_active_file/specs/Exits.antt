@@ -62,8 +62,8 @@ AppendLeaves F own (CutBack kind) base w q before after path N new = IsOpen F ow
 AppendLeaves F own (Failed kind) base w q before after path N new = (room : ℕ) × IsHeld F own base before
     (with_more (w ∷ []) (with_room room q)) path N new
 
--- If a queue is open to the writer, a record with these bytes wasn't appended to it, as a file call failed.
--- `AppendLeaves` says what is left.
+-- A record with these bytes wasn't appended. If a queue is open to the writer, a file call failed, and `AppendLeaves`
+-- says what is left of the queue.
 abbrev pub FailsToAppend : {R : Type 0} → Format R → (List ℕ → Type 0) → List ℕ → WriteFault
     → LogFileWriter → LogFileWriter → Disk → Disk → Type 0
 FailsToAppend {R} F own bytes fault before after old new = (base : Disk) (q : LogFiles R) (w : Written R)
@@ -101,7 +101,8 @@ abbrev pub SyncsAll : {R : Type 0} → Format R → (List ℕ → Type 0) → Lo
 SyncsAll {R} F own writer old new = (base : Disk) (q : LogFiles R) (path : List ℕ) (N : Names)
     → IsOpen F own base writer q path N old → IsOpen F own base writer (synced q) path N new
 
--- if a queue is open to the writer, its records weren't synced, as a file call failed; its last file holds its records
+-- A sync of the file failed. If a queue is open to the writer, a file call failed, and the queue's last file holds its
+-- records.
 abbrev pub FailsToSyncAll : {R : Type 0} → Format R → (List ℕ → Type 0) → LogFileWriter → Disk → Disk
     → Type 0
 FailsToSyncAll {R} F own writer old new = (base : Disk) (q : LogFiles R) (path : List ℕ) (N : Names)
@@ -113,7 +114,8 @@ abbrev pub Finishes : {R : Type 0} → Format R → (List ℕ → Type 0) → Lo
 Finishes {R} F own before after old new = (base : Disk) (q : LogFiles R) (path : List ℕ) (N : Names)
     → IsOpen F own base before q path N old → IsFinished F own base after q path N new
 
--- if a queue is open to the writer, its last file wasn't finished, as a file call failed; it holds its records
+-- The file wasn't finished. If a queue is open to the writer, a file call failed, and the queue's last file holds its
+-- records.
 abbrev pub FailsToFinish : {R : Type 0} → Format R → (List ℕ → Type 0) → LogFileWriter → Disk → Disk
     → Type 0
 FailsToFinish {R} F own before old new = (base : Disk) (q : LogFiles R) (path : List ℕ) (N : Names)
@@ -134,8 +136,8 @@ Begins {R} F own handle header writer old new = (base : Disk) (q : LogFiles R) (
     → IsGiven F own base handle (begun header stale q) path N old
     → (room : ℕ) × IsOpen F own base writer (with_room room (begun header stale q)) path N new
 
--- If the queue's last file has no header yet, writing `header` failed, as a file call failed. Any part of the header
--- may be on disk, but no record.
+-- Writing `header` failed. If the queue's last file has no header yet, a file call failed. Any part of the header may
+-- be on disk, but no record.
 abbrev pub FailsToBegin : {R : Type 0} → Format R → (List ℕ → Type 0) → Handle → List ℕ → Disk → Disk
     → Type 0
 FailsToBegin {R} F own handle header old new = (base : Disk) (q : LogFiles R) (stale : List ℕ)

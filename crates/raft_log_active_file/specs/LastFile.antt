@@ -20,7 +20,7 @@ pub record IsFrontTo {R : Type 0} (F : Format R) (capacity : ℕ) (q : LogFiles 
   pub front : IsFront F q more file
   pub ends : length file.content ≤ capacity
 
--- the file was truncated after its records, after a failed write; it is at most `capacity` bytes long
+-- after a failed write, the file was truncated to its records; it is at most `capacity` bytes long
 pub record IsCutTo {R : Type 0} (F : Format R) (capacity : ℕ) (q : LogFiles R) (more : List (Written R))
     (file : File) : Type 0 where
   pub cut : IsCut F q more file

@@ -16,7 +16,7 @@ abbrev pub LogFilesAreTold : Type 0
 LogFilesAreTold = (queue : LogQueue) (directories : List (List ℕ))
     → CanTellFormat (log_format queue directories)
 
--- no path is one of both queues' own, whatever their directories
+-- no path belongs to both queues, whatever their directories are
 abbrev pub QueuesAreApart : Type 0
 QueuesAreApart = (append rewrite : List (List ℕ)) (path : List ℕ) → IsOwnPath Append append path
     → IsOwnPath Rewrite rewrite path → ⊥

@@ -28,8 +28,8 @@ pub record CanBegin {R : Type 0} (F : Format R) (own : List ℕ → Type 0) (bas
   pub header_is : F.IsHeader header
   pub path_is : F.IsPath 1 path
 
--- If the queue could begin, it has begun in its file 1 at this path: that has the header and no record, and the queue
--- is open to the writer. The handle may write the file, zeros may be allocated in it, and there is no file 0.
+-- If the queue could begin, it has begun in its file 1 at this path. The file has the header and no record, and the
+-- queue is open to the writer. The handle may write the file, zeros may be allocated in it, and there is no file 0.
 abbrev pub BeginsQueue : {R : Type 0} → Format R → (List ℕ → Type 0) → List ℕ → List ℕ → Handle
     → LogFileWriter → Disk → Disk → Type 0
 BeginsQueue {R} F own header path handle writer old new = (base : Disk) (older : ℕ → Past R)
@@ -42,8 +42,8 @@ BeginsQueue {R} F own header path handle writer old new = (base : Disk) (older :
 abbrev pub IsHalfBegun : {R : Type 0} → Format R → (List ℕ → Type 0) → Disk → LogFiles R → Disk → Type 0
 IsHalfBegun F own base q d = IsFresh F own base d ⊎ ((room : ℕ) × StandsWithRecords F own base (with_room room q) d)
 
--- If the queue could begin, it has not, as a file call failed. It may still begin, or its file 1 exists without a
--- record. There is no file 0.
+-- The queue hasn't begun. If it could, a file call failed. It may still begin, or its file 1 exists without a record.
+-- There is no file 0.
 abbrev pub FailsToBeginQueue : {R : Type 0} → Format R → (List ℕ → Type 0) → List ℕ → List ℕ → Disk → Disk
     → Type 0
 FailsToBeginQueue {R} F own header path old new = (base : Disk) (older : ℕ → Past R)

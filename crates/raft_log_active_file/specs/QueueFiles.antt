@@ -18,8 +18,8 @@ pub record IsRecordIn (n : ℕ) (header bytes : List ℕ) (said : LogRecord) : T
   pub says : IsFileHeader header format
   pub is : IsRecord (signature format.version n) bytes said.items said.entries
 
--- `bytes` are the header of a format without an alignment. Pipes write no other header. So a torn one of version 2
--- whose last eight bytes aren't zeros is no header.
+-- `bytes` are the header of a format without an alignment. Pipes write no other header. A torn header of version 2 may
+-- have last eight bytes that aren't zeros; it doesn't count as a header.
 abbrev pub IsAHeader : List ℕ → Type 0
 IsAHeader bytes = (format : LogFileFormat) × IsFileHeader bytes format × IsUnaligned format
 

@@ -51,14 +51,14 @@ IsLeftTurned F own base q header stale d = StandsWithRecords F own base q d ⊎
     ((room : ℕ) × StandsWithRecords F own base (with_room room (rotated header stale q)) d)
 
 -- The queue has rotated into the next file, at the path `to`, over the bytes `stale`. It is open to the writer, and
--- zeros may be allocated. No number below the old last one that had no file got one.
+-- zeros may be allocated. If a number below the old last one had no file, it still has none.
 abbrev pub QueueGoesOnInNext : {R : Type 0} → Format R → (List ℕ → Type 0) → Disk → LogFileWriter → LogFiles R
     → List ℕ → List ℕ → List ℕ → Names → Disk → Disk → Type 0
 QueueGoesOnInNext F own base writer q header stale to N old new = (room : ℕ)
     × IsOpen F own base writer (with_room room (rotated header stale q)) to N new × GapsStay F q old new
 
--- The rotation failed, as a file call failed. The queue is unchanged or has a next file without records, and its last
--- file holds its records. No gap was filled.
+-- The rotation failed because a file call failed. The queue is unchanged or has a next file without records, and its
+-- last file holds its records. No gap was filled.
 abbrev pub StaysBehind : {R : Type 0} → Format R → (List ℕ → Type 0) → Disk → LogFiles R → List ℕ
     → List ℕ → Disk → Disk → Type 0
 StaysBehind F own base q header stale old new = Fails old new
@@ -143,8 +143,8 @@ Drops {R} F own gone old new = (base : Disk) (writer : LogFileWriter) (q : LogFi
     → CanDrop F own q gone N → IsOpen F own base writer q path N old
     → IsOpen F own base writer q path (update bytes_eq N gone None) new × GapsStay F q old new
 
--- If the queue is open to the writer, deleting its file at `gone` failed, as a file call failed or the file system
--- stopped. The queue still holds its records.
+-- Deleting the file at `gone` failed. If the queue is open to the writer, a file call failed or the file system
+-- stopped, and the queue still holds its records.
 abbrev pub FailsToDrop : {R : Type 0} → Format R → (List ℕ → Type 0) → List ℕ → Disk → Disk → Type 0
 FailsToDrop {R} F own gone old new = (base : Disk) (writer : LogFileWriter) (q : LogFiles R)
     (path : List ℕ) (N : Names)

@@ -30,8 +30,7 @@ pub record IsLeftBehind {R : Type 0} (F : Format R) (own : List ℕ → Type 0) 
 abbrev pub HandleBeginsWith : {R : Type 0} → Format R → Handle → List ℕ → Disk → Type 0
 HandleBeginsWith F handle header d = HasFile handle.file (λ file. HasHeader F header file.content) d
 
--- `front` is the header with which the queue continues: the one that its last file has, or, if that has none (`None`),
--- the new one, `header`
+-- `front` is the header that the queue's last file has from now on: its own, or `header` if it has none (`None`)
 abbrev pub GoesOnBehind : {R : Type 0} → Format R → Handle → Option ℕ → List ℕ → Disk → List ℕ → Type 0
 GoesOnBehind F handle (Some end) header d front = HandleBeginsWith F handle front d
 GoesOnBehind F handle None header d front = front ≡ header
@@ -65,8 +64,8 @@ abbrev pub IsWhatItHeld : Handle → List ℕ → Disk → Type 0
 IsWhatItHeld handle stale d = HasFile handle.file (λ file. stale ≡ file.content) d
     ⊎ ((room : ℕ) × (stale ≡ grown room []))
 
--- The queue's files are on the disk. Its last file has all records that were read of it, all durable, after its own
--- header or the one that it gets.
+-- The queue's files are on the disk. Its last file has all records that were read of it, and they are durable. The
+-- file's header is its own, or, if it has none, the one that it gets.
 abbrev pub IsHalfOpen : {R : Type 0} → Format R → (List ℕ → Type 0) → Disk → Handle → Option ℕ → List ℕ
     → LogFiles R → Disk → Disk → Type 0
 IsHalfOpen F own base handle end header q old new = (front stale : List ℕ)
@@ -80,8 +79,8 @@ TrimsLeftover {R} F own handle end old new = (base : Disk) (q : LogFiles R) (pat
     → IsLeftBehind F own base handle end q path N old
     → IsTrimmed F own base handle end q path N old new
 
--- If the queue was as a stop left it, truncating its last file failed, as a file call failed. The queue still has all
--- records that were read, whatever header its last file is to get.
+-- Truncating the queue's last file failed. Suppose the queue was as a stop left it. Then a file call failed, and the
+-- queue still has all records that were read, whatever header its last file is to get.
 abbrev pub FailsToTrim : {R : Type 0} → Format R → (List ℕ → Type 0) → Handle → Option ℕ → Disk → Disk
     → Type 0
 FailsToTrim {R} F own handle end old new = (base : Disk) (q : LogFiles R) (path : List ℕ) (N : Names)
@@ -118,8 +117,8 @@ pub data ReopenMakes (handle : Handle) (end : Option ℕ) (header : List ℕ) (e
   not_taken_up : (trimmed : Disk) → Trims handle (unwrap_or end 0) old trimmed
       → TakeUpMakes handle end header error trimmed new → ReopenMakes handle end header error old new
 
--- If the queue was as a stop left it, it continues: all records that were read are durable, and it is open to the
--- writer. Zeros may be allocated after the records.
+-- If the queue was as a stop left it, it can be appended to: all records that were read are durable, and the writer has
+-- its last file open. Zeros may be allocated after the records.
 abbrev pub Reopens : {R : Type 0} → Format R → (List ℕ → Type 0) → Handle → Option ℕ → List ℕ
     → LogFileWriter → Disk → Disk → Type 0
 Reopens {R} F own handle end header writer old new = (base : Disk) (q : LogFiles R) (path : List ℕ)
@@ -128,8 +127,8 @@ Reopens {R} F own handle end header writer old new = (base : Disk) (q : LogFiles
     → (front : List ℕ) × (room : ℕ) × GoesOnBehind F handle end header old front
     × IsOpen F own base writer (with_room room (reread front [] q)) path N new
 
--- If the queue was as a stop left it, it doesn't continue, as a file call failed. It still has all records that were
--- read.
+-- The last file wasn't reopened. Suppose the queue was as a stop left it. Then a file call failed, and the queue still
+-- has all records that were read.
 abbrev pub FailsToReopen : {R : Type 0} → Format R → (List ℕ → Type 0) → Handle → Option ℕ → List ℕ → Disk
     → Disk → Type 0
 FailsToReopen {R} F own handle end header old new = (base : Disk) (q : LogFiles R) (path : List ℕ)

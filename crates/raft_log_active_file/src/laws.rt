@@ -14,8 +14,8 @@ pub trait QueueFormat {
     ghost own: { List ℕ → Type 0 };
 }
 
-/// After any stop without a CRC collision, reading finds all records of the earlier files and all durable ones of the
-/// last. Of the pending ones it finds some first ones.
+/// After any stop without a CRC collision, reading finds all records of the earlier files. Of the last file it finds
+/// all durable records and a prefix of the pending ones.
 pub fn files_are_kept<G: QueueFormat>()
     ensures { IsFormat G.format → FilesAreKept G.format G.own }
 {}

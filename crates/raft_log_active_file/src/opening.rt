@@ -42,8 +42,8 @@ pub fn begin_queue<G: PipeFormat, F: FileSystem, L: Log>(
     Ok((handle, writer))
 }
 
-/// Truncates the last file of a queue, as a stop left it, after the records that were read of it, and syncs it. If it
-/// has no header, truncates it to nothing. The file is truncated and synced even if this changes nothing.
+/// Truncates the last file of a queue, as a stop left the file, after the records that were read of it, and syncs the
+/// file. If it has no header, truncates it to nothing. The file is truncated and synced even if this changes nothing.
 pub fn truncate_torn_tail<G: PipeFormat, F: FileSystem>(
     layout: &G,
     file_system: &mut F,

@@ -82,8 +82,8 @@ SyncsQueue which v w = (log : LogSense) (s : State) → RunsOn log v s
     → RunsOn log w (next_log which s (synced (spanned_at which s).files) w.disk)
     × Syncs (Ties (queues log)) which s (next_log which s (synced (spanned_at which s).files) w.disk)
 
--- If the pipes ran over a log, the sync of one of its queues failed, as a file call failed. The queue's pipe has
--- failed. The log is on the disk, unchanged, and may be opened again.
+-- The sync of one queue failed. If the pipes ran over a log, a file call failed, and the queue's pipe has failed. The
+-- log is on the disk, unchanged, and may be opened again.
 abbrev pub FailsToSyncQueue : Which → LogPipes → LogPipes → Type 0
 FailsToSyncQueue which v w = (log : LogSense) (s : State) → RunsOn log v s
     → Fails v.disk w.disk

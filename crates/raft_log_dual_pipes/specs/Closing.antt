@@ -84,7 +84,7 @@ closed_log s append rewrite d =
     record { append = in_span s.append append; rewrite = in_span s.rewrite rewrite; disk = d }
 
 -- The closed log is on the disk `new`. The files of each queue are unchanged, or all its records are synced now. What
--- an engine's contracts stated of the log is still true, except that some first pending batches may be synced now.
+-- an engine's contracts stated of the log is still true, except that a prefix of the pending batches may be synced now.
 pub record LiesClosed {R E V : Type 0} (log : TwoQueues R E V) (s : LogOnDisk R) (new : Disk) : Type 0 where
   pub append : LogFiles R
   pub rewrite : LogFiles R

@@ -43,8 +43,8 @@ pub record IsDurableAs {R E V : Type 0} (log : TwoQueues R E V) (d : Disk) (m : 
 -- - `nothing`: a disk without log files has an empty log at rest.
 -- - `none_found`: if no files are found there, this is all that was left, so both queues may begin.
 -- - `engine`, `rest`: the log that an engine has open is on the disk, and so is a log at rest.
--- - `means`, `crashes`: a crash without a CRC collision leaves a log at rest, whose contents are the map after some
--- first pending batches.
+-- - `means`, `crashes`: a crash without a CRC collision leaves a log at rest, whose contents are the map after a prefix
+--   of the pending batches.
 pub record LogsGoOn {R E V : Type 0} (log : TwoQueues R E V) : Type 0 where
   pub nothing : (d : Disk) → IsFresh log.append.format log.append.own d d
       → IsFresh log.rewrite.format log.rewrite.own d d → IsDurableAs log d nothing_stands

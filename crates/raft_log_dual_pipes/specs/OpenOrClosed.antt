@@ -1,5 +1,5 @@
--- The state of each queue of a log by itself. Its pipe runs; or no pipe runs, as it has failed, was closed or isn't
--- open, and the queue's files are on the disk.
+-- Each queue of a log by itself is in one of two states. Either its pipe runs. Or no pipe runs, and the queue's files
+-- are on the disk: its pipe has failed, was closed, or isn't open yet.
 use Rattle.std.specs.Prelude.{◌≡◌, ℕ, ◌⊎◌, Option, Some, None, List}
 use Rattle.raft_log_model_laws.specs.Item.{Record}
 use Rattle.raft_log_fs.specs.Disk.{Disk}
@@ -65,13 +65,13 @@ LeavesQueue {R} log which o now s new becomes takes = (files : LogFiles R) × be
     × IsOpenOrClosed log (with_open which o now) (next_log which s files new)
     × takes s (next_log which s files new)
 
--- A log of two queues, of which each may have a running pipe or only files on the disk.
--- - `allowed`, `log_of`: after any crash a recovery reads what the numbered files allow. So what these contain is true
--- of the log.
+-- A log of two queues, of which each may have a running pipe or only files on the disk (`IsOpenOrClosed`).
+-- - `allowed`: after any crash a recovery reads what the numbered files allow.
+-- - `log_of`: so if the numbered files contain a map with pending batches, that is true of the log.
 -- - `running`: a log over which both pipes run is such a log.
--- - `held`: so is one without running pipes, if the last file of each queue holds its records, and no file of the live
--- ranges is missing.
--- - `dropped`: if a pipe is dropped, its queue's files are on the disk.
+-- - `held`: a log without running pipes is such a log, if each last file holds its records and no file of a live range
+--   is missing.
+-- - `dropped`: if its running pipes are dropped, a log still is such a log.
 pub record LyingLogIsALog {R E V : Type 0} (log : TwoQueues R E V) : Type 0 where
   pub allowed : (o : OpenPipes) (s : LogOnDisk R) (f : Files E V) → IsSound s.disk → IsOpenOrClosed log o s
       → Ties log s f → AllowsIn log s f

@@ -121,8 +121,7 @@ abbrev pub PipePurgesBy : Which → ℕ → LogPipes → LogPipes → Type 0
 PipePurgesBy which seq = DoesToPipe which (λ layout rules before after.
     DropsBy (paths_going layout.paths rules.capacity seq before))
 
--- a purge of this queue's pipe below `seq` failed, with this error; of the files to delete, only some first ones were
--- deleted
+-- a purge of this queue's pipe below `seq` failed, with this error; only a prefix of the files to delete was deleted
 abbrev pub PipeFailsToPurgeBy : Which → ℕ → Error → LogPipes → LogPipes → Type 0
 PipeFailsToPurgeBy which seq error = LeavesPipe which (λ layout rules before after.
     FailsToPurgeBy layout.paths rules.capacity seq before error)

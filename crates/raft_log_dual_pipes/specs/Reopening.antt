@@ -1,4 +1,5 @@
--- A log is found again after a stop, and its pipes are opened: what this makes of its numbered files.
+-- After a stop an open finds the files of a log, and opens its pipes. The definitions say which numbered files the log
+-- then has.
 use Rattle.std.specs.Prelude.{◌≡◌, ℕ, ◌≤◌, ◌⊎◌, false, Some, None, List, [], ◌∷◌, ◌++◌, length, suc, take}
 use Rattle.raft_log_model_laws.specs.Item.{Record}
 use Rattle.raft_log_model_laws.specs.Groups.{Map, directory_meaning, taken}
@@ -29,15 +30,15 @@ use Rattle.raft_log_dual_pipes.specs.Beginning.{stopped_log}
 use Rattle.raft_log_dual_pipes.specs.Steps.{next_log}
 use Rattle.raft_log_dual_pipes.specs.OpenOrClosed.{IsUnbegun, OpenPipes, none_open, with_open, IsOpenOrClosed}
 
--- One queue was read again. Some numbered files that had left its live range may be in it again. Some first unsynced
--- records are left, and all that was read is synced.
+-- One queue was read again. Some numbered files that had left its live range may be in it again. A prefix of its
+-- unsynced records is left, and all that was read is synced.
 abbrev pub ReadsAgain : {S E V : Type 0} → (S → Files E V → Type 0) → Which → S → S → Type 0
 ReadsAgain {S} {E} {V} ties which s t = (f : Files E V) → ties s f
     → (r : ReadAgain (queue_at which f))
     × ties t (put which f (from_at which f) (read_files (queue_at which f) r))
 
--- Both queues were read again. Some numbered files that had left their live ranges may be in them again. Some first
--- unsynced records of each are left, and all that was read is synced.
+-- Both queues were read again. Some numbered files that had left their live ranges may be in them again. A prefix of
+-- the unsynced records of each is left, and all that was read is synced.
 abbrev pub ReadsBothAgain : {S E V : Type 0} → (S → Files E V → Type 0) → S → S → Type 0
 ReadsBothAgain {S} {E} {V} ties s t = (f : Files E V) → ties s f
     → (r : ReadAgain f.rewrite) × (a : ReadAgain f.append)
@@ -53,9 +54,9 @@ pub record RestBoth {R E V : Type 0} (log : TwoQueues R E V) (s : LogOnDisk R) :
   pub append : RestsQueue log.append s.append s.disk
   pub rewrite : RestsQueue log.rewrite s.rewrite s.disk
 
--- A stop without a CRC collision, in any state of a log's queues. It leaves both at rest, with the durable records and
--- some first unsynced records of each. The numbered files are as if both queues had been read again. What the next
--- crash leaves of this log has no CRC collision.
+-- A stop without a CRC collision leaves both queues at rest, whatever their states were. Each has its durable records
+-- and a prefix of its unsynced ones. The numbered files are as if both queues had been read again. What a further crash
+-- leaves has no CRC collision either.
 abbrev pub CrashIsAStep : {R E V : Type 0} → TwoQueues R E V → Type 0
 CrashIsAStep {R} log = AreTwoQueues log → (o : OpenPipes) (s : LogOnDisk R) (image : Disk)
     → IsOpenOrClosed log o s → IsImage s.disk image
@@ -71,9 +72,9 @@ CrashIsAStep {R} log = AreTwoQueues log → (o : OpenPipes) (s : LogOnDisk R) (i
     → later.rewrite.first ≡ s.rewrite.first
     → IsLeftByCrash log (stopped_log s append rewrite image) later)
 
--- The files of a queue, as they were found. The last one was read up to `found.end`, and its handle may write it. The
--- earlier ones are at their paths; the number below the first of them has no file. Those that are kept for recycling
--- can be recycled.
+-- The files of a queue, as they were found. The last one was read up to `found.end`, and its handle permits writes. The
+-- earlier ones are at their paths, and the number below the first of them has no file. The files that are kept for
+-- recycling can be recycled.
 pub record AreFound {R : Type 0} (layout : QueueLayout R) (found : FoundFiles) (earlier : List Listed)
     (last : Listed) (number : ℕ) (d : Disk) : Type 0 where
   pub number_is : last.seq ≡ number
@@ -111,8 +112,8 @@ LeavesUnopened {R} log which o s (errors.Io kind) new = (files : LogFiles R) × 
     × ReadsAgain (Ties log) which s (next_log which s files new)
 LeavesUnopened log which o s _ new = ⊥
 
--- The queue `now`, with which a pipe continues after `was` was found. It has the same earlier files. Its last file has
--- the header of the pipe's format, and then all records of `was`, all synced.
+-- A pipe was opened over the queue `was` that was found, and continues with the queue `now`. Both have the same earlier
+-- files. The last file of `now` has the header of the pipe's format, and then all records of `was`'s last file, synced.
 pub record GoesOnFound {R : Type 0} (files : PipeFiles) (was now : LogFiles R) : Type 0 where
   pub older : now.older ≡ was.older
   pub last : now.last ≡ was.last
@@ -120,9 +121,9 @@ pub record GoesOnFound {R : Type 0} (files : PipeFiles) (was now : LogFiles R) :
   pub durable : now.durable ≡ recent was
   pub pending : now.pending ≡ []
 
--- What opening the pipe of one queue leaves, over what was found of the queue. The other queue is unchanged. If it
--- succeeds, the pipe runs, and all records of its queue are synced. If it fails, it leaves what `LeavesUnopened` says
--- for its error.
+-- The pipe of one queue is opened over what was found of the queue; the other queue is unchanged. If the open succeeds,
+-- the pipe runs, and all records of its queue are synced. If it fails, it leaves what `LeavesUnopened` says for its
+-- error.
 pub record OpensBeside {R E V : Type 0} (log : TwoQueues R E V) (which : Which) (o : OpenPipes)
     (begin : NewFiles) (found : FoundFiles) (s : LogOnDisk R) : Type 0 where
   pub answered : (files : PipeFiles) (new : Disk)
@@ -146,7 +147,7 @@ OpenIsAStep {R} log = AreTwoQueues log → (which : Which) (o : OpenPipes) (begi
 -- What is still true of a log after it was read again.
 -- - `append_first`, `rewrite_first`: if one queue was read again, and then the other, both were.
 -- - `still`: a queue without unsynced records counts as read again.
--- - `log_of`: its contents are the map after some first pending batches, and no batch is pending.
+-- - `log_of`: the log contains the map with a prefix of the pending batches applied, and no batch is pending.
 -- - `replays`: a view that is built from what was read is true of it.
 pub record FoundLogIsALog {R E V : Type 0} (log : TwoQueues R E V) : Type 0 where
   pub append_first : (s mid t : LogOnDisk R) → ReadsAgain (Ties log) InAppend s mid

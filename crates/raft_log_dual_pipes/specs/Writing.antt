@@ -24,7 +24,7 @@ pub record IsAtOn {R E V : Type 0} (log : TwoQueues R E V) (p : Pipes) (d : Disk
   pub run : Run log p state
   pub at : IsAt (Ties log state) v m pending
 
--- As `IsAtOn`, except that some first batches of `pending` may be synced: the log's contents are `m` after these, and
+-- As `IsAtOn`, except that a prefix of the batches `pending` may be synced: the log's contents are `m` after these, and
 -- the others are pending.
 pub record EndsOn {R E V : Type 0} (log : TwoQueues R E V) (p : Pipes) (d : Disk) (v : View E V) (m : Map E V)
     (pending : List (Record E V)) : Type 0 where
@@ -33,7 +33,7 @@ pub record EndsOn {R E V : Type 0} (log : TwoQueues R E V) (p : Pipes) (d : Disk
   pub splits : done ++ rest ≡ pending
   pub at : IsAtOn log p d v (taken m done) rest
 
--- after a batch was written to Append, it is the last pending one; some first batches may be synced now
+-- after a batch was written to Append, it is the last pending one; a prefix of the batches may be synced now
 abbrev pub WrittenIsPending : {R E V : Type 0} → TwoQueues R E V → Type 0
 WrittenIsPending {R} {E} {V} log = AreTwoQueues log → (p : Pipes) (old new : Disk) (v u : View E V)
     (m : Map E V) (pending : List (Record E V)) → IsAtOn log p old v m pending

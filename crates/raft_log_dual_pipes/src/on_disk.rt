@@ -5,7 +5,7 @@ ghost use Rattle.raft_log_dual_pipes.specs.OnDisk.{LogsGoOnDisks, RestingLogsOpe
 use crate::queues::LogQueues;
 
 /// A directory without log files holds the empty log. What a crash without a CRC collision leaves of a log is at rest,
-/// with its map after some first pending batches. Its pipes may be in any state.
+/// with its map after a prefix of the pending batches. The log's pipes may be in any state.
 pub fn logs_go_on_disks<G: LogQueues>()
     ensures { (log : G) → LogsGoOnDisks (G.queues log) }
 {}

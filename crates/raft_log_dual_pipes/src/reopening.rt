@@ -4,8 +4,8 @@ ghost use Rattle.raft_log_dual_pipes.specs.Reopening.{CrashIsAStep, FoundLogIsAL
 
 use crate::queues::LogQueues;
 
-/// In any state of the queues, a crash without a CRC collision leaves the files of both at rest, with some first
-/// unsynced records of each.
+/// In any state of the queues, a crash without a CRC collision leaves the files of both at rest. Each queue keeps a
+/// prefix of its unsynced records.
 pub fn crash_is_a_step<G: LogQueues>()
     ensures { (log : G) → CrashIsAStep (G.queues log) }
 {}
@@ -16,7 +16,7 @@ pub fn open_is_a_step<G: LogQueues>()
     ensures { (log : G) → OpenIsAStep (G.queues log) }
 {}
 
-/// What holds for a log still holds after it is found again: its map is the one after some first pending batches.
+/// What holds for a log still holds after it is found again: its map is the one after a prefix of the pending batches.
 pub fn found_log_is_a_log<G: LogQueues>()
     ensures { (log : G) → FoundLogIsALog (G.queues log) }
 {}

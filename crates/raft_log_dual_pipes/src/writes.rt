@@ -5,7 +5,7 @@ ghost use Rattle.raft_log_dual_pipes.specs.Writing.{WrittenIsPending};
 
 use crate::queues::LogQueues;
 
-/// A batch that is written is pending, after the others; a rotation may have synced some first ones of these.
+/// A batch that is written is pending, after the others. A rotation may have synced a prefix of the others.
 pub fn written_is_pending<G: LogQueues>()
     ensures { (log : G) → WrittenIsPending (G.queues log) }
 {}

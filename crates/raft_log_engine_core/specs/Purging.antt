@@ -43,8 +43,8 @@ StopsRewritingAppend s t error = HadFailed s t error ⊎ (Lives s × FailsToRewr
 abbrev pub StopsPurgingExpired : EngineState → EngineState → Error → Type 0
 StopsPurgingExpired s t error = HadFailed s t error ⊎ (Lives s × FailsToPurgeExpired error s t)
 
--- after an open, `counts` counts the entries and values that were read from Rewrite as written to Rewrite, and no
--- others
+-- What an open counts for later purges. `written` entries and values were read from Rewrite's files, live or not. They
+-- count as written to Rewrite, and none of them as deleted. No entry counts as live in Append.
 pub record CountsBrought (config : Config) (d : Disk) (counts : PurgeCounts) : Type 0 where
   pub written : ℕ
   pub brings : BringsInRewrite config d written

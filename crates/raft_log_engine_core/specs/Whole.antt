@@ -38,8 +38,10 @@ abbrev pub TellsMessage : {M : Type 0} → (List ℕ → Option M) → EngineSta
 TellsMessage reading s g key message =
     (value : Option (List ℕ)) × ReadsValue s g key value × IsMessageOf reading value message
 
--- Why a read of a key's value as a message fails: the engine has failed; or it hasn't, and memory ran out, or the value
--- doesn't parse as a message.
+-- Why a read of a key's value as a message fails with `error`:
+-- - `Failed`: the engine has failed.
+-- - `Memory`: memory ran out, and the engine hasn't failed.
+-- - `Message`: the key's value doesn't parse as the message, and the engine hasn't failed.
 abbrev pub IsMessageUntold : {M : Type 0} → (List ℕ → Option M) → EngineState → ℕ → List ℕ → Error → Type 0
 IsMessageUntold {M} reading s g key error = IsUncopied s error
     ⊎ (Lives s × ((value : List ℕ) × ReadsValue s g key (Some value)

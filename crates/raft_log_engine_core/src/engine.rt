@@ -25,8 +25,8 @@ use raft_log_record_base::{Error, LogQueue, Result};
 use raft_log_record_batches::LogBatch;
 use std::alloc::Global;
 
-/// The engine of a log. It has the log's pipes, the tables of all groups, the entry block that was read last, the
-/// thresholds of its purge, and what is counted between purges.
+/// The engine of a log. It has the log's pipes, the tables of all groups, and the entry block that was read last. It
+/// also has the thresholds of its purges, and what is counted between them.
 #[derive(Drop)]
 pub struct LogEngine<P> {
     alloc: Global,
@@ -123,10 +123,10 @@ impl<P: PipeLog> LogEngine<P> {
     ///
     /// `Failed`: the engine has failed, as every later read or write reports; the batch may be in the log or not.
     ///
-    /// Listeners hear of each file that Append rotated to. For a batch that is written they hear of the place of its
-    /// record, in Append's active file, and then that it was applied to the tables. They hear nothing of the sync.
-    /// After a write, even one whose sync failed, the engine's own hook pins the files it pinned before,
-    /// unless there was a file that it couldn't list (`laws::batches_hold_nothing_back`).
+    /// Listeners hear of each file that Append rotated to. If the batch is written, they hear of its record's place in
+    /// Append's active file, and then that it was applied to the tables. They hear nothing of the sync. After a write,
+    /// even one whose sync failed, the engine's own hook pins the files that it pinned before. The exception is a file
+    /// that the hook couldn't list (`laws::batches_hold_nothing_back`).
     pub fn write<L: Log>(&mut self, rt: &L, batch: &mut LogBatch, sync: bool) -> Result<usize>
         ensures ok { IfOk result (λ len. WritesBytes batch.old sync len
             (shows_of P.shown self.old) (shows_of P.shown self.new)) }

@@ -1,7 +1,7 @@
 //! The log store: writes batches, syncs them, and reads back what they say.
 //!
 //! [`LogEngine`] is generic in the pipes that keep its log ([`PipeLog`]), so its contracts hold for any such pipes.
-//! Each clause is about any map and any pending batches that were true of the engine before the call (`Represents`), and
+//! Each clause is about any map and any pending batches that were true of the engine before the call (`Represents`). It
 //! requires nothing of the caller.
 //!
 //! [`PipeLog`]: raft_log_dual_pipes::PipeLog

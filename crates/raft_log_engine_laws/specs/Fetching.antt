@@ -63,7 +63,7 @@ pub record IsUntold {M : Type 0} (reading : List ℕ → Option M) (g i : ℕ) (
 abbrev pub HadFailed : EngineState → EngineState → Error → Type 0
 HadFailed s t error = (error ≡ errors.Failed) × (has_failed s ≡ true) × (t ≡ s)
 
--- A read of an entry that the log has failed: its file can't be read, memory ran out, or its bytes don't parse as a
+-- The log has an entry, and reading it failed: its file can't be read, memory ran out, or its bytes don't parse as a
 -- message. At most the cached block changed.
 pub record FailsToTell {M : Type 0} (reading : List ℕ → Option M) (g i : ℕ) (s t : EngineState) (error : Error)
     : Type 0 where

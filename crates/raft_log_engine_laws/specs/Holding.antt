@@ -54,7 +54,7 @@ pub record RunsAs (home : LogDirectories) (v : LogPipes) (m : LogMap) (pending :
   pub runs : RunsOn (sense home) v state
   pub at : IsAt (Ties (log_in home) state) view m pending
 
--- The pipes run over a log with the contents `m` and then the batches `pending`. The first few of these batches may be
+-- The pipes run over a log with the contents `m` and then the batches `pending`. A prefix of these batches may be
 -- durable; the others are pending.
 pub record RunsEnding (home : LogDirectories) (v : LogPipes) (m : LogMap) (pending : List LogRecordValue) : Type 0 where
   pub done : List LogRecordValue
@@ -62,15 +62,15 @@ pub record RunsEnding (home : LogDirectories) (v : LogPipes) (m : LogMap) (pendi
   pub splits : done ++ rest ≡ pending
   pub runs : RunsAs home v (taken m done) rest
 
--- The log of engine `e` has the contents `m` and then the batches `pending`. The first few of these batches may be
--- durable; the others are pending.
+-- The log of engine `e` has the contents `m` and then the batches `pending`. A prefix of these batches may be durable;
+-- the others are pending.
 pub record EndsAt (home : LogDirectories) (e : EngineState) (m : LogMap) (pending : List LogRecordValue) : Type 0 where
   pub done : List LogRecordValue
   pub rest : List LogRecordValue
   pub splits : done ++ rest ≡ pending
   pub holds : Represents home e (taken m done) rest
 
--- The log's files on disk `d` can be opened. They hold the contents `m` and then the batches `pending`. The first few
--- of these batches may be durable; the others are pending.
+-- The log's files on disk `d` can be opened. They hold the contents `m` and then the batches `pending`. A prefix of
+-- these batches may be durable; the others are pending.
 abbrev pub IsRecoverableAs : LogDirectories → Disk → LogMap → List LogRecordValue → Type 0
 IsRecoverableAs home d m pending = (open_ones : OpenPipes) × LogEndsLying (log_in home) open_ones d m pending

@@ -29,7 +29,7 @@ pub record MayBeWritten (e : EngineState) (b : Batch) : Type 0 where
   pub laid : IsLaidOut b
 
 -- After the pipes wrote a batch and the tables applied it under the number of its file, it is the last batch of the
--- log. The first few of the pending batches may be durable.
+-- log. A prefix of the pending batches may be durable.
 abbrev pub BatchesAreWritten : Type 0
 BatchesAreWritten = (home : LogDirectories) (e t : EngineState) (b : Batch) (block : FileBlockHandle) (m : LogMap)
     (pending : List LogRecordValue) → Represents home e m pending → MayBeWritten e b

@@ -33,7 +33,7 @@ pub record KeyBytes : Type 0 where
   pub key : List ℕ
   pub value : List ℕ
 
--- an item for each key that puts its value
+-- for each key, an item that puts its value
 abbrev pub puts : List KeyBytes → List (Item (List ℕ) (List ℕ))
 puts [] = []
 puts (k ∷ ks) = Put k.key k.value ∷ puts ks

@@ -54,8 +54,8 @@ Rotates {R} F own paths header before after old new = (base : Disk) (q : LogFile
     × IsPipe F own paths base after (with_room room (rotated header stale q)) new × GapsStay F q old new
     × TurnsBy paths header before.recycled.items before.writer after.active after.writer old new
 
--- If the pipe ran over a queue, a rotation failed, as a file call failed. The last file holds its records; there may be
--- a next file without records. The files of the live range are at their paths, also the file that was active.
+-- A rotation failed. If the pipe ran over a queue, a file call failed. The last file holds its records, and there may
+-- be a next file without records. The files of the live range are at their paths, also the file that was active.
 abbrev pub FailsToRotate : {R : Type 0} → Format R → (List ℕ → Type 0) → FilePaths → List ℕ → PipeFiles
     → Disk → Disk → Type 0
 FailsToRotate {R} F own paths header before old new = (base : Disk) (q : LogFiles R)
@@ -106,8 +106,8 @@ AddLeaves F own paths (Failed kind) base w q after new = (room : ℕ)
     × StandsWithRecords F own base (with_more (w ∷ []) (with_room room q)) new
     × IsSpan paths new.names after.first_seq after.earlier.items q.last
 
--- if the pipe ran over a queue, a record with these bytes wasn't appended, as a file call failed; `AddLeaves` says what
--- is left
+-- A record with these bytes wasn't appended. If the pipe ran over a queue, a file call failed, and `AddLeaves` says
+-- what is left.
 abbrev pub FailsToAdd : {R : Type 0} → Format R → (List ℕ → Type 0) → FilePaths → List ℕ → WriteFault →
     PipeFiles
     → PipeFiles → Disk → Disk → Type 0

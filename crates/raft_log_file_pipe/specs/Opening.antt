@@ -67,7 +67,7 @@ TakesUpFound {R} F own paths earlier last end kept files old new = (base : Disk)
     × GapsStay F q old new
     × ReopensBy last.handle end (header_bytes (taken_up end last).format) files.writer old new
 
--- If these files of a queue were found, the pipe wasn't opened, as a file call failed. The queue still has all records
+-- The pipe wasn't opened. If these files of a queue were found, a file call failed. The queue still has all records
 -- that were read of it, and the files that were found are still at their paths. No gap was filled.
 abbrev pub FailsToTakeUpFound : {R : Type 0} → Format R → (List ℕ → Type 0) → FilePaths → List Listed → Listed
     → Option ℕ → List Listed → Disk → Disk → Type 0
@@ -93,8 +93,8 @@ BeginsPipe {R} F own paths format kept files old new = (base : Disk) (older : �
     × BeginsQueueBy (path_of paths files.active) (header_bytes format) files.active.handle files.writer
     old new
 
--- If the queue could begin, it has not, as a file call failed. It may still begin, or its file 1 exists without a
--- record. There is no file 0.
+-- The queue hasn't begun. If it could, a file call failed. It may still begin, or its file 1 exists without a record.
+-- There is no file 0.
 abbrev pub FailsToBeginPipe : {R : Type 0} → Format R → (List ℕ → Type 0) → FilePaths → LogFileFormat
     → List Listed → Disk → Disk → Type 0
 FailsToBeginPipe {R} F own paths format kept old new = (base : Disk) (older : ℕ → Past R)

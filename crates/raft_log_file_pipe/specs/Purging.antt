@@ -53,8 +53,8 @@ AreGone paths N first kept (f ∷ fs) = (f.seq < first) × (f.reserved ≡ false
     × ((id : ℕ) × (N (path_of paths f) ≡ Some id)) × NoneHas paths (path_of paths f) kept
     × NoneHas paths (path_of paths f) fs × AreGone paths N first kept fs
 
--- A pipe runs over a queue, and the files at these paths may be deleted. Then the first `count` of them were deleted,
--- one after the other. The others are still there, and the pipe still runs.
+-- If a pipe runs over a queue, and the files at these paths may be deleted, the first `count` of them were deleted, in
+-- order. The others are still there, and the pipe still runs.
 abbrev pub DropsTo : {R : Type 0} → Format R → (List ℕ → Type 0) → FilePaths → List (List ℕ) → ℕ → Disk → Disk
     → Type 0
 DropsTo {R} F own paths gone count old new = (base : Disk) (files : PipeFiles) (q : LogFiles R)
@@ -64,12 +64,12 @@ DropsTo {R} F own paths gone count old new = (base : Disk) (files : PipeFiles) (
     × AreGone paths new.names files.first_seq files.recycled.items (drop count gs) × (new.names ≡ without
     (take count gone) old.names) × DropsBy (take count gone) old new
 
--- some first ones of these paths name no file any more, and all other names are the same
+-- a prefix of these paths names no file any more, and all other names are the same
 abbrev pub LosesFirst : List (List ℕ) → Disk → Disk → Type 0
 LosesFirst gone old new = (count : ℕ) × (new.names ≡ without (take count gone) old.names)
 
--- If a pipe runs over a queue, and the files at these paths may be deleted, then deleting one of them failed. Only some
--- first ones of these paths lost their files. The last file holds its records, and the files of the live range are at
+-- Deleting the file at one of these paths failed. Suppose a pipe runs over a queue, and the files may be deleted. Then
+-- a prefix of these paths lost their files. The last file holds its records, and the files of the live range are at
 -- their paths.
 abbrev pub FailsToDropAll : {R : Type 0} → Format R → (List ℕ → Type 0) → FilePaths → List (List ℕ) → Disk
     → Disk → Type 0

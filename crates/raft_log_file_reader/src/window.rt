@@ -59,8 +59,8 @@ impl Window {
         self.start + self.bytes.len()
     }
 
-    /// Fills the window with `size` bytes of the file from an offset on, and with up to `prefetch` bytes after them, as
-    /// far as the file has them. If it fails, the window holds a part of the file.
+    /// Fills the window with `size` bytes of the file from an offset on, and with up to `prefetch` bytes after them.
+    /// There are fewer if the file ends first. If it fails, the window holds a part of the file.
     ///
     /// It reads only if the window lacks some of these bytes. A read drops the bytes before the offset. If the offset
     /// isn't within the window, the window begins anew there. A read takes at least a block, up to the file's end, or

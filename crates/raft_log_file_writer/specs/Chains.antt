@@ -45,7 +45,7 @@ IsReady IsFrame start stale durable pending writer d = IsAtEnd IsFrame start sta
 -- - `written`: the record that was written is the last pending one. Zeros that were allocated count as stale.
 -- - `refused`: the record whose write failed counts as the last pending one. The writer's offset is unchanged.
 -- - `synced`: all records are durable.
--- - `not_synced`: the durable records are still durable; some first pending ones may be durable too.
+-- - `not_synced`: the durable records are still durable; a prefix of the pending ones may be durable too.
 -- - `closed`: the file has exactly the durable and pending records, all durable, without those whose write failed.
 -- - `not_closed`: the durable records are still durable. Those whose write failed count as pending.
 pub record ChainIsWritten {R : Type 0} (IsFrame : List ℕ → R → Type 0) (start : ℕ) (stale : List ℕ)

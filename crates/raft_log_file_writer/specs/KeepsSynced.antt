@@ -59,8 +59,8 @@ pub record HoldsChain {R : Type 0} (IsFrame : List ℕ → R → Type 0)
       → (at + length bytes ≤ start) ⊎ (LiesIn start (spelled (durable ++ pending)) at bytes
       ⊎ HoldsNoFrame IsFrame bytes)
 
--- The file holds the chain, with at least the durable records synced: some first pending ones (`more`) may be synced
--- too. A sync that failed because the file system stopped may have synced them.
+-- The file holds the chain, with at least the durable records synced: a prefix of the pending ones (`more`) may be
+-- synced too. A sync that failed because the file system stopped may have synced them.
 pub record HoldsAtLeast {R : Type 0} (IsFrame : List ℕ → R → Type 0)
     (start : ℕ) (stale : List ℕ) (durable pending : List (Written R))
     (file : File) : Type 0 where
@@ -78,8 +78,8 @@ abbrev pub AreKept : {R : Type 0} → List (Written R) → List (Written R) → 
 AreKept durable pending ws =
     (count : ℕ) × (count ≤ length pending) × (ws ≡ kept_records durable pending count)
 
--- Synced records are kept: after any stop without a CRC collision, reading gives the durable records and some first
--- pending ones.
+-- Synced records are kept: after any stop without a CRC collision, reading gives the durable records and a prefix of
+-- the pending ones.
 abbrev pub KeepsSynced : {R : Type 0} → (List ℕ → R → Type 0) → ℕ → List ℕ → List (Written R)
     → List (Written R) → File → Type 0
 KeepsSynced {R} IsFrame start stale durable pending file =

@@ -143,14 +143,14 @@ NoChanceInLast F q d image = (path : List ℕ) (id : ℕ) (file after : File) �
     → NoChanceInFile F q.last q.header q.stale (spelled (recent q)) file after.content
 
 -- If `P` holds for the last file, it keeps its records: after any stop without a CRC collision, reading it gives the
--- durable records and some first pending ones.
+-- durable records and a prefix of the pending ones.
 abbrev pub KeepsLast : {R : Type 0} → Format R → LogFiles R → (File → Type 0) → Type 0
 KeepsLast {R} F q P = (file : File) → P file → (bytes : List ℕ) → IsLeft file bytes
     → NoChanceInFile F q.last q.header q.stale (spelled (recent q)) file bytes
     → (ws : List (Written R)) → ReadsFile F q.last ws bytes → AreKept q.durable q.pending ws
 
 -- After any stop without a CRC collision in the last file, reading from any number on gives all records of each earlier
--- file. Of the last file it gives the durable records and some first pending ones.
+-- file. Of the last file it gives the durable records and a prefix of the pending ones.
 abbrev pub KeepsQueue : {R : Type 0} → Format R → LogFiles R → Disk → Type 0
 KeepsQueue {R} F q d = (image : Disk) → IsImage d image → NoChanceInLast F q d image → (s : ℕ) → s ≤ q.last
     → (found : List (Found R)) → ReadsFrom F image s found → (count : ℕ) × (count ≤ length q.pending)
@@ -174,8 +174,8 @@ IsReadable {R} F q d = (image : Disk) → IsImage d image → (s : ℕ) → s �
     → (found : List (Found R)) × ReadsFrom F image s found
 
 -- The theorem on what is read of a queue after a stop without a CRC collision.
--- - `holding`, `left_over`: reading the last file gives its durable records and some first pending ones. This is so for
--- a file in use, and for one that a stop left.
+-- - `holding`, `left_over`: reading the last file gives its durable records and a prefix of the pending ones. This is
+--   true of a file in use, and of one that a stop left.
 -- - `kept`, `restarted`: reading the queue gives these and all records of earlier files.
 -- - `ends`: from whatever number reading begins, it gives the same pending records.
 pub record QueueIsKept {R : Type 0} (F : Format R) : Type 0 where

@@ -22,7 +22,7 @@ pub fn log_of_files_is_readable<G: LogFormat>()
     ensures { IsFormat G.format → QueueIsReadable G.format }
 {}
 
-/// What a stop without a CRC collision leaves of a log of several files is such a log again, and meets the premise at
+/// What a stop without a CRC collision leaves of a log of several files is such a log again. It meets the premise at
 /// the next stop.
 pub fn log_of_files_restarts<G: LogFormat>()
     ensures { IsFormat G.format → QueueRestarts G.format }

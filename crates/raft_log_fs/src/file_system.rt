@@ -33,7 +33,7 @@ use std::io::ErrorKind;
 ///
 /// *Over a real directory.* `open`, `read_at` and `list` take `&self`, because readers and dumps borrow the file
 /// system. An implementation keeps its descriptors in a table whose slots are written once. A place that the device
-/// failed to read counts as unreadable from then on, and as having been so all along, so the failure must be
+/// failed to read counts as unreadable from then on, and as having been so all along. So the failure must be
 /// remembered. A creation, a deletion or a renaming is durable once it succeeds, so each of them syncs the directories
 /// that it changed. If such a sync fails, it isn't known which names a crash leaves, and that is reported as a stop. A
 /// failed sync of a file may be reported as a failure only if a later sync that succeeds writes what this one didn't;

@@ -25,8 +25,8 @@ pub struct Handle {
 pub enum Fault {
     /// The n-th changing call fails and changes nothing.
     Refuse(u64),
-    /// The n-th changing call fails. If it is a write, it writes this many of its first bytes, or all if it has fewer,
-    /// and these aren't synced. Another call changes nothing.
+    /// The n-th changing call fails. A write writes this many of its first bytes, or all if it has fewer; these aren't
+    /// synced. Any other call changes nothing.
     RefuseInPart(u64, usize),
     /// A place of the file that has this name now is made unreadable. A read that asks for it fails, whatever the
     /// file's name is then. If no file has the name, nothing is armed.

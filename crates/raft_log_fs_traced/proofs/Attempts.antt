@@ -1,4 +1,5 @@
--- How an attempt to make a file longer ends: what a crash leaves then, that it is consistent, and what a failed call says.
+-- How an attempt to make a file longer ends: what a crash leaves then, that it is consistent, and what a failed call
+-- says.
 use Rattle.std.specs.Prelude.{◌≡◌, ℕ, ◌<◌, ◌⊎◌, Bool, true, false, Option, Some, None, List, [], take, drop, Result, Ok, Err}
 use Rattle.std.specs.Option.{option_map}
 use Rattle.std.specs.Result.{IfOk, OnOk, OnErr}

@@ -56,8 +56,8 @@ pub trait Device {
         ensures err { OnErr result
             (MayBeMade (Changed file (Wrote offset bytes.now)) (trace self.old) (trace self.new)) };
 
-    /// Writes bytes into a file from an offset on, past its end; a gap after its end becomes zeros. If there is no room,
-    /// the file keeps the bytes that it has.
+    /// Writes bytes into a file from an offset on, past its end. A gap after its end becomes zeros. If there is no
+    /// space, the file keeps the bytes that it has.
     fn extend(&mut self, file: usize, offset: usize, bytes: &[u8]) -> Result<Attempt, ErrorKind>
         ensures ok { IfOk result (λ attempt. trace self.new
             ≡ noted (attempted file (Wrote offset bytes.now) attempt) (trace self.old)) }

@@ -72,7 +72,7 @@ pub fn rename<D: Device>(
     device.sync_directory(home(from))
 }
 
-/// Closes a file that another one was renamed over, unless it was that file itself.
+/// Closes a file over which another one was renamed. Does nothing if a file was renamed over itself.
 fn close_replaced<D: Device>(device: &mut D, is_same: bool, replaced: Option<usize>)
     ensures { D.trace device.new ≡ D.trace device.old }
 {

@@ -1,4 +1,5 @@
--- The invariant of a group is kept where Rewrite takes an item that its whereabouts allow, and that item is harmless from every start.
+-- The invariant of a group is kept if Rewrite takes an item that the group's whereabouts allow. That item is
+-- harmless from every start.
 use Rattle.std.proofs.Common.{◌≡◌, ℕ, ◌+◌, ◌<◌, ◌≤◌, ◌⊎◌, true, false, if◌then◌else◌, bytes_eq, List, [], ◌∷◌, length, Option, Some, None, unwrap_or, refl, sym, ap, ◌∙◌, subst, inl, inr, arith}
 use Rattle.std.proofs.lemmas.Bool.{cases_lt}
 use Rattle.std.specs.Option.{option_or}

@@ -42,8 +42,8 @@ Appends {S} {E} {V} ties which y n s t =
     (f : Files E V) → ties s f
     → (a : MovedIn which f) × (a.queue.last ≡ n) × ties t (put which f a.from (grown a.queue y))
 
--- the pipe doesn't write the record: it truncates what it wrote of it, and syncs the file; quiet events may come
--- before
+-- The write of the record failed: the pipe truncates the part that was written, and syncs the file. Quiet events may
+-- come before.
 abbrev pub CutsBack : {S E V : Type 0} → (S → Files E V → Type 0) → Which → S → S → Type 0
 CutsBack {S} {E} {V} ties which s t =
     (f : Files E V) → ties s f → (a : MovedIn which f) × ties t (put which f a.from (settled_files a.queue))

@@ -42,8 +42,8 @@ pub record Stands {E V : Type 0} (v : View E V) (f : Files E V) (m : Map E V) (p
   pub noted : AreNoted v.whereabouts v.noted f.append
   pub noted_in_rewrite : AreNotedInRewrite v.map v.whereabouts v.noted_in_rewrite f.rewrite
 
--- The view is still true after quiet events of Append, which change its files into `a`. The first few pending batches
--- are now synced.
+-- The view is still true after quiet events of Append, which change its files into `a`. A prefix of the pending batches
+-- is now synced.
 pub record Follows {E V : Type 0} (v : View E V) (f : Files E V) (m : Map E V) (pending : List (Record E V))
     (a : Moved f.append_from f.append) : Type 0 where
   pub done : List (Record E V)
@@ -58,7 +58,7 @@ pub record IsAt {E V : Type 0} (may_be : Files E V → Type 0) (v : View E V) (m
   pub stands : Stands v files m pending
   pub there : may_be files
 
--- the view is true of some files that `may_be` allows; the first few of the batches are synced, and the others pending
+-- the view is true of some files that `may_be` allows; a prefix of the batches is synced, and the others are pending
 pub record ViewEndsAt {E V : Type 0} (may_be : Files E V → Type 0) (v : View E V) (m : Map E V)
     (pending : List (Record E V)) : Type 0 where
   pub done : List (Record E V)
@@ -66,7 +66,7 @@ pub record ViewEndsAt {E V : Type 0} (may_be : Files E V → Type 0) (v : View E
   pub splits : done ++ rest ≡ pending
   pub at : IsAt may_be v (taken m done) rest
 
--- the log is map `m` after the first few of these batches, and the others are pending
+-- the log is map `m` after a prefix of these batches, and the others are pending
 pub record LogEnds {E V : Type 0} (may_be : Files E V → Type 0) (m : Map E V) (pending : List (Record E V))
     : Type 0 where
   pub done : List (Record E V)

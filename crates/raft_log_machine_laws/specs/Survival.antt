@@ -31,8 +31,8 @@ Survives {E} {V} q m batches =
 abbrev pub IsSpoken : {C : Type 0} → Option (Option C) → Type 0
 IsSpoken {C} word = (value : Option C) × (word ≡ Some value)
 
--- What Rewrite does to a slot changes nothing. It doesn't touch it, or it puts there what the map has, or Append's
--- records touch it too, and so override Rewrite.
+-- What Rewrite does to a slot changes nothing. Either Rewrite doesn't touch the slot, or puts there what the map has.
+-- Or Append's records touch the slot too, and so override Rewrite.
 abbrev pub IsHarmless : {C : Type 0} → Option (Option C) → Option C → Option (Option C) → Type 0
 IsHarmless word value append_word = (word ≡ None) ⊎ ((word ≡ Some value) ⊎ IsSpoken append_word)
 

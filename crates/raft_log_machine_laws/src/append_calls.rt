@@ -21,8 +21,8 @@ pub fn written_batch_is_pending<P: TiedFiles>()
         → Appends P.ties InAppend y n s t → GrowsTo y n v u → ViewEndsAt (P.ties t) u m (pending ++ y ∷ []) }
 {}
 
-/// A batch that isn't written leaves nothing in the log. If the pipe truncated what it wrote of it, all batches before
-/// it are synced. If it wrote nothing, the first few of them may be synced.
+/// A batch that isn't written leaves nothing in the log. If the pipe truncated a part that was written, all earlier
+/// batches are synced. If nothing was written, a prefix of the earlier batches may be synced.
 pub fn refused_batch_leaves_no_trace<P: TiedFiles>()
     ensures cut_back { (s t : P) (v : View P.Entry P.Value) (m : Map P.Entry P.Value)
         (pending : List (Record P.Entry P.Value)) → IsAt (P.ties s) v m pending
@@ -63,8 +63,8 @@ pub fn settled_append_has_all_batches<P: TiedFiles>()
     ensures cut_back { (s t : P) (which : Which) → CutsBack P.ties which s t → Settles P.ties which s t }
 {}
 
-/// Calls one after another. If one syncs the first few batches and a later one the first few of the rest, together they
-/// synced the first few of all. If nothing is pending at the end, all batches are in the map.
+/// Calls one after another. If one syncs a prefix of the batches and a later one a prefix of the rest, together they
+/// synced a prefix of all. If nothing is pending at the end, all batches are in the map.
 pub fn ends_of_calls_compose<P: TiedFiles>()
     ensures view { (t : P) (m : Map P.Entry P.Value) (v : View P.Entry P.Value)
         (done rest more pending : List (Record P.Entry P.Value)) → done ++ rest ≡ pending

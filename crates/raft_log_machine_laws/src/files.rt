@@ -88,7 +88,7 @@ pub fn reading_of_files<E, V>()
         × (records_of below ++ records_of again ≡ (queue_of q).gone) }
 {}
 
-/// After every schedule of events and of changes of files, starting from two queues with an empty file 1 each, the
+/// Start from two queues with an empty file 1 each. After every schedule of events and of changes of files, the
 /// directory survives as its map. It does so from every pair of files at which a recovery may begin.
 pub fn survives_in_files_always<E, V>()
     ensures { (events : List (DirectoryEvent E V)) (d : Directory E V)

@@ -1,4 +1,4 @@
-//! Every image that a crash leaves: the entries of a group are one run in it, it can be opened, and the wording by
+//! Every image that a crash leaves: the entries of a group are one run in it, and it can be opened. The wording by
 //! intervals means the same as the last word.
 
 ghost use Rattle.std.specs.Prelude.{◌≡◌, ℕ, ◌≤◌, false, List, [], ◌∷◌, None, Option, Some};

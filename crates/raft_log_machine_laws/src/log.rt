@@ -23,15 +23,15 @@ pub fn no_files_are_the_log_of_nothing<D: LogImages>()
         → IsLogOf D.readings d nothing_stands [] }
 {}
 
-/// A crash loses only pending batches. Each image means the map after some first pending batches, and means the same
-/// from every start of the two queues.
+/// A crash loses only pending batches. Each image means the map after a prefix of the pending batches, and means the
+/// same from every start of the two queues.
 pub fn crash_keeps_what_is_synced<D: LogImages>()
     ensures { (d : D) (m : Map D.Entry D.Value) (pending : List (Record D.Entry D.Value)) (image : D)
         → IsLogOf D.readings d m pending → D.readings.leaves d image
         → (k : ℕ) × (k ≤ length pending) × Means D.readings image (taken m (take k pending)) }
 {}
 
-/// An image that is its own only image is a log itself. Its map is the one after some first pending batches, and
+/// An image that is its own only image is a log itself. Its map is the one after a prefix of the pending batches, and
 /// nothing is pending.
 pub fn image_is_a_log<D: LogImages>()
     ensures { (d : D) (m : Map D.Entry D.Value) (pending : List (Record D.Entry D.Value)) (image : D)

@@ -8,7 +8,7 @@ ghost use Rattle.raft_log_machine_laws.specs.Log.{Follows, Stands, View};
 ghost use Rattle.raft_log_machine_laws.specs.Model.{with_append, with_rewrite, Files};
 ghost use Rattle.raft_log_machine_laws.specs.Moves.{rotated, settled_files, Moved};
 
-/// After any quiet events of Append, in any order, some first batches are synced and the others are pending, and the
+/// After any quiet events of Append, in any order, a prefix of the batches is synced, the others are pending, and the
 /// view is true. Quiet events of Rewrite change nothing.
 pub fn quiet_events_are_followed<E, V>()
     ensures append { (v : View E V) (f : Files E V) (m : Map E V) (pending : List (Record E V))
@@ -18,7 +18,7 @@ pub fn quiet_events_are_followed<E, V>()
         → Stands v f m pending → Stands v (with_rewrite f r.from r.queue) m pending }
 {}
 
-/// Once Append's active file is synced, by a sync, a rotation or a truncation, the map is the one after all pending
+/// A sync, a rotation or a truncation syncs Append's active file. After that the map is the one after all pending
 /// batches, and none is pending. A lost file changes nothing.
 pub fn append_moves_are_followed<E, V>()
     ensures sync { (v : View E V) (f : Files E V) (m : Map E V) (pending : List (Record E V))

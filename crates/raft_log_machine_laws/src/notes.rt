@@ -42,8 +42,8 @@ pub fn noted_files_have_what_is_appended<E, V>()
         → (g : ℕ) → HasAppended (whereabouts g) (appended g (records_of stay ++ f.append.synced)) }
 {}
 
-/// If Rewrite begins at the least file noted for it, or before it, what counts of the records that stay holds all that
-/// is stored there, atomic groups too.
+/// Suppose Rewrite begins at the least file noted for it, or before that. Then what counts of the records that stay
+/// holds all that is stored there, atomic groups too.
 pub fn noted_files_have_what_is_rewritten<E, V>()
     ensures { (f : Files E V) (m : Map E V) (whereabouts : ℕ → Whereabouts) (notes : Notes) (n : ℕ)
         (out stay : List (LogFile E V)) → IsModelSound (running f m whereabouts) → f.append.pending ≡ []
@@ -76,7 +76,7 @@ pub fn full_rewrite_leaves_one_file<E, V>()
         ≡ record { number = q.last; records = q.synced ++ q.pending } ∷ [] }
 {}
 
-/// If a list of items puts a slot into a queue, the items say something of it, and the file of their record may be
+/// If a list of items puts a slot into a queue, the items say something of the slot. The file of their record may be
 /// noted for it. A record of Rewrite puts nothing into Append.
 pub fn items_speak_of_what_they_bring<E, V>()
     ensures append { (t u : Whereabouts) (xs : List (Item E V)) (s : Slot)

@@ -1,4 +1,4 @@
-//! An open shows the map after some first pending batches, whichever image it found.
+//! An open shows the map after a prefix of the pending batches, whichever image it found.
 
 ghost use Rattle.std.specs.Prelude.{ℕ, ◌≤◌, List, [], length, take};
 ghost use Rattle.raft_log_model_laws.specs.Groups.{taken, Map};
@@ -8,7 +8,7 @@ ghost use Rattle.raft_log_machine_laws.specs.Log.{IsAt, IsLog, View};
 
 use crate::pipes::TiedFiles;
 
-/// An open that succeeds shows the map after some first pending batches of the log, and has none pending. It needs no
+/// An open that succeeds shows the map after a prefix of the log's pending batches, and has none pending. It needs no
 /// premise that tables can be built from what it reads: in every image each group's entries are one run.
 pub fn open_shows_what_was_kept<P: TiedFiles>()
     ensures { (s t : P) (v : View P.Entry P.Value) (m : Map P.Entry P.Value)

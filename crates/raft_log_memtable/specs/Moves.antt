@@ -24,8 +24,8 @@ moved_by v (Run f []) = v
 moved_by v (Run f (p ∷ ps)) = moved_run v f (p ∷ ps)
 moved_by v x = v
 
--- The index of the Compact that the table owes, if any: its first entry's if some entries are in Rewrite, else 2 ^ 64
--- - 1.
+-- The index of the Compact that the table owes, if any: its first entry's if some entries are in Rewrite, else the
+-- greatest one, 2 ^ 64 - 1.
 abbrev pub owed_compact : Shown → Option ℕ
 owed_compact v = if v.compacted then Some (if nat_lt 0 v.rewritten then v.first else top) else None
 

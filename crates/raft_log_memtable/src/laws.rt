@@ -51,9 +51,9 @@ pub fn least_file_in_use()
         × (noted_after (least_rewritten t) t.noted new ≡ noting least t.noted new) }
 {}
 
-/// Suppose that all that is stored in Rewrite is in files past one, and the noted groups begin past it or end at or
-/// before it. Then the least file in use is past it too. That is so once all was restated there. A group that begins
-/// past it and then ends keeps this true.
+/// Suppose all that is stored in Rewrite is in files past a certain one, and the noted groups begin past it or end no
+/// later than it. Then the least file in use is past it too. This holds once all was restated there. A group that
+/// begins past it and then ends keeps this true.
 pub fn rewritten_begins_past()
     ensures begins { (v : Shown) (n file : ℕ) → IsLeastInRewrite v (n + 1) → ArePast n v.noted
         → IsMinFile Rewrite v (Some file) → n < file }

@@ -296,8 +296,8 @@ impl GroupTable {
         self.table.apply_rewrite_atomic_group(files);
     }
 
-    /// Notes the files of an atomic group of Rewrite that was read, after its items were applied to this table, with
-    /// those that were noted before.
+    /// Notes the files of an atomic group of Rewrite that was read, along with the files noted before. Its items were
+    /// already applied to this table.
     pub(crate) fn note_read(&mut self, files: GroupFiles)
         ensures read { replay_of self.new.table ≡ with_read_group (replay_of self.old.table) files }
         ensures counts { self.new.counts ≡ self.old.counts }

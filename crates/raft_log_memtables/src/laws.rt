@@ -36,8 +36,8 @@ ghost use Rattle.raft_log_memtables.specs.Rewriting.{
 };
 ghost use Rattle.raft_log_memtables.specs.Tables.{counts, shown_of};
 
-/// A batch in a file of Append may be applied in each group if none of its runs leaves a hole or ends past 2^64 - 1.
-/// The `whereabouts` follow its items, and the places mean the map after the batch.
+/// A batch in a file of Append may be applied in each group if no run of it leaves a hole or ends past 2^64 - 1. The
+/// `whereabouts` follow its items, and the places mean the map after the batch.
 pub fn batch_grows_everywhere<E>()
     ensures grows { (at : Located → E) (n : ℕ) (v : ℕ → Shown) (xs : List (Tagged Place (List ℕ)))
         → ((g : ℕ) → IsOrderly (v g)) → MayFollowAll v xs
@@ -50,8 +50,8 @@ pub fn batch_grows_everywhere<E>()
         → (g : ℕ) → IsMeant at (all_shown n v xs g) (after (m g) (of_group g (all_written at xs))) }
 {}
 
-/// Tables that are ready for a batch before the write are ready for it after it, wherever it was written. A batch that
-/// they are ready for may follow.
+/// If tables are ready for a batch before it is written, they are ready for it after the write, wherever it was
+/// written. A batch that they are ready for may follow.
 pub fn ready_wherever_written()
     ensures written { (m : MemTables) (handle : FileBlockHandle) (items : List LogItem)
         → IsReadyFor m (tagged_items (λ e. e) items)

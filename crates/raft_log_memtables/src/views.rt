@@ -20,8 +20,8 @@ pub fn written_entries_lie_in_their_file()
         → LieIn handle.id.seq (tagged_items place_of (written handle items)) }
 {}
 
-/// Copies out of Append, or of restated records, are a step of the view if they were written to a file of Rewrite in a
-/// record that counts at once. The map stays.
+/// Copies out of Append, or of restated records, are a step of the view. They must be written to a file of Rewrite, in
+/// a record that counts at once. The map stays.
 pub fn copies_carry_the_view<E>()
     ensures { CopiesCarryTheView E }
 {}

@@ -1,5 +1,5 @@
--- A segment of a queue (not a segment file): consecutive records that are read on their own. What counts in it, and
--- what it has of the atomic groups that begin before it or end after it.
+-- A segment of a queue (not a segment file): consecutive records that are read on their own. Its summary is what counts
+-- in the segment, and what the segment has of atomic groups that begin before it or end after it.
 use Rattle.std.specs.Prelude.{ℕ, ◌≡◌, ◌==◌, List, [], ◌∷◌, ◌++◌, if◌then◌else◌}
 use Rattle.raft_log_model_laws.specs.Item.{Tagged, Record}
 use Rattle.raft_log_model_laws.specs.Item.Record.{Plain, Part}

@@ -19,8 +19,8 @@ const STATE: &[u8] = b"state";
 /// The key of the base.
 const BASE: &[u8] = b"base";
 
-/// Appends entries of the state's term, the first at this index, and stores the state: one record, one sync. The entries
-/// replace all that the log has from their first index on. Once this returns, no crash loses any of it.
+/// Appends entries of the state's term, the first at this index, and stores the state, by one record and one sync. The
+/// entries replace all that the log has from their first index on. Once this returns, no crash loses any of it.
 pub fn append<P: PipeLog, R: Log>(
     rt: &R,
     alloc: Global,

@@ -78,13 +78,15 @@ RewritesAll gate s t = RewritesSynced (λ g. true) gate s t
 
 -- Append's files.
 
--- The first file of Append's live range after the purge: after the gate, and no earlier than `least` or than before.
+-- The number at which Append's live range begins after the purge. It is the largest of three: the first number before
+-- (in `v`), the number after the gate, and `least`. `LosesTo` says which file `least` is.
 abbrev pub beginning : ℕ → ℕ → LogPipes → ℕ
 beginning gate least v = max (first_at InAppend v) (max (suc gate) least)
 
--- If nothing was pending, Append's live range begins after the gate now. It may begin later, up to the lowest file in
--- which a group has an entry or value. The log then keeps its contents, if the groups had nothing up to the gate, and
--- no tombstone is owed.
+-- Files left Append's live range. `least` is the lowest file in which a group has an entry or value, or the active file
+-- if that is lower. If nothing was pending:
+-- - `begins`: the live range begins after the gate now, or at `least` or where it began, if that is later.
+-- - `keeps`: the log keeps its contents, if the groups have nothing in files up to the gate and no tombstone is owed.
 pub record LosesTo (gate : ℕ) (m : MemTables) (s t : EngineState) : Type 0 where
   pub least : ℕ
   pub is : IsLeastOf Append (last_of InAppend s.pipes) m least

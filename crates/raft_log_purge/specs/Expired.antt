@@ -32,8 +32,12 @@ abbrev pub CountsRound : Watermarks → MemTables → Rounds → Rounds → Type
 CountsRound marks m old new =
     (g : ℕ) → count_of new g ≡ round_behind (asks_at marks m g) (count_of old g)
 
--- the groups were picked by the rules, from the tables and the counts before, and `picked` has the tombstones that
--- were owed
+-- What a purge of Append picks. It depends on the tables `m`, and on the counts `old` of purges in a row that asked for
+-- each group.
+-- - `answered`: the groups that the purge returns to its caller.
+-- - `rewritten`: the groups that the purge rewrites itself.
+-- - `rounds`: the counts with this purge.
+-- - `owed`: all tombstones that are owed.
 pub record PicksGroups (marks : Watermarks) (restated : Bool) (m : MemTables) (old : Rounds)
     (picked : PickedGroups) : Type 0 where
   pub answered : ListsGroups (answers_at (Some marks) restated m) picked.answered.items

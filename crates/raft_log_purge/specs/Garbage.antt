@@ -39,7 +39,9 @@ pub record CountsGarbage (file : ℕ) (v : ℕ → Shown) (groups : List ℕ) (o
   pub past : CountsPast file v groups count
   pub stats : new ≡ deleted Rewrite count (added Rewrite count old)
 
--- Rewrite rotated, all groups were restated, and it was synced: the garbage was subtracted from the counts
+-- A rewrite of Rewrite got as far as its sync: Rewrite rotated, all groups were restated, and Rewrite was synced. The
+-- tables are those after that. The counts were reset (`reset_counts`): garbage is subtracted from what was written, and
+-- is 0 from then on.
 pub record ResetsCounts (old new : GlobalStats) (s t : EngineState) : Type 0 where
   pub turned : LogPipes
   pub turns : RotatesQueue InRewrite s.pipes turned
@@ -48,10 +50,11 @@ pub record ResetsCounts (old new : GlobalStats) (s t : EngineState) : Type 0 whe
   pub tables : t.tables ≡ restated.tables
   pub stats : new ≡ reset_counts old
 
--- The counts after a rewrite of Rewrite failed, where `before` are the tables before it:
--- - unchanged, and so are the tables
--- - with what was restated so far: what is live after the file that was active at the start
--- - with the garbage subtracted, as all groups were restated
+-- The counts after a rewrite of Rewrite failed; `before` are the tables before it. One of three is so:
+-- - The counts are unchanged, and so are the tables.
+-- - The number of restated entries and values was added to what was written, and to the garbage. What is live after the
+--   file that was active at the start counts as restated (`CountsPast`).
+-- - All groups were restated, and the counts were reset.
 abbrev pub CountsRefused : MemTables → GlobalStats → GlobalStats → EngineState → EngineState → Type 0
 CountsRefused before old new s t = ((t.tables ≡ s.tables) × (new ≡ old))
     ⊎ (((groups : List ℕ) × ListsGroups (has_table before) groups

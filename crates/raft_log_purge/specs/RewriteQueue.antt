@@ -23,8 +23,9 @@ use Rattle.raft_log_purge_copy.specs.Restated.{IsRestatedFrom, Restates, StaysOr
 abbrev pub every : ℕ → Bool
 every g = true
 
--- All groups were restated, and Rewrite was synced at the end, and before whenever the count of unsynced bytes
--- required it. If no batch was pending, the log has the same contents, and nothing is pending in either queue.
+-- All groups were restated: what they have live in Rewrite is in new records there. Rewrite was synced at the end. It
+-- was also synced before a record whenever 512 KiB or more had been written since the last sync. If no batch was
+-- pending, the log has the same contents, and nothing is pending in either queue.
 pub record RestatesAll (s t : EngineState) : Type 0 where
   pub restated : EngineState
   pub restates : Restates every s restated
@@ -39,10 +40,12 @@ pub record RestatesAll (s t : EngineState) : Type 0 where
 abbrev pub first_file : EngineState → ℕ
 first_file s = (pipe_at InRewrite (files_of s.pipes)).first_seq
 
--- Rewrite was rewritten. It rotated, all groups were restated, and it was synced. Then the files below the lowest in
--- which a group has an entry or value left its live range. If no batch was pending, the log has the same contents, and
--- nothing is pending in either queue. In that case the live range begins after the file that was active at the start.
--- All that each group has in Rewrite is after that file too.
+-- Rewrite was rewritten. It rotated, all groups were restated, and it was synced. Then files left its live range. If no
+-- batch was pending:
+-- - `settles`: the log has the same contents, and nothing is pending in either queue.
+-- - `begins`: the live range begins at the lowest file in use (`loses.least`), or where it began if that is later.
+-- - `past`: it begins after the file that was active at the start.
+-- - `from`: all that a group has in Rewrite is after that file too.
 pub record RewritesRewrite (m : MemTables) (s t : EngineState) : Type 0 where
   pub turned : LogPipes
   pub turns : RotatesQueue InRewrite s.pipes turned

@@ -1,5 +1,5 @@
-//! Append is purged if its files are past their threshold: some groups are asked to be compacted, others are
-//! rewritten, and then files go.
+//! Append is purged if its files are past their threshold: the caller is asked to compact some groups, others are
+//! rewritten, and then files leave Append's live range.
 
 ghost use Rattle.std.specs.Prelude.{◌≡◌, ◌==◌, false, IfErr, IfOk, IsSome, OnErr, OnOk};
 ghost use Rattle.std.specs.List.{list_any};
@@ -61,16 +61,16 @@ pub struct PickedGroups {
 /// Purges Append if it is past its threshold, else does nothing.
 /// - Writes the owed tombstones.
 /// - Rewrites the groups that the rules pick, up to the watermark, and syncs Rewrite.
-/// - Takes the files below the least in use out of Append's live range, but none from its last one or the first
-///   pinned one on.
+/// - Takes the files below the lowest one in use out of Append's live range. The active file stays, and so does each
+///   file from the first pinned one on.
 ///
-/// Returns the groups that are asked to be compacted, from the least up, and counts the round. If Rewrite was
+/// Returns the groups that the caller is asked to compact, in rising order, and counts the round. If Rewrite was
 /// rewritten before, also returns the groups that have many entries there.
 ///
 /// If the caller has already surveyed the tables, and Rewrite wasn't rewritten since, that survey is reused instead
 /// of a walk over the groups.
 ///
-/// Fails with `Memory` before anything is done, or as `rewrite_marks`, `rewrite_groups`, a sync or the last step
+/// Fails with `Memory` before anything is done, or as `write_tombstones`, `rewrite_groups`, a sync or the last step
 /// does. If it fails, the map is kept, and no round is counted.
 pub fn purge_append<P: PipeLog, L: Log>(
     alloc: Global,
@@ -228,8 +228,8 @@ fn rewrite_picked<P: PipeLog, L: Log>(
     delete_unreferenced_files(alloc, rt, pipes, tables, cache, held)
 }
 
-/// Takes Append's files below the least in use out of its live range; none from the last one on, or from the first
-/// pinned one. Returns how many entries and values are live in Rewrite, counted by the same walk.
+/// Takes Append's files below the lowest one in use out of its live range. The active file stays, and so does each file
+/// from the first pinned one on. Returns how many entries and values are live in Rewrite, counted by the same walk.
 ///
 /// Fails with `Memory`, with `NumberRange` if a queue is at its last number, or with `Failed` if a file call failed.
 fn delete_unreferenced_files<P: PipeLog, L: Log>(

@@ -182,7 +182,7 @@ pub fn purge_expired_files<P: PipeLog, L: Log>(
     )
 }
 
-/// Rewrites Rewrite if it is past its threshold and enough of it is garbage, and returns whether it was.
+/// Rewrites Rewrite if that is past its threshold and enough of it is garbage. Returns whether Rewrite was rewritten.
 fn purge_rewrite<P: PipeLog, L: Log>(
     alloc: Global,
     rt: &L,

@@ -7,7 +7,8 @@ use raft_log_memtable::GlobalStats;
 use raft_log_memtables::MemTables;
 use raft_log_record_base::{FileSeq, LogQueue};
 
-/// Counts what these groups have live past a file of Rewrite as written there again, and as much as garbage.
+/// Counts what these groups have live in Rewrite after this file: adds it to what was written, and as much to the
+/// garbage.
 pub(crate) fn count_restated(
     stats: &mut GlobalStats,
     tables: &MemTables,

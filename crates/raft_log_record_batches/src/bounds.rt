@@ -9,14 +9,14 @@ ghost use Rattle.raft_log_record_batches.specs.Laws.{
   WorkedRecords,
 };
 
-/// A record has at most 34 bytes, 32 for each item, ten for each entry, and the bytes of the entries, the keys and the
+/// A record has at most 34 bytes, plus 32 for each item, ten for each entry, and the bytes of the entries, keys and
 /// values.
 pub fn no_record_is_longer()
     ensures { NoRecordIsLonger }
 {}
 
-/// Each addition to a batch raises its bound by at most 32 bytes, ten for each entry, and the bytes of the entries or
-/// of the key and value.
+/// Each addition to a batch raises its bound by at most 32 bytes, plus ten for each entry, and the bytes of the entries
+/// or of the pair.
 pub fn additions_raise()
     ensures { AdditionsRaise }
 {}

@@ -111,7 +111,7 @@ RecordsAreReadBack =
     → IsRecord signature bytes items entries
     → record_at signature (bytes ++ rest) ≡ Ok (record { len = length bytes; items = items; bytes = entries })
 
--- some first bytes of `input` are a record of a file with this signature
+-- a prefix of `input` is a record of a file with this signature
 abbrev pub BeginsRecord : Option ℕ → List ℕ → Type 0
 BeginsRecord signature input =
     (front : Front) × (front.len ≤ length input)

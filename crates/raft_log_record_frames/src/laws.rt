@@ -22,8 +22,8 @@ ghost use Rattle.raft_log_record_frames.specs.Frames.{
 ghost use Rattle.raft_log_record_frames.specs.Signatures.{SignatureSeparatesFiles};
 ghost use Rattle.raft_log_record_frames.specs.Written.{WrittenIsRecord};
 
-/// A footer that is signed for one file is valid in another signed file if and only if the low 32 bits of the two
-/// files' numbers are equal.
+/// A footer that is signed for one file is valid in another signed file exactly if the files' numbers have the same low
+/// 32 bits.
 pub fn signature_separates_files()
     ensures { SignatureSeparatesFiles }
 {}
@@ -59,8 +59,8 @@ pub fn records_are_read_back()
     ensures records { RecordsAreReadBack }
 {}
 
-/// What is written for items and their entries' bytes is a record of them, if both lengths fit and the entries' lengths
-/// add up to the bytes.
+/// What is written for items and their entries' bytes is a record of them. Both lengths must fit, and the entries'
+/// lengths must add up to the bytes.
 pub fn written_is_record()
     ensures { WrittenIsRecord }
 {}

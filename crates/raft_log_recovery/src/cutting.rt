@@ -13,8 +13,8 @@ use std::io::ErrorKind;
 /// How many bytes are read at a time to see whether they are zeros.
 const ROOM: usize = 4096;
 
-/// Truncates each damaged one of these files of a queue after its last good record, or to nothing if it has no header, and syncs
-/// it, in order. If it fails, those before the failed one are truncated.
+/// Truncates and syncs the damaged ones of these files of a queue, in order. Each then ends after its last good record,
+/// or is empty if it has no header. If that fails for a file, the damaged ones before it are truncated and synced.
 pub fn cut_files<F: FileSystem, L: Log>(
     rt: &L,
     file_system: &mut F,

@@ -35,8 +35,8 @@ pub record ShowsAlike {F : Type 0} (disk : F → Disk) (tells : F → List ℕ �
   pub forks : ForAllNaming home (IsForkedAs disk tells old now)
 
 -- An engine left a log, closed or failed, and its files are opened or forked as they are, synced or not. Both give the
--- contents `m` after the same first few pending batches. If nothing was pending, both give `m`. As for a crash, this
--- requires that there is no CRC collision in either queue's active file.
+-- contents `m` after the same prefix of the pending batches. If nothing was pending, both give `m`. As for a crash,
+-- this requires that there is no CRC collision in either queue's active file.
 abbrev pub LeftLogsShowAlike : {F : Type 0} → (F → Disk) → (F → List ℕ → ℕ → Type 0) → Type 0
 LeftLogsShowAlike {F} disk tells = (home : LogDirectories) → 0 < length home.append → 0 < length home.rewrite
     → (old : F) (m : LogMap) (pending : List LogRecordValue) → IsSound (disk old)

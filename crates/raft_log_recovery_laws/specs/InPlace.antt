@@ -55,8 +55,8 @@ pub record StopsSynced {F : Type 0} (disk : F → Disk) (tells : F → List ℕ 
   pub error : Error
   pub fails : FailsToOpenLog append_pipe rewrite_pipe error synced new
 
--- The log's files can be opened. Either they have the contents `m` and the batches `pending`, of which the first few
--- may be durable. Or they have the contents `now` that an open gives, with nothing pending.
+-- The log's files can be opened. Either they have the contents `m` and the batches `pending`, of which a prefix may be
+-- durable. Or they have the contents `now` that an open gives, with nothing pending.
 abbrev pub IsLeftEither : LogDirectories → Disk → LogMap → List LogRecordValue → LogMap → Type 0
 IsLeftEither home d m pending now = IsRecoverableAs home d m pending ⊎ IsRecoverableAs home d now []
 
@@ -73,7 +73,7 @@ pub record OpensStandingByCalls {F : Type 0} (disk : F → Disk) (tells : F → 
   pub refused : (new : Disk) → FailsToOpenByCalls disk tells config d new
       → IsLeftEither (home_of config) new m pending now
 
--- An open in place, step by step, gives the contents `m` after the first few pending batches. These are the batches
+-- An open in place, step by step, gives the contents `m` after a prefix of the pending batches. These are the batches
 -- that would be left if a crash kept all bytes, the same for all settings that name the directories.
 abbrev pub StandingLogsOpenByCalls : {F : Type 0} → (F → Disk) → (F → List ℕ → ℕ → Type 0) → Type 0
 StandingLogsOpenByCalls {F} disk tells = (home : LogDirectories) → 0 < length home.append → 0 < length home.rewrite
@@ -91,8 +91,8 @@ pub record OpensStanding {F : Type 0} (disk : F → Disk) (tells : F → List �
   pub refused : (error : Error) (new : F) → FailsToOpenDirectory disk tells config error old new
       → IsLeftEither (home_of config) (disk new) m pending now
 
--- An open in place with the one call gives the contents `m` after the first few pending batches. They are the same for
--- all settings that name the directories.
+-- An open in place with the one call gives the contents `m` after a prefix of the pending batches. The prefix is the
+-- same for all settings that name the directories.
 abbrev pub StandingDirectoriesOpen : {F : Type 0} → (F → Disk) → (F → List ℕ → ℕ → Type 0) → Type 0
 StandingDirectoriesOpen {F} disk tells = (home : LogDirectories) → 0 < length home.append → 0 < length home.rewrite
     → (old : F) (m : LogMap) (pending : List LogRecordValue) → IsSound (disk old)

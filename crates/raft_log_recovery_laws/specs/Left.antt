@@ -19,7 +19,7 @@ pub record IsCrashOf (home : LogDirectories) (s : State) (d image : Disk) : Type
   pub append : NoChanceInLast (log_in home).append.format s.append.files d image
   pub rewrite : NoChanceInLast (log_in home).rewrite.format s.rewrite.files d image
 
--- Each crash image of what an engine left is a log at rest. It has the contents `m` after the first few pending
+-- Each crash image of what an engine left is a log at rest. It has the contents `m` after a prefix of the pending
 -- batches. This requires that there is no CRC collision.
 abbrev pub CrashedLogsRest : Type 0
 CrashedLogsRest = (home : LogDirectories) → 0 < length home.append → 0 < length home.rewrite → (d image : Disk)
@@ -27,8 +27,9 @@ CrashedLogsRest = (home : LogDirectories) → 0 < length home.append → 0 < len
     → IsCrashOf home left.1.lies.state d image
     → (k : ℕ) × (k ≤ length pending) × IsDurableAs (log_in home) image (taken m (take k pending))
 
--- Disk `d` has a log at rest, with the contents `m` after the first few pending batches. `P` holds for these contents.
--- Their number is chosen before `P`. So if `P` is about all settings, the number is the same for all of them.
+-- Disk `d` has a log at rest, with the contents `m` after a prefix of the pending batches. `P` holds for these
+-- contents. The number of batches is chosen before `P`. So if `P` is about all settings, the number is the same for all
+-- of them.
 abbrev pub RestsAfterSome : LogDirectories → Disk → LogMap → List LogRecordValue → (LogMap → Type 0) → Type 0
 RestsAfterSome home d m pending P = (k : ℕ) × (k ≤ length pending)
     × IsDurableAs (log_in home) d (taken m (take k pending)) × P (taken m (take k pending))

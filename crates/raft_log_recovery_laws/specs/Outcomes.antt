@@ -27,8 +27,9 @@ abbrev pub RestingLogsOpenByCalls : {F : Type 0} → (F → Disk) → (F → Lis
 RestingLogsOpenByCalls disk tells = (config : Config) (d : Disk) (m : LogMap) → IsSound d
     → IsDurableAs (log_in (home_of config)) d m → OpensByCallsAs disk tells config d m
 
--- Opening a crash image of what an engine left, step by step, gives the contents `m` after the first few pending
--- batches. They are the same for all settings that name the directories. This requires that there is no CRC collision.
+-- Opening a crash image of what an engine left, step by step, gives the contents `m` after a prefix of the pending
+-- batches. The prefix is the same for all settings that name the directories. This requires that there is no CRC
+-- collision.
 abbrev pub CrashedLogsOpenByCalls : {F : Type 0} → (F → Disk) → (F → List ℕ → ℕ → Type 0) → Type 0
 CrashedLogsOpenByCalls disk tells = (home : LogDirectories) → 0 < length home.append → 0 < length home.rewrite
     → (d image : Disk) (m : LogMap) (pending : List LogRecordValue) → IsSound image

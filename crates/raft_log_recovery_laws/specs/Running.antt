@@ -47,8 +47,8 @@ pub record LeavesNoChance (home : LogDirectories) (v : LogPipes) (image : Disk) 
   pub append : LeavesOwnAlone (log_in home).append.format v.append.files v.disk image
   pub rewrite : LeavesOwnAlone (log_in home).rewrite.format v.rewrite.files v.disk image
 
--- An open of a crash image of a running engine gives the contents `m` after the first few pending batches. They are the
--- same for all settings that name the directories. If the open fails, the log's files can be opened with these
+-- An open of a crash image of a running engine gives the contents `m` after a prefix of the pending batches. The prefix
+-- is the same for all settings that name the directories. If the open fails, the log's files can be opened with these
 -- contents. This requires that there is no CRC collision.
 abbrev pub CrashedEnginesOpen : {F : Type 0} → (F → Disk) → (F → List ℕ → ℕ → Type 0) → Type 0
 CrashedEnginesOpen {F} disk tells = (home : LogDirectories) (e : EngineState) (m : LogMap) (pending : List LogRecordValue)

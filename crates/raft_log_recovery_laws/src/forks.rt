@@ -25,7 +25,7 @@ pub fn forked_logs_rest()
     ensures { ForkedLogsRest }
 {}
 
-/// An engine that is opened over a fork holds the same map as one that is opened over its source, before the fork or
+/// An engine that is opened over a fork holds the same map as one over the fork's source, opened before the fork or
 /// after it. If an open fails, the log is left with its map.
 pub fn forks_open_as_their_source<F: FileSystem>()
     ensures { ForksOpenAsTheirSource F.disk F.tells_space }

@@ -5,16 +5,16 @@ ghost use Rattle.raft_log_recovery_laws.specs.InPlace.{SyncedFilesHoldStill, Unc
 
 use raft_log_fs::FileSystem;
 
-/// Opening what an engine left, failed or closed, without a crash gives the map after some first pending batches, and
-/// nothing is pending. The bytes that weren't synced are read as they are, and synced. If opening a pipe fails after
-/// the syncs, the log is left with that map. If it fails earlier, the log is left with that map or unchanged, with the
-/// batches that were pending.
+/// What a failed or closed engine left may be opened without a crash. The map then is that after a prefix of the
+/// pending batches, and nothing is pending. The bytes that weren't synced are read as they are, and synced. If opening
+/// a pipe fails after the syncs, the log is left with that map. If it fails earlier, the log is left with that map or
+/// unchanged, with the batches that were pending.
 pub fn standing_logs_open_by_calls<F: FileSystem>()
     ensures { StandingLogsOpenByCalls F.disk F.tells_space }
 {}
 
-/// Opening what an engine left without a crash, with `open_directory` of `raft_log_open`, gives the map after
-/// some first pending batches, and nothing is pending. If it fails, the log is left with that map, or unchanged.
+/// If what an engine left is opened without a crash, by `open_directory` of `raft_log_open`, the map is that after a
+/// prefix of the pending batches. Nothing is pending. If it fails, the log is left with that map, or unchanged.
 pub fn standing_directories_open<F: FileSystem>()
     ensures { StandingDirectoriesOpen F.disk F.tells_space }
 {}

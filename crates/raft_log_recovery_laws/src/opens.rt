@@ -8,8 +8,7 @@ ghost use Rattle.raft_log_recovery_laws.specs.Running.{CrashedEnginesOpen};
 
 use raft_log_fs::FileSystem;
 
-/// If a log rests on a disk, a scan of the directories in its settings finds all files of either queue from the last
-/// gap on.
+/// If a log rests on a disk, a scan of the settings' directories finds all files of either queue from the last gap on.
 pub fn scans_find_all_files()
     ensures { ScansFindAllFiles }
 {}
@@ -26,8 +25,9 @@ pub fn resting_logs_open_by_calls<F: FileSystem>()
     ensures { RestingLogsOpenByCalls F.disk F.tells_space }
 {}
 
-/// Opening any crash image of what an engine left so gives the map after some first pending batches, whether it
-/// succeeds or fails. They are the same ones for all settings that name its directories, and for any number of workers.
+/// If any crash image of what an engine left is opened by these steps, the map is that after a prefix of the pending
+/// batches. This is so whether the open succeeds or fails. The prefix is the same for all settings that name its
+/// directories, and for any number of workers. The image must have no CRC collision.
 pub fn crashed_logs_open_by_calls<F: FileSystem>()
     ensures { CrashedLogsOpenByCalls F.disk F.tells_space }
 {}
@@ -38,17 +38,17 @@ pub fn resting_directories_open<F: FileSystem>()
     ensures { RestingDirectoriesOpen F.disk F.tells_space }
 {}
 
-/// Opening the directories of any crash image of what an engine left so gives the map after some first pending batches,
-/// whether it succeeds or fails. They are the same ones for all settings that name the directories, and for any number
-/// of workers.
+/// If the directories of any crash image of what an engine left are opened with `open_directory`, the map is that after
+/// a prefix of the pending batches. This is so whether the open succeeds or fails. The prefix is the same for all
+/// settings that name the directories, and for any number of workers. The image must have no CRC collision.
 pub fn crashed_directories_open<F: FileSystem>()
     ensures { CrashedDirectoriesOpen F.disk F.tells_space }
 {}
 
-/// Opening the directories of any crash image of a running engine so gives the map after some first pending batches,
-/// whether it succeeds or fails. They are the same ones for all settings that name the directories. That there is no
-/// CRC collision depends only on its pipes and on the bytes on the disk. Nothing is read that it didn't write, or that
-/// a write that isn't synced didn't pass to it.
+/// If the directories of any crash image of a running engine are opened with `open_directory`, the map is that after a
+/// prefix of the pending batches. This is so whether the open succeeds or fails. The prefix is the same for all
+/// settings that name the directories. The image must have no CRC collision, which depends only on the engine's pipes
+/// and on the bytes on the disk. So whatever is read of a file was written there, or passed to it by an unsynced write.
 pub fn crashed_engines_open<F: FileSystem>()
     ensures { CrashedEnginesOpen F.disk F.tells_space }
 {}

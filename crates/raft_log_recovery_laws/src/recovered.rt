@@ -12,14 +12,14 @@ pub fn read_files_are_the_queue()
     ensures none { NoFilesAreTheQueue }
 {}
 
-/// The pipes of an engine run over a log that was found again, and its tables are merged of all that was read of the
-/// log's files. The engine holds the map of the log, and nothing is pending.
+/// Suppose an engine's pipes run over a log that was found again, and its tables are merged from all that was read
+/// there. Then the engine holds the map of the log, and nothing is pending.
 pub fn opened_engines_hold()
     ensures { OpenedEnginesHold }
 {}
 
-/// Any crash image of what an engine left, by a close, a failure or in the middle of a call, is a log at rest: the map
-/// after some first pending batches.
+/// Any crash image of what an engine left, by a close, a failure or in the middle of a call, is a log at rest. Its map
+/// is that after a prefix of the pending batches.
 pub fn crashed_logs_rest()
     ensures { CrashedLogsRest }
 {}
@@ -36,7 +36,7 @@ pub fn read_logs_are_held()
 {}
 
 /// An engine is opened over any crash image of what an engine left, and made of what was read of its files. It holds
-/// the map after some first pending batches, and nothing is pending.
+/// the map after a prefix of the pending batches, and nothing is pending.
 pub fn crashed_logs_open()
     ensures { CrashedLogsOpen }
 {}

@@ -59,7 +59,7 @@ record_read Append n items = Some (in_file n (Plain (said_in true n items)))
 record_read Rewrite n items =
     option_map (in_file n) (taken_as (marking_of_items items) (said_in false n items))
 
--- the items of group `g` that take effect, if these are all records: those of incomplete atomic groups don't
+-- the items of group `g` that take effect, if `rs` are all records: all but those of incomplete atomic groups
 abbrev pub counted : ℕ → List ReadRecord → List (Item Located KeyValue)
 counted g rs = rewritten g (records_of rs)
 
@@ -72,9 +72,9 @@ RunsFit (x ∷ xs) = Fits x × RunsFit xs
 abbrev pub AreHealthy : {E V : Type 0} → List (Item E V) → Type 0
 AreHealthy xs = NoHole nothing xs × RunsFit xs
 
--- The result of the replay in each raft group is that of the items that take effect. This is claimed under two
--- conditions. Between the begin and the end of an atomic group, nothing takes effect for its raft groups. In the raft
--- group, what takes effect leaves no hole and no index too high.
+-- In each raft group, the replay has the result of the items that take effect. This is claimed under two conditions:
+-- - Between the begin and the end of an atomic group, nothing takes effect for the raft groups of its items.
+-- - In the raft group, the items that take effect leave no hole and no index too high.
 abbrev pub AreReplayed : Bool → List ReadRecord → (ℕ → Replayed) → Type 0
 AreReplayed q rs z =
     Tidy (records_of rs) → (g : ℕ) → AreHealthy (counted g rs) → IsReplayed q (counted g rs) (z g)
@@ -86,7 +86,7 @@ TablesTake q xs old new =
     (g : ℕ) (before : List (Item Located KeyValue)) → AreHealthy (before ++ of_group g xs)
     → IsReplayed q before (old g) → IsReplayed q (before ++ of_group g xs) (new g)
 
--- in each raft group, whatever items `old` is the result of, `new` is too; only recorded files may differ
+-- in each raft group, if `old` is the replay's result for some items, so is `new`
 abbrev pub KeepsRead : (ℕ → Replayed) → (ℕ → Replayed) → Type 0
 KeepsRead old new =
     (g : ℕ) (q : Bool) (xs : List (Item Located KeyValue)) → IsReplayed q xs (old g) → IsReplayed q xs (new g)

@@ -15,8 +15,8 @@ use Rattle.raft_voter_durability_laws.specs.Standing.{AreOutlines, IsLeftAmong, 
 use Rattle.raft_voter_durability_laws.specs.Rounds.{AreTold, IsPassed, IsPassedOrOneMore, took}
 
 -- A round got as far as these replies. Its records so far lead from the voters at its start to the voters after the
--- requests taken. If only the first few of these records are kept, they lead to the voters after the first few
--- requests taken. The replies are those of the voters. If the round wrote nothing, the log has no new record.
+-- requests taken. If only a prefix of these records is kept, it leads to the voters after a prefix of the requests
+-- taken. The replies are those of the voters. If the round wrote nothing, the log has no new record.
 pub record Went (qs : List (ℕ × Request)) (told : List Reply) (wrote : Bool) (s t : EngineState) (os us : ℕ → State)
     : Type 0 where
   pub said : List LogRecordValue
@@ -43,7 +43,7 @@ pub record Answered (home : LogDirectories) (V : World) (qs : List (ℕ × Reque
   pub tells : AreTold V qs told
 
 -- The engine failed at a request of the round, after these replies, which are the voters'. The log's files can be
--- opened. They store the voters after the first few requests taken, perhaps with the request at which the engine
+-- opened. They store the voters after a prefix of the requests taken, perhaps with the request at which the engine
 -- failed.
 pub record GaveUp (home : LogDirectories) (V : World) (qs : List (ℕ × Request)) (told : List Reply) (s t : EngineState)
     : Type 0 where
@@ -52,7 +52,7 @@ pub record GaveUp (home : LogDirectories) (V : World) (qs : List (ℕ × Request
   pub tells : AreTold V qs told
   pub left : IsLeftAmong home t.pipes.disk (IsPassedOrOneMore V qs told)
 
--- The sync at the end of a round failed. The log's files can be opened, and store the voters after the first few
+-- The sync at the end of a round failed. The log's files can be opened, and store the voters after a prefix of the
 -- requests taken.
 pub record Unsynced (home : LogDirectories) (V : World) (qs : List (ℕ × Request)) (told : List Reply) (s t : EngineState)
     : Type 0 where

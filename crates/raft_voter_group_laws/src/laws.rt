@@ -15,8 +15,8 @@ pub fn each_group_keeps_its_voter()
     ensures { EachGroupKeepsItsVoter }
 {}
 
-/// Nothing is lost by looking at each group alone. If each group has its one voter, and the positions of refused
-/// requests, replies and cuts fit the rounds, then voters that never fail explain the whole transcript.
+/// Nothing is lost by looking at each group alone. Suppose each group has its one voter, and the positions of refused
+/// requests, replies and cuts fit the rounds. Then voters that never fail explain the whole transcript.
 pub fn groups_alone_explain()
     ensures { GroupsAloneExplain }
 {}

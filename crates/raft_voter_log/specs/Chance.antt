@@ -35,7 +35,7 @@ IsOwnFrame F files = F.IsFrame files.active.seq (active_header files)
 abbrev pub IsTorn : PipeFiles → File → List ℕ → Type 0
 IsTorn files file bytes = (kept : ℕ) × (bytes ≡ active_header files ++ take kept (own_bytes files file))
 
--- `bytes` are the header of the active file, then the first few records that the pipe wrote, each whole. No record of
+-- `bytes` are the header of the active file, then a prefix of the records that the pipe wrote, each whole. No record of
 -- the file begins after them. For example, zeros may follow, from space that was allocated ahead of a write.
 pub record IsWhole (F : Format LogRecord) (files : PipeFiles) (file : File) (bytes : List ℕ) : Type 0 where
   pub kept : List (Written LogRecord)
@@ -76,8 +76,7 @@ LossesAreFound {F} disk tells = (home : LogDirectories) (e : EngineState) (W : W
     → ForAllNaming home (λ config. FindsVoters disk tells config old W (λ X. X ≡ W))
 
 -- A store crashed during a round, between two requests, and the crash only lost writes. Then an open of the image finds
--- the voters after the first few of the requests served so far. All settings that name the directories give the same
--- voters.
+-- the voters after a prefix of the requests served so far. All settings that name the directories give the same voters.
 abbrev pub LossesInRoundsAreFound : {F : Type 0} → (F → Disk) → (F → List ℕ → ℕ → Type 0) → Type 0
 LossesInRoundsAreFound {F} disk tells = (home : LogDirectories) (V : World) (requests : List (ℕ × Request)) (told : List Reply)
     (wrote : Bool) (s t : EngineState) (os us : ℕ → State) → Keeps home s V → AreOutlines os V

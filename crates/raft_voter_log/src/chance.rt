@@ -25,8 +25,8 @@ pub fn losses_are_found<F: FileSystem>()
     ensures { LossesAreFound F.disk F.tells_space }
 {}
 
-/// During a round, where records that aren't synced are torn or lost, it gives voters that took some first requests of
-/// the round.
+/// After a crash during a round, where unsynced records are torn or lost, it gives voters that took a prefix of the
+/// round's requests.
 pub fn losses_in_rounds_are_found<F: FileSystem>()
     ensures { LossesInRoundsAreFound F.disk F.tells_space }
 {}

@@ -71,7 +71,8 @@ took_front W X asked s =
 pub took_nothing : (W : World) (asked : List (ℕ × Request)) → TakesFirst W asked [] W
 took_nothing W asked = took_front W W asked (none_taken W asked)
 
--- the file in memory couldn't grow: what was synced is as before, and behind it is written what some of the first requests made of the voters
+-- the file in memory couldn't grow: what was synced is as before, and after it the file has what a prefix of the
+-- requests made of the voters
 pub took_some : (old new : PlainVoters) (asked : List (ℕ × Request)) → new.failed ≡ true → AnswersNone old asked new → TookSome plain_voters [] asked old new
 took_some old new asked failed s = record {
   rising = refl;

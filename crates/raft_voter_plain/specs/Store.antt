@@ -109,20 +109,20 @@ pub record TakesAll (old : PlainVoters) (asked : List (ℕ × Request)) (told : 
   pub synced : new.file.synced ≡ old.file.synced
   pub written : AllInRange (world_of old) → LeadsFrom (world_of old) old → LeadsFrom (world_of old) new
 
--- world `X` is world `W` after the first few of these requests, perhaps none or all
+-- world `X` is world `W` after a prefix of these requests, perhaps none or all
 pub record Stopped (W : World) (requests : List (ℕ × Request)) (X : World) : Type 0 where
   pub count : ℕ
   pub few : count ≤ length requests
   pub taken : X ≡ after W (take count requests)
 
--- the unsynced bytes are records that lead from world `W` to the world after the first few of these requests
+-- the unsynced bytes are records that lead from world `W` to the world after a prefix of these requests
 pub record WroteSome (W : World) (asked : List (ℕ × Request)) (unsynced : List ℕ) : Type 0 where
   pub world : World
   pub taken : Stopped W asked world
   pub written : LeadTo W unsynced world
 
--- These requests get no replies. The first few were taken in memory, and the changes of the first few were written as
--- records; these numbers may differ. The synced bytes are the same.
+-- These requests get no replies. A prefix was taken in memory, and the changes of a prefix were written as records; the
+-- two prefixes may differ. The synced bytes are the same.
 pub record AnswersNone (old : PlainVoters) (asked : List (ℕ × Request)) (new : PlainVoters) : Type 0 where
   pub taken : Stopped (world_of old) asked (world_of new)
   pub synced : new.file.synced ≡ old.file.synced

@@ -153,8 +153,8 @@ pub fn run_leaving<
     run_bytes_leaving::<R, S, F, C, W>(rt, alloc, setup, front.as_slice(), writer)
 }
 
-/// Runs the session of these bytes, and writes what `run_over` writes for it. An `Err` says that memory ran out, or that the
-/// writer failed. If memory ran out, nothing was written and the error has that kind. If the writer failed, it took a
+/// Runs the session of these bytes, and writes what `run_over` writes for it. Fails if memory runs out, or if the
+/// writer fails. If memory ran out, nothing was written and the error has that kind. If the writer failed, it took a
 /// prefix of what may be written.
 pub fn run_bytes<
     R: Threads + Sync,

@@ -56,9 +56,8 @@ abbrev pub RoundIsAnswered : List (ℕ × Request) → List Reply → EngineStat
 RoundIsAnswered qs told s t os us =
     (home : LogDirectories) (V : World) → Keeps home s V → AreOutlines os V → Answered home V qs told s t us
 
--- The round was cut off. For all voters that the log stored before, with the outlines `os`, either the engine failed at
--- a request, or the sync at the end failed. `refused` are the positions of the replies `Refused`, and each has a
--- reason.
+-- The round was cut off. For all voters that the log stored before, with the outlines `os`, the engine failed at a
+-- request, or the sync at the end failed. `refused` are the positions of the replies `Refused`, and each has a reason.
 pub record CutsRoundOff (qs : List (ℕ × Request)) (refused : List ℕ) (s t : EngineState) (os : ℕ → State) : Type 0 where
   pub told : List Reply
   pub few : length told ≤ length qs

@@ -65,8 +65,8 @@ impl<P: PipeLog> LogVoterStore<P> {
         }
     }
 
-    /// Serves one request of a group. The outline decides it, and the store writes what it changes, or reads the
-    /// entries that it requests. Fails if the request is turned down, or the engine fails at it.
+    /// Serves one request of a group. The outline decides the request, and the store writes what the request changes,
+    /// or reads the entries that it asks for. Fails if the request is turned down, or the engine fails at it.
     fn take<R: Log>(&mut self, rt: &R, group: u64, request: &Request) -> Result<Taken>
         requires { has_failed (shows_of P.shown self.old.engine) ≡ false }
         ensures ok { IfOk result (λ taken. Served (group, request.now) taken.reply taken.wrote

@@ -46,8 +46,8 @@ AreServed {S} v (requests ∷ rounds) (replies ∷ told) old new =
     (now : S) × IsServed v requests replies old now × AreServed v rounds told now new
 AreServed v rounds told old new = ⊥
 
--- if the store hasn't failed after a round, the positions that it may refuse in the round are exactly those of the
--- requests out of range
+-- if the store hasn't failed after a round, the positions that it may refuse in that round are those of the requests
+-- out of range
 abbrev pub RefusesOutOfRange : {S : Type 0} → Service S → Type 0
 RefusesOutOfRange {S} v = (old new : S) (requests : List (ℕ × Request)) (refused : List ℕ)
     → v.is_failed new ≡ false → v.may_refuse old new requests refused → refused ≡ out_of_range 0 requests

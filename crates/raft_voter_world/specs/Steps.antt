@@ -41,7 +41,7 @@ pub record Moves {S F : Type 0} (v : Service S) (u : Upkeep S) (d : Disk S F) (e
   pub noted : Grows event old.notes ms new.notes
   pub ready : IsReady v old → IsReady v new
 
--- if the disk of world `old` has stopped, a crash followed, which left what `left` of the world says
+-- if the disk of world `old` has stopped, a crash followed; the world's `left` says what that left
 pub record Falling {S F : Type 0} (v : Service S) (u : Upkeep S) (d : Disk S F) (event : ℕ) (old : World S F)
     (new : World S F) : Type 0 where
   pub moments : List (Moment S F)

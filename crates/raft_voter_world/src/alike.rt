@@ -4,9 +4,9 @@ ghost use Rattle.raft_voter_world.specs.LawsAlike.{StoresAnswerAlike, StoresAnsw
 
 use raft_voter::RoundService;
 
-/// If two stores serve the same voters and reply to the same rounds, and both refuse only requests out of range, their
-/// replies are the same. They serve the same voters afterwards. It doesn't matter what stores they are, or how they
-/// keep their voters.
+/// Suppose two stores serve the same voters and reply to the same rounds, and both refuse only requests out of range.
+/// Then their replies are the same. They serve the same voters afterwards. It doesn't matter what stores they are, or
+/// how they keep their voters.
 pub fn stores_answer_alike<R, S: RoundService<R>, T: RoundService<R>>()
     ensures { StoresAnswerAlike S.service T.service }
 {}

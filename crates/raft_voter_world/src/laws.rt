@@ -13,9 +13,9 @@ pub fn rounds_are_explained<R, S: VoterStorage<R>, F: VoterDisk<R, S>>()
     ensures { AllExplained S.service S.upkeep F.disk }
 {}
 
-/// Unless an open reads or a crash leaves files with a CRC collision, each open finds the place of the round that was
-/// cut off before it. Voters that never fail explain the rounds, and what is left at the end means the voters that they
-/// led to.
+/// Suppose no open reads and no crash leaves files with a CRC collision. Then each open finds the place of the round
+/// that was cut off before it. Voters that never fail explain the rounds, and what is left at the end means the voters
+/// that the rounds led to.
 pub fn crashes_are_transparent<R, S: VoterStorage<R>, F: VoterDisk<R, S>>()
     ensures { AllTransparent S.service S.upkeep F.disk }
 {}

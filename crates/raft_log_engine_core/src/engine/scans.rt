@@ -46,10 +46,10 @@ impl<P: PipeLog> LogEngine<P> {
         }
     }
 
-    /// Calls back with each key of a group within the bounds and with its value as a message, in the order of the keys'
-    /// bytes or backwards. It ends after the first call that returns false. A key is within the bounds if it isn't
-    /// below the start and is below the end, if they are given. A value that isn't a message is skipped. The keys and
-    /// values within the bounds are copied first.
+    /// Calls back with each key of a group within the bounds, and with its value as a message. The keys are in the
+    /// order of their bytes, or backwards. The scan ends after the first call that returns false. A key is within the
+    /// bounds if it isn't below the start and is below the end, if they are given. A value that isn't a message is
+    /// skipped. The keys and values within the bounds are copied first.
     ///
     /// Fails with `Failed` if the engine has failed; then nothing is called. If it fails with `Memory`, some may have
     /// been called.

@@ -37,8 +37,9 @@ impl<D: Device> DirectoryFileSystem<D> {
         }
     }
 
-    /// By how many bytes a directory's files may still grow: what they leave of the space that is set for it, or of what
-    /// they had when one of them found no space, if that is less; 2^64 - 1 if neither is known.
+    /// By how many bytes a directory's files may still grow: the lesser of two numbers. The one is what they leave of
+    /// the space that is set for it. The other is what they leave of the bytes that they had when one of them found no
+    /// space. If neither is known, it is 2^64 - 1.
     pub(super) fn free_in(&self, directory: &str) -> u64
         ensures { TellsFree D.Device self.now directory.now result }
     {

@@ -73,9 +73,9 @@ impl MemTable {
         }
     }
 
-    /// Puts a table that was read from all of Append over this one, which was read from all of Rewrite and whose
-    /// tombstones aren't owed any more. If its entries start past the end of those that stay, none of these stays.
-    /// Whether it succeeds or fails, nothing is promised any more.
+    /// Merges a table that was read from all of Append over this one, which was read from all of Rewrite. The
+    /// tombstones of this one aren't owed any more. If the entries of Append start past the end of those that stay
+    /// here, none of these stays. Whether it succeeds or fails, nothing is promised any more.
     pub fn merge_append_table(&mut self, append: MemTable) -> Result<(), AllocError>
         ensures ok { OnOk result (shown self.new ≡ merged (shown self.old) (replay_of append)) }
         ensures err { OnErr result (replay_of self.new ≡ replay_of self.old) }

@@ -111,9 +111,9 @@ impl MemTable {
         self.keys.scan(start, end, reverse, callback);
     }
 
-    /// Adds the keys that aren't below the start and are below the end, if these are given, and their values, in the
-    /// order of the keys. If it fails, nothing is added. It takes time in the keys between the bounds, those without a
-    /// value included.
+    /// Adds the keys from the start on and below the end, if these are given, and their values, in the order of the
+    /// keys. If it fails, nothing is added. It takes time in the keys between the bounds, those without a value
+    /// included.
     pub fn fetch_kvs_within(
         &self,
         start: Option<&[u8]>,

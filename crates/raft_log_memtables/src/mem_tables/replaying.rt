@@ -26,8 +26,8 @@ use raft_log_record_items::LogItem;
 impl MemTables {
     /// Applies the items of a record that was read in this file of Append. A mark says nothing.
     ///
-    /// Fails with `Hole` if a run starts past the index after the last of its group, or with `Memory`. If it fails, the
-    /// first few items are applied, and the others aren't.
+    /// Fails with `Hole` if a run starts past the index after the last of its group, or with `Memory`. If it fails, a
+    /// prefix of the items is applied, and the others aren't.
     pub fn replay_append_writes(&mut self, items: Vec<LogItem>, file: FileSeq) -> Result<()>
         ensures ok { OnOk result (ReadsAll true file self.old self.new (tagged_items place_of items.items)) }
         ensures err { IfErr result
@@ -40,7 +40,7 @@ impl MemTables {
     /// Applies the items of a record that was read in this file of Rewrite. A mark says nothing. If a run starts past
     /// the index after the last, it replaces all entries.
     ///
-    /// Fails with `Memory`. If it fails, the first few items are applied, and the others aren't.
+    /// Fails with `Memory`. If it fails, a prefix of the items is applied, and the others aren't.
     pub fn replay_rewrite_writes(&mut self, items: Vec<LogItem>, file: FileSeq) -> Result<()>
         ensures ok { OnOk result (ReadsAll false file self.old self.new (tagged_items place_of items.items)) }
         ensures err { IfErr result
@@ -101,8 +101,8 @@ impl MemTables {
         }
     }
 
-    /// Notes the files of an atomic group of Rewrite that was read, for a group whose items of it are applied, with
-    /// those that were noted before.
+    /// Notes the files of an atomic group of Rewrite that was read, for a raft group to which its items were applied.
+    /// Files that were noted before stay noted.
     pub fn note_read_group(&mut self, group: u64, files: GroupFiles)
         ensures noted { replayed_of self.new group ≡ read_noted_in files (raw_of self.old group) }
         ensures others { (g : ℕ) → (group == g) ≡ false → replayed_of self.new g ≡ replayed_of self.old g }

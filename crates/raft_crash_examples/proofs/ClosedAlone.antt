@@ -1,5 +1,5 @@
 -- Whether a close leaves something to chance, by the bytes that it leaves.
-use Rattle.std.proofs.Common.{◌≡◌, ◌+◌, ◌<◌, ℕ, Some, List, [], ◌∷◌, ◌++◌, length, drop, refl, sym, ap, subst, ◌∙◌, inl, inr, arith, append-nil, append_assoc, length-append}
+use Rattle.std.proofs.Common.{◌≡◌, ◌+◌, ℕ, List, [], ◌∷◌, ◌++◌, length, drop, refl, sym, ap, subst, ◌∙◌, inl, inr, arith, append-nil, append_assoc, length-append}
 use Rattle.std.proofs.lemmas.List.{drop_at}
 use Rattle.raft_log_file_writer.specs.LawsChains.{LiesIn, Meets, Written, spelled}
 use Rattle.raft_log_file_writer.specs.LogFormat.{Format, IsFormat}

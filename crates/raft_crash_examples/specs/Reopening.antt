@@ -7,7 +7,7 @@ use Rattle.raft_log_file_pipe.specs.declared.pipe_files.PipeFiles.{PipeFiles}
 use Rattle.raft_log_engine.specs.raft_log_fs.specs.Disk.{Disk, File}
 use Rattle.raft_log_engine.specs.raft_log_fs.specs.Image.{IsSound}
 use Rattle.raft_log_engine.specs.raft_log_file_settings.specs.declared.config.Config.{Config}
-use Rattle.raft_log_engine.specs.raft_log_dual_pipes.specs.Pipes.{LogPipes, LogRecordValue}
+use Rattle.raft_log_engine.specs.raft_log_dual_pipes.specs.Pipes.{LogRecordValue}
 use Rattle.raft_log_engine.specs.raft_log_engine_laws.specs.raft_log_active_file.specs.declared.record.LogRecord.{LogRecord}
 use Rattle.raft_log_engine.specs.raft_log_engine_laws.specs.EngineState.{LogDirectories, LogMap, EngineState, log_in}
 use Rattle.raft_log_engine.specs.raft_log_engine_laws.specs.Holding.{Represents}

@@ -141,8 +141,9 @@ impl<R: Files<File = File> + Eprint + AllocGlobal + Drop> Device for FileDevice<
 
     fn sync_directory(&mut self, path: &str) -> Result<(), ErrorKind> {
         let named = if path.is_empty() { "." } else { path };
-        sync_named(&self.rt, self.directories.as_slice(), named)
-            .map_err(|error| report(&self.rt, named, "sync it", error))?;
+        sync_named(&self.rt, self.directories.as_slice(), named).map_err(|error| report(
+            &self.rt, named, "sync it", error,
+        ))?;
         self.record.note(&[SYNCED_DIRECTORY, 0, 0], path.as_bytes());
         Ok(())
     }
@@ -251,7 +252,10 @@ fn sync_named<R: Files<File = File>>(
     directories: &[LockedDirectory],
     path: &str,
 ) -> io::Result<()> {
-    match directories.iter().find(|locked| locked.path.as_str() == path) {
+    match directories
+        .iter()
+        .find(|locked| locked.path.as_str() == path)
+    {
         Some(locked) => locked.sync(),
         None => File::open(rt, path)?.sync_all(),
     }

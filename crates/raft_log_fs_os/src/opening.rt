@@ -145,13 +145,16 @@ fn lock<R: Files<File = File> + AllocGlobal>(
     directory: &str,
 ) -> Result<(), DirectoryFault> {
     let alloc = rt.alloc();
-    let mut locked = found
-        .add_directory(rt, directory)
-        .map_err(|error| DirectoryFault::of_directory(alloc, directory, error))?;
+    let mut locked = found.add_directory(rt, directory).map_err(
+        |error| DirectoryFault::of_directory(alloc, directory, error),
+    )?;
     let path = format!(in alloc; "{directory}/LOCK")?;
-    locked
-        .lock_file(rt, path.as_str(), found.access)
-        .map_err(|error| DirectoryFault::of_lock(alloc, directory, path.as_str(), error))?;
+    locked.lock_file(rt, path.as_str(), found.access).map_err(|error| DirectoryFault::of_lock(
+        alloc,
+        directory,
+        path.as_str(),
+        error,
+    ))?;
     found.directories.push(locked)?;
     Ok(())
 }

@@ -63,9 +63,7 @@ impl Reserve {
 
     /// Truncates the reserve's file to nothing, and syncs that: some systems give a file's blocks to others only then.
     fn emptied<R: Files<File = File>>(&self, rt: &R) -> io::Result<()> {
-        let opened = OpenOptions::new()
-            .write(true)
-            .open(rt, self.path.as_str())?;
+        let opened = OpenOptions::new().write(true).open(rt, self.path.as_str())?;
         opened.set_len(0)?;
         opened.sync_all()
     }

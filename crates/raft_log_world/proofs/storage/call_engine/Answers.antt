@@ -1,0 +1,26 @@
+use Rattle.std.proofs.Common.{subst, sym}
+use Rattle.raft_log_world.specs.declared.event.Call.{Call}
+use Rattle.raft_log_world.specs.declared.event.Event.TheVariants.{Serve}
+use Rattle.raft_log_world.specs.declared.storage.Storage.TheVariants.{Open}
+use Rattle.raft_log_world.specs.Logs.{Follows}
+use Rattle.raft_log_world.proofs.storage.call_engine.Goals as goal
+
+pub returns-in-Write : goal.returns-in-Write
+returns-in-Write g c =
+    subst (λ (call : Call g.row.B.Denot). Follows g.F.LogFiles.log (Open c.args.engine.now) (Serve call) c.write.result (Open c.write.new.engine)) (sym c.in-Write.is) c.write.ensures
+
+pub returns-in-Sync : goal.returns-in-Sync
+returns-in-Sync g c =
+    subst (λ (call : Call g.row.B.Denot). Follows g.F.LogFiles.log (Open c.args.engine.now) (Serve call) c.sync.result (Open c.sync.new.engine)) (sym c.in-Sync.is) c.sync.ensures
+
+pub returns-in-Get : goal.returns-in-Get
+returns-in-Get g c =
+    subst (λ (call : Call g.row.B.Denot). Follows g.F.LogFiles.log (Open c.args.engine.now) (Serve call) c.get.result (Open c.get.new.engine)) (sym c.in-Get.is) c.get.ensures
+
+pub returns-in-GetEntry : goal.returns-in-GetEntry
+returns-in-GetEntry g c =
+    subst (λ (call : Call g.row.B.Denot). Follows g.F.LogFiles.log (Open c.args.engine.now) (Serve call) c.get_entry.result (Open c.get_entry.new.engine)) (sym c.in-GetEntry.is) c.get_entry.ensures
+
+pub returns-in-Purge : goal.returns-in-Purge
+returns-in-Purge g c =
+    subst (λ (call : Call g.row.B.Denot). Follows g.F.LogFiles.log (Open c.args.engine.now) (Serve call) c.purge.result (Open c.purge.new.engine)) (sym c.in-Purge.is) c.purge.ensures

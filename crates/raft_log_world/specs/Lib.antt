@@ -1,0 +1,6 @@
+pub mod Explained
+pub mod Kept
+pub mod Logs
+pub mod Model
+pub mod Run
+pub mod Steps

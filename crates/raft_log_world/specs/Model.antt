@@ -1,0 +1,124 @@
+-- The model log: a log that never crashes, as its callers see it. It says which answers an event may have, and what the
+-- log is afterwards. A crash of the machine only loses the last few batches that aren't synced yet.
+use Rattle.std.specs.Prelude.{◌≡◌, ◌⊎◌, ◌≤◌, ℕ, Bool, true, false, List, [], ◌∷◌, ◌++◌, length, take, Option, option_map}
+use Rattle.std.specs.Global.{Vec}
+use Rattle.raft_log_model_laws.specs.Item.{Record, items_of}
+use Rattle.raft_log_model_laws.specs.Meaning.Slot.{Index, Key}
+use Rattle.raft_log_model_laws.specs.Meaning.Content.{Entry, Value}
+use Rattle.raft_log_model_laws.specs.Groups.{Map, taken}
+use Rattle.raft_log_world.specs.declared.event.Answer.{Answer}
+use Rattle.raft_log_world.specs.declared.event.Answer.TheVariants.{Done, Found, Refused, Failed, Idle}
+use Rattle.raft_log_world.specs.declared.event.Call.{Call}
+use Rattle.raft_log_world.specs.declared.event.Call.TheVariants.{Write, Sync, Get, GetEntry, Purge}
+use Rattle.raft_log_world.specs.declared.event.Event.{Event}
+use Rattle.raft_log_world.specs.declared.event.Event.TheVariants.{Open, Serve, Close, Crash}
+
+-- the contents of a log: for each raft group, the bytes of its entry at each index, and the value of each key
+abbrev pub Contents : Type 0
+Contents = Map (List ℕ) (List ℕ)
+
+-- the record that a batch is written as: what it changes, in which groups
+abbrev pub BatchRecord : Type 0
+BatchRecord = Record (List ℕ) (List ℕ)
+
+-- A log: its durable contents, and the batches that were written after them and aren't synced yet, in order.
+-- - `resting`: no engine has it open, and all of it is durable. A crash leaves it so.
+-- - `left`: no engine has it open. A close or an open that failed left it so.
+-- - `running`: an engine has it open.
+-- - `failed`: an engine has it open, and has failed.
+pub data ModelLog : Type 0 where
+  resting : Contents → ModelLog
+  left : Contents → List BatchRecord → ModelLog
+  running : Contents → List BatchRecord → ModelLog
+  failed : Contents → List BatchRecord → ModelLog
+
+-- whether an engine has the log open
+abbrev pub is_open : ModelLog → Bool
+is_open (resting m) = false
+is_open (left m pending) = false
+is_open (running m pending) = true
+is_open (failed m pending) = true
+
+-- The engine runs, and no batch of these is lost. The first few are durable, and the others are pending.
+pub record RunsOn (m : Contents) (batches : List BatchRecord) (next : ModelLog) : Type 0 where
+  pub done : List BatchRecord
+  pub rest : List BatchRecord
+  pub splits : done ++ rest ≡ batches
+  pub is : next ≡ running (taken m done) rest
+
+-- `now` are the contents after the first few of the pending batches; the others are lost
+abbrev pub LosesSome : Contents → List BatchRecord → Contents → Type 0
+LosesSome m pending now = (count : ℕ) × (count ≤ length pending) × (now ≡ taken m (take count pending))
+
+-- the engine runs, and these batches are written; if a sync was asked for, all of them are durable
+abbrev pub HasWritten : Bool → Contents → List BatchRecord → ModelLog → Type 0
+HasWritten true m batches next = next ≡ running (taken m batches) []
+HasWritten false m batches next = RunsOn m batches next
+
+-- the batch is written after the pending ones; one that changes nothing need not be
+abbrev pub Adds : Bool → Contents → List BatchRecord → BatchRecord → ModelLog → Type 0
+Adds sync m pending batch next = HasWritten sync m (pending ++ batch ∷ []) next
+    ⊎ ((items_of batch ≡ []) × HasWritten sync m pending next)
+
+-- the bytes that a read returned, or none
+abbrev pub bytes_of : Option (Vec ℕ) → Option (List ℕ)
+bytes_of found = option_map (λ bytes. bytes.items) found
+
+-- How an engine that runs answers a call, and what the log is then. Its contents are `m`, and `pending` are the pending
+-- batches. `says` gives the record of a batch.
+-- - A write that succeeds adds its batch. A sync, and a purge, make all batches durable.
+-- - A read returns what the contents have after all batches.
+-- - If a call fails and the engine runs on, the call leaves no trace of its batch, and loses no other.
+-- - If the engine fails in a write, its batch may be written or not.
+abbrev pub Serves : {B : Type 0} → (B → BatchRecord) → Contents → List BatchRecord → Call B → Answer → ModelLog → Type 0
+Serves says m pending (Write batch sync) Done next = Adds sync m pending (says batch) next
+Serves says m pending (Write batch sync) Refused next = RunsOn m pending next
+Serves says m pending (Write batch sync) Failed next =
+    (next ≡ failed m pending) ⊎ (next ≡ failed m (pending ++ says batch ∷ []))
+Serves says m pending Sync Done next = next ≡ running (taken m pending) []
+Serves says m pending Sync Failed next = next ≡ failed m pending
+Serves says m pending (Get group key) (Found value) next =
+    (taken m pending group (Key key.items) ≡ option_map Value (bytes_of value)) × (next ≡ running m pending)
+Serves says m pending (Get group key) Refused next = next ≡ running m pending
+Serves says m pending (GetEntry group index) (Found entry) next =
+    (taken m pending group (Index index) ≡ option_map Entry (bytes_of entry)) × (next ≡ running m pending)
+Serves says m pending (GetEntry group index) Refused next = next ≡ running m pending
+Serves says m pending Purge Done next = next ≡ running (taken m pending) []
+Serves says m pending Purge Refused next = next ≡ running (taken m pending) []
+Serves says m pending Purge Failed next = (next ≡ failed m pending) ⊎ (next ≡ failed (taken m pending) [])
+Serves says m pending call answer next = ⊥
+
+-- a call or a close does nothing if no engine has the log open, and an open if one has
+abbrev pub IsIdle : {B C : Type 0} → Bool → Event B C → Type 0
+IsIdle opened (Open workers) = opened ≡ true
+IsIdle opened (Serve call) = opened ≡ false
+IsIdle opened Close = opened ≡ false
+IsIdle opened (Crash what) = ⊥
+
+-- How the log answers an event, and what it is then:
+-- - After an open the engine runs. What was pending is durable, or its last few batches are lost. If the open fails,
+--   the log is as before, or as the open would have found it.
+-- - A close that succeeds makes all batches durable. One that fails leaves them pending.
+-- - A crash loses the last few pending batches, and nothing else.
+-- - An engine that has failed fails each call, and a close, and changes nothing.
+abbrev pub Answers : {B C : Type 0} → (B → BatchRecord) → ModelLog → Event B C → Answer → ModelLog → Type 0
+Answers says (resting m) (Open workers) Done next = next ≡ running m []
+Answers says (resting m) (Open workers) Refused next = (next ≡ resting m) ⊎ (next ≡ left m [])
+Answers says (left m pending) (Open workers) Done next =
+    (now : Contents) × LosesSome m pending now × (next ≡ running now [])
+Answers says (left m pending) (Open workers) Refused next =
+    (next ≡ left m pending) ⊎ ((now : Contents) × LosesSome m pending now × (next ≡ left now []))
+Answers says (running m pending) (Serve call) answer next = Serves says m pending call answer next
+Answers says (failed m pending) (Serve call) Failed next = next ≡ failed m pending
+Answers says (running m pending) Close Done next = next ≡ left (taken m pending) []
+Answers says (running m pending) Close Refused next = next ≡ left m pending
+Answers says (failed m pending) Close Failed next = next ≡ left m pending
+Answers says (resting m) (Crash what) Done next = next ≡ resting m
+Answers says (left m pending) (Crash what) Done next =
+    (now : Contents) × LosesSome m pending now × (next ≡ resting now)
+Answers says (running m pending) (Crash what) Done next =
+    (now : Contents) × LosesSome m pending now × (next ≡ resting now)
+Answers says (failed m pending) (Crash what) Done next =
+    (now : Contents) × LosesSome m pending now × (next ≡ resting now)
+Answers says log event Idle next = IsIdle (is_open log) event × (next ≡ log)
+Answers says log event answer next = ⊥

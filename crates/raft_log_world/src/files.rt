@@ -1,0 +1,67 @@
+//! The trait of a log's files, and of an engine that has the log open.
+ghost use Rattle.std.specs.Prelude.{IfErr, IfOk};
+ghost use Rattle.std.specs.Thread.{IsSync};
+ghost use Rattle.raft_log_world.specs.Logs.{Follows};
+
+use crate::event::{Answer, Call, Event};
+use crate::storage::Storage;
+use std::alloc::{AllocError, Global};
+use std::thread::Threads;
+
+/// The files of a log while no engine has it open. An open makes an engine `S` of them, which writes batches `B`. A
+/// crash leaves what `C` says. Each call ends as the model says, whichever log of the model the files or the engine
+/// are.
+pub trait LogFiles<R, S, B, C>: Sized {
+    ghost use Rattle.raft_log_world.specs.Logs.{LogOf};
+
+    /// Which log of the model the files or an engine are, what a batch says, and what is asked of chance.
+    ghost log: { LogOf S Self B C };
+
+    /// Opens the log with this many workers, at least one, which may be threads of the runtime. If it fails, returns the
+    /// files, and the log may be opened again.
+    fn open<T: Threads + Sync>(self, rt: &T, alloc: Global, workers: u64) -> Result<S, Self>
+        requires { IsSync T.row }
+        ensures ok { IfOk result (λ engine.
+            Follows log (Storage.Closed self) (Event.Open workers) Answer.Done (Storage.Open engine)) }
+        ensures err { IfErr result (λ files.
+            Follows log (Storage.Closed self) (Event.Open workers) Answer.Refused (Storage.Closed files)) };
+
+    /// Writes a batch. With `sync`, then makes all batches durable. Returns how that ended.
+    fn write(engine: &mut S, rt: &R, batch: B, sync: bool) -> Answer
+        ensures { Follows log (Storage.Open engine.old) (Event.Serve (Call.Write batch sync)) result
+            (Storage.Open engine.new) };
+
+    /// Makes all batches durable. Returns how that ended.
+    fn sync(engine: &mut S, rt: &R) -> Answer
+        ensures { Follows log (Storage.Open engine.old) (Event.Serve Call.Sync) result
+            (Storage.Open engine.new) };
+
+    /// Reads the value of a group's key. Returns it, or how the read failed.
+    fn get(engine: &mut S, group: u64, key: Vec<u8>) -> Answer
+        ensures { Follows log (Storage.Open engine.old) (Event.Serve (Call.Get group key)) result
+            (Storage.Open engine.new) };
+
+    /// Reads the entry of a group at an index. Returns its bytes, or how the read failed.
+    fn get_entry(engine: &mut S, group: u64, index: u64) -> Answer
+        ensures { Follows log (Storage.Open engine.old) (Event.Serve (Call.GetEntry group index)) result
+            (Storage.Open engine.new) };
+
+    /// Collects garbage in both queues, if they are past the thresholds of the settings. Returns how that ended.
+    fn purge(engine: &mut S, rt: &R) -> Answer
+        ensures { Follows log (Storage.Open engine.old) (Event.Serve Call.Purge) result
+            (Storage.Open engine.new) };
+
+    /// Closes the log. Returns how that ended, and the files in any case.
+    fn close(engine: S, rt: &R) -> (Answer, Self)
+        ensures { Follows log (Storage.Open engine) Event.Close result.0 (Storage.Closed result.1) };
+
+    /// Returns what a crash of the machine leaves of the files. Fails only for lack of memory.
+    fn crash(self, left: &C) -> Result<Self, AllocError>
+        ensures { IfOk result (λ files.
+            Follows log (Storage.Closed self) (Event.Crash left.now) Answer.Done (Storage.Closed files)) };
+
+    /// Returns what a crash of the machine leaves of the files below an engine. Fails only for lack of memory.
+    fn crash_under(engine: S, left: &C) -> Result<Self, AllocError>
+        ensures { IfOk result (λ files.
+            Follows log (Storage.Open engine) (Event.Crash left.now) Answer.Done (Storage.Closed files)) };
+}

@@ -1,0 +1,6 @@
+mod Calling
+mod Closing
+mod Crashing
+mod Following
+mod Homes
+mod Opening

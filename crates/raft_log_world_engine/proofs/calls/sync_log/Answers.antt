@@ -1,0 +1,17 @@
+use Rattle.std.proofs.Common.{subst, sym, ◌∙◌}
+use Rattle.raft_log_engine.specs.raft_log_engine_core.specs.Reads.{shows_of}
+use Rattle.raft_log_world.specs.declared.event.Answer.{Answer}
+use Rattle.raft_log_world.specs.declared.event.Call.TheVariants.{Sync}
+use Rattle.raft_log_world_engine.specs.Calls.{ServesAs}
+use Rattle.raft_log_world_engine.proofs.Calling.{as_asked, not_synced, synced}
+use Rattle.raft_log_world_engine.proofs.calls.sync_log.Goals.{in-Ok, in-Err}
+use Rattle.raft_log_world_engine.proofs.calls.sync_log.Goals as goal
+
+pub returns : goal.returns
+returns g c =
+    let s = shows_of g.P.PipeLog.shown c.args.engine.now in
+    let t = shows_of g.P.PipeLog.shown c.sync.new.self in
+    elim c.match-sync.branch [
+      | in-Ok w ↦ subst (λ (a : Answer). ServesAs s Sync a t) (sym w.result-is) (synced s t w.in-Ok.ensures.ok)
+      | in-Err w ↦ as_asked s t Sync c.match-sync.result w.is_failed.result (w.result-is ∙ w.failure.ensures) w.is_failed.ensures (not_synced s t w.in-Err.field-0 w.in-Err.ensures.err)
+    ]

@@ -1,0 +1,34 @@
+-- The engine as a log of the model: which log it is, and what its calls do.
+use Rattle.std.specs.Prelude.{◌≡◌, Bool, true, false, List}
+use Rattle.raft_log_engine.specs.raft_log_dual_pipes.specs.Pipes.{LogRecordValue}
+use Rattle.raft_log_engine.specs.raft_log_engine_laws.specs.EngineState.{LogDirectories, LogMap, EngineState, has_failed, said_of}
+use Rattle.raft_log_engine.specs.raft_log_engine_laws.specs.Holding.{Represents, IsRecoverableAs}
+use Rattle.raft_log_engine.specs.raft_log_record_batches.specs.Batch.{Batch}
+use Rattle.raft_log_world.specs.declared.event.Answer.{Answer}
+use Rattle.raft_log_world.specs.declared.event.Answer.TheVariants.{Refused, Failed}
+use Rattle.raft_log_world.specs.declared.event.Call.{Call}
+use Rattle.raft_log_world.specs.Model.{ModelLog, Serves}
+use Rattle.raft_log_world.specs.Model.ModelLog.{resting, left, running, failed}
+
+-- An engine with the state `e` has this log open, in the directories `home`:
+-- - a running one has the durable contents and the pending batches
+-- - the files of a failed one can be opened with these
+abbrev pub IsEngineLog : LogDirectories → EngineState → ModelLog → Type 0
+IsEngineLog home e (running m pending) = Represents home e m pending
+IsEngineLog home e (failed m pending) = (has_failed e ≡ true) × IsRecoverableAs home e.pipes.disk m pending
+IsEngineLog home e (resting m) = ⊥
+IsEngineLog home e (left m pending) = ⊥
+
+-- how a call ended that failed, if the flag says whether the engine has failed
+abbrev pub failure_of : Bool → Answer
+failure_of true = Failed
+failure_of false = Refused
+
+-- A call of the engine had this answer:
+-- - If the engine had the contents `m` and these pending batches, it gave the model's answer, and is the log that
+--   the model becomes.
+-- - If it had failed, the call failed, and changed nothing.
+pub record ServesAs (s : EngineState) (call : Call Batch) (answer : Answer) (t : EngineState) : Type 0 where
+  pub runs : (home : LogDirectories) (m : LogMap) (pending : List LogRecordValue) → Represents home s m pending
+      → (next : ModelLog) × Serves said_of m pending call answer next × IsEngineLog home t next
+  pub fails : has_failed s ≡ true → (answer ≡ Failed) × (t ≡ s)

@@ -1,0 +1,87 @@
+-- An engine over a file system, and the files of a log, as a log of the model.
+use Rattle.std.specs.Prelude.{◌≡◌}
+use Rattle.raft_log_machine_laws.specs.Fresh.{nothing_stands}
+use Rattle.raft_log_engine.specs.raft_log_fs.specs.Disk.{Disk as OnDisk}
+use Rattle.raft_log_engine.specs.raft_log_fs.specs.Image.{IsImage}
+use Rattle.raft_log_engine.specs.raft_log_file_settings.specs.declared.config.Config.{Config}
+use Rattle.raft_log_engine.specs.raft_log_dual_pipes.specs.OnDisk.{IsDurableAs}
+use Rattle.raft_log_engine.specs.raft_log_engine_laws.specs.EngineState.{LogDirectories, LogMap, EngineState, log_in, said_of}
+use Rattle.raft_log_engine.specs.raft_log_engine_laws.specs.Holding.{IsRecoverableAs}
+use Rattle.raft_log_engine.specs.raft_log_record_batches.specs.Batch.{Batch}
+use Rattle.raft_log_recovery_laws.specs.Bare.{IsBare}
+use Rattle.raft_log_recovery_laws.specs.ByCalls.{home_of}
+use Rattle.raft_log_recovery_laws.specs.InPlace.{StandsWithoutChance}
+use Rattle.raft_log_recovery_laws.specs.Left.{IsCrashOf}
+use Rattle.raft_log_recovery_laws.specs.Running.{LeavesNoChance}
+use Rattle.raft_log_world.specs.declared.storage.Storage.{Storage}
+use Rattle.raft_log_world.specs.declared.storage.Storage.TheVariants.{Closed, Open}
+use Rattle.raft_log_world.specs.Logs.{LogOf}
+use Rattle.raft_log_world.specs.Model.{ModelLog}
+use Rattle.raft_log_world.specs.Model.ModelLog.{resting, left, running, failed}
+use Rattle.raft_log_world_engine.specs.Calls.{IsEngineLog}
+
+-- The files of a log on disk `d` are at rest, with the contents `m`:
+-- - `bare`: nothing was ever written, and there is no log yet.
+-- - `rests`: a crash left them.
+pub data Rests (config : Config) (d : OnDisk) (m : LogMap) : Type 0 where
+  bare : IsBare config d → m ≡ nothing_stands → Rests config d m
+  rests : (before : OnDisk) → IsImage before d → IsDurableAs (log_in (home_of config)) d m → Rests config d m
+
+-- the files on disk `d` are this log, in the directories that the settings name
+abbrev pub IsFilesLog : Config → OnDisk → ModelLog → Type 0
+IsFilesLog config d (resting m) = Rests config d m
+IsFilesLog config d (left m pending) = IsRecoverableAs (home_of config) d m pending
+IsFilesLog config d (running m pending) = ⊥
+IsFilesLog config d (failed m pending) = ⊥
+
+-- an open reads the files as they are; it asks that these have no CRC collision, if no crash left them
+abbrev pub ReadSparesFiles : (config : Config) (d : OnDisk) (log : ModelLog) → IsFilesLog config d log → Type 0
+ReadSparesFiles config d (left m pending) is = StandsWithoutChance (home_of config) is.1.lies.state d
+ReadSparesFiles config d log is = Unit {0}
+
+-- a crash of the files left `image` without a CRC collision
+abbrev pub CrashSparesFiles :
+    (config : Config) (d : OnDisk) (log : ModelLog) → IsFilesLog config d log → OnDisk → Type 0
+CrashSparesFiles config d (left m pending) is image = IsCrashOf (home_of config) is.1.lies.state d image
+CrashSparesFiles config d log is image = Unit {0}
+
+-- A crash under the engine left `image` without a CRC collision. If the engine ran, this depends only on what its pipes
+-- wrote.
+abbrev pub CrashSparesEngine :
+    (home : LogDirectories) (e : EngineState) (log : ModelLog) → IsEngineLog home e log → OnDisk → Type 0
+CrashSparesEngine home e (running m pending) is image = LeavesNoChance home e.pipes image
+CrashSparesEngine home e (failed m pending) is image = IsCrashOf home is.1.1.lies.state e.pipes.disk image
+CrashSparesEngine home e log is image = Unit {0}
+
+-- `S` are engines that have a log open, and `G` are closed logs: the settings and the state of each
+pub record Parts (S G : Type 0) : Type 0 where
+  pub config : S → Config
+  pub shows : S → EngineState
+  pub settings : G → Config
+  pub disk : G → OnDisk
+
+-- an engine, or a closed log, is this log
+abbrev pub IsLog : {S G : Type 0} → Parts S G → Storage S G → ModelLog → Type 0
+IsLog p (Closed closed) log = IsFilesLog (p.settings closed) (p.disk closed) log
+IsLog p (Open engine) log = IsEngineLog (home_of (p.config engine)) (p.shows engine) log
+
+-- what an open asks of chance
+abbrev pub ReadSpares : {S G : Type 0} (p : Parts S G) (at : Storage S G) (log : ModelLog) → IsLog p at log → Type 0
+ReadSpares p (Closed closed) log is = ReadSparesFiles (p.settings closed) (p.disk closed) log is
+ReadSpares p (Open engine) log is = Unit {0}
+
+-- what a crash asks of chance, which leaves the closed log `left`
+abbrev pub CrashSpares :
+    {S G : Type 0} (p : Parts S G) (at : Storage S G) (log : ModelLog) → IsLog p at log → G → Type 0
+CrashSpares p (Closed closed) log is image = CrashSparesFiles (p.settings closed) (p.disk closed) log is (p.disk image)
+CrashSpares p (Open engine) log is image =
+    CrashSparesEngine (home_of (p.config engine)) (p.shows engine) log is (p.disk image)
+
+-- the engine as a log of the model
+abbrev pub engine_log : {S G C : Type 0} → Parts S G → LogOf S G Batch C
+engine_log p = record {
+  is = IsLog p;
+  says = said_of;
+  read_spared = ReadSpares p;
+  crash_spared = λ at log is what files. CrashSpares p at log is files;
+}

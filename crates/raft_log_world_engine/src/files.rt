@@ -1,0 +1,131 @@
+//! A log in a file system in memory: its files while no engine has it open, and an engine that has.
+
+ghost use Rattle.std.specs.Prelude.{◌≡◌, IfOk};
+ghost use Rattle.raft_log_engine.specs.raft_log_engine_core.specs.Reads.{shows_of};
+ghost use Rattle.raft_log_engine.specs.raft_log_fs_memory.specs.Memory.{disk_of};
+ghost use Rattle.raft_log_recovery_laws.specs.ByCalls.{home_of};
+ghost use Rattle.raft_log_machine_laws.specs.Fresh.{nothing_stands};
+ghost use Rattle.raft_log_world.specs.Model.ModelLog.{resting};
+ghost use Rattle.raft_log_world_engine.specs.Instance.{engine_log, IsFilesLog};
+
+use crate::calls::{self, failure};
+use log::sink::Discard;
+use log::{LevelFilter, Log, Logged};
+use raft_log_engine::{
+    Closed, Config, Engine, EnginePipes, LogBatch, MemoryFileSystem, PipeLog, Remainder,
+};
+use raft_log_world::{Answer, LogFiles};
+use std::alloc::{AllocError, Global};
+use std::thread::Threads;
+
+/// A file system, and the settings that name a log in it.
+#[derive(Drop)]
+pub struct ClosedLog {
+    /// The settings.
+    pub config: Config,
+    /// The file system.
+    pub files: MemoryFileSystem,
+}
+
+/// An engine that has the log open, and the settings that name the log.
+#[derive(Drop)]
+pub struct OpenLog {
+    /// The settings.
+    pub config: Config,
+    /// The engine.
+    pub engine: Engine<MemoryFileSystem>,
+}
+
+impl ClosedLog {
+    /// Returns an empty file system with these settings. It is an empty log at rest.
+    pub fn new(alloc: Global, config: Config) -> ClosedLog
+        ensures config { result.config ≡ config }
+        ensures empty { IsFilesLog config (disk_of result.files) (resting nothing_stands) }
+    {
+        ClosedLog {
+            config,
+            files: MemoryFileSystem::new(alloc),
+        }
+    }
+}
+
+/// Returns a copy of the settings, with so many workers.
+fn with_workers(config: &Config, workers: u64) -> Result<Config, AllocError>
+    ensures { IfOk result (λ settings. home_of settings ≡ home_of config.now) }
+{
+    let mut settings = config.clone()?;
+    settings.recovery_threads = workers as usize;
+    Ok(settings)
+}
+
+impl<R: Log> LogFiles<R, OpenLog, LogBatch, Remainder> for ClosedLog {
+    ghost log = { engine_log (record {
+      config = λ engine. engine.config;
+      shows = λ engine. shows_of ⟦<EnginePipes<MemoryFileSystem> as PipeLog>⟧.shown engine.engine;
+      settings = λ closed. closed.config;
+      disk = λ closed. disk_of closed.files;
+    }) };
+
+    fn open<T: Threads + Sync>(
+        self,
+        rt: &T,
+        alloc: Global,
+        workers: u64,
+    ) -> Result<OpenLog, ClosedLog> {
+        let Ok(settings) = with_workers(&self.config, workers) else {
+            return Err(self);
+        };
+        let ClosedLog { config, files } = self;
+        let quiet = Logged::new(rt, LevelFilter::Off, Discard);
+        match Engine::open_with_file_system(&quiet, alloc, settings, files) {
+            Ok(engine) => Ok(OpenLog { config, engine }),
+            Err(refused) => Err(ClosedLog {
+                config,
+                files: refused.file_system,
+            }),
+        }
+    }
+
+    fn write(engine: &mut OpenLog, rt: &R, batch: LogBatch, sync: bool) -> Answer {
+        calls::write(rt, &mut engine.engine, batch, sync)
+    }
+
+    fn sync(engine: &mut OpenLog, rt: &R) -> Answer {
+        calls::sync_log(rt, &mut engine.engine)
+    }
+
+    fn get(engine: &mut OpenLog, group: u64, key: Vec<u8>) -> Answer {
+        calls::get(&mut engine.engine, group, key)
+    }
+
+    fn get_entry(engine: &mut OpenLog, group: u64, index: u64) -> Answer {
+        calls::get_entry(&mut engine.engine, group, index)
+    }
+
+    fn purge(engine: &mut OpenLog, rt: &R) -> Answer {
+        calls::purge(rt, &mut engine.engine)
+    }
+
+    fn close(engine: OpenLog, rt: &R) -> (Answer, ClosedLog) {
+        let OpenLog { config, engine } = engine;
+        let failed = engine.is_failed();
+        let Closed { files, result } = engine.close(rt);
+        let answer = match result {
+            Ok(()) => Answer::Done,
+            Err(_) => failure(failed),
+        };
+        (answer, ClosedLog { config, files })
+    }
+
+    fn crash(self, left: &Remainder) -> Result<ClosedLog, AllocError> {
+        let ClosedLog { config, files } = self;
+        let files = files.remainder(left)?;
+        Ok(ClosedLog { config, files })
+    }
+
+    fn crash_under(engine: OpenLog, left: &Remainder) -> Result<ClosedLog, AllocError> {
+        let OpenLog { config, engine } = engine;
+        let files = engine.file_system().remainder(left)?;
+        Ok(ClosedLog { config, files })
+    }
+}

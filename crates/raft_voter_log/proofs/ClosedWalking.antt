@@ -94,7 +94,7 @@ module _ {S : Type 0} (tells : MemoryFileSystem → List ℕ → ℕ → Type 0)
       let is = image_under gone (shows store).pipes.disk (disk_of left.files) h.0.0.0 in
       let then = at_rest_plainly left.config (disk_of left.files) cut (loses_rests (config store) left.config (shows store) cut left.files h.0.0.1 is c.0 known) in
       let asks = asks_of left cut then in
-      let on = goes.1 (loses_spared (config store) (shows store) cut (disk_of left.files) c.0 goes.0) in
+      let on = goes.1 goes.0 (loses_spared (config store) (shows store) cut (disk_of left.files) c.0 goes.0) in
       walk (Closed left) cut asks.0 (then, asks.1) ms (on.1 asks.0) h.1 c.1
   walk (Closed f) cut known rest (crashed gone left ∷ ms) goes h c =
       let is : IsImage (disk_of f.files) (disk_of left.files) = left_is_one (remainder_of gone) f.files left.files h.0.0.0 in

@@ -5,15 +5,18 @@ ghost use Rattle.std.specs.String.{string_bytes};
 ghost use Rattle.raft_log_recovery_scan.specs.Scanned.{FailsToScan};
 ghost use Rattle.raft_examples.specs.Recovery.{FindsFiles};
 
+use log::Log;
 use raft_log_file_settings::RecoveryMode;
 use raft_log_fs::FileSystem;
 use raft_log_record_base::Result;
 use raft_log_recovery_scan::scanning::scan;
 use std::alloc::Global;
 
-/// How many files of Append and of Rewrite an open would read in these directories. Changes no file.
-pub fn count_files<F: FileSystem>(
+/// How many files of Append and of Rewrite an open would read in these directories. Logs the files
+/// that lie below a gap. Changes no file.
+pub fn count_files<F: FileSystem, L: Log>(
     alloc: Global,
+    rt: &L,
     file_system: &mut F,
     paths: &[String],
     mode: RecoveryMode,
@@ -23,6 +26,6 @@ pub fn count_files<F: FileSystem>(
     ensures err { IfErr result (λ error. FailsToScan (map string_bytes paths.now) error
         (F.disk file_system.old) (F.disk file_system.new)) }
 {
-    let scanned = scan(alloc, file_system, paths, mode)?;
+    let scanned = scan(alloc, rt, file_system, paths, mode)?;
     Ok((scanned.append.len(), scanned.rewrite.len()))
 }

@@ -14,3 +14,4 @@ pub mod Opened
 pub mod Readings
 pub mod FrameReadings
 pub mod Weights
+pub mod ForeignLemmas

@@ -1,5 +1,5 @@
 -- A batch has more bytes than items.
-use Rattle.std.proofs.Common.{◌≡◌, ℕ, zero, suc, ◌+◌, ◌<◌, ◌≤◌, List, [], ◌∷◌, ◌++◌, length, take, drop, map, refl, sym, ap, ◌∙◌, arith}
+use Rattle.std.proofs.Common.{◌≡◌, ℕ, zero, suc, ◌+◌, ◌<◌, ◌≤◌, List, [], ◌∷◌, ◌++◌, length, take, drop, refl, ap, ◌∙◌, arith}
 use Rattle.std.proofs.lemmas.List.{length-append, length-map, length-take-le}
 use Rattle.raft_log_record_base.specs.Grammar.{Times}
 use Rattle.raft_log_record_base.specs.Number.{IsVarU64}
@@ -8,9 +8,9 @@ use Rattle.raft_log_record_base.specs.declared.pipe_log.FileBlockHandle.{FileBlo
 use Rattle.raft_log_record_items.specs.declared.item.LogItem.{LogItem}
 use Rattle.raft_log_record_items.specs.Items.{IsItem, AreItems}
 use Rattle.raft_log_record_items.specs.Placed.{laid_out, placed, written_item, content_len}
-use Rattle.raft_log_record_frames.specs.Record.{IsFrame, Front}
+use Rattle.raft_log_record_frames.specs.Record.{Front}
 use Rattle.raft_log_record_frames.proofs.Fronts.{frame_is_read}
-use Rattle.raft_log_file_reader.specs.Batches.{GoesOnAt, HasBatch, block_at, context_of, padding_len}
+use Rattle.raft_log_file_reader.specs.Batches.{GoesOnAt, block_at, context_of}
 use Rattle.raft_log_file_reader.specs.Batches.GoesOnAt.{behind_padding, at_once}
 use Rattle.raft_log_file_reader.specs.Laws.{BatchesOutweighItems}
 use Rattle.raft_log_file_reader.proofs.FrameReadings.{frame_of_batch}

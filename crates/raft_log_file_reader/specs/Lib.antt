@@ -12,4 +12,6 @@ pub mod Batches
 pub mod Refused
 pub mod Opening
 pub mod Reader
+pub mod Foreign
+pub mod ForeignHeader
 pub mod Laws

@@ -3,7 +3,6 @@ use Rattle.std.specs.Prelude.{◌≡◌, ℕ, ◌+◌, ◌-◌, ◌≤◌, lengt
 use Rattle.std.specs.Option.{ForSome}
 use Rattle.raft_log_record_base.specs.declared.pipe_log.FileId.{FileId}
 use Rattle.raft_log_record_base.specs.declared.pipe_log.FileBlockHandle.{FileBlockHandle}
-use Rattle.raft_log_record_base.specs.declared.pipe_log.LogQueue.TheVariants.{Append}
 use Rattle.raft_log_fs.specs.Disk.{Disk}
 use Rattle.raft_log_fs.specs.declared.handle.Handle.{Handle}
 use Rattle.raft_log_file_format.specs.declared.header.LogFileFormat.{LogFileFormat}

@@ -5,6 +5,7 @@
 mod batch;
 mod batches;
 mod files;
+pub mod foreign;
 mod header;
 pub mod item_laws;
 pub mod item_reader;
@@ -15,6 +16,7 @@ pub mod reader;
 pub mod source;
 mod window;
 
+pub use foreign::ForeignRecord;
 pub use item_reader::LogItemReader;
 pub use log_file::LogFile;
 pub use open_file::OpenFile;

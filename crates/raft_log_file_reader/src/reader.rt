@@ -4,6 +4,7 @@ ghost use Rattle.raft_log_record_frames.specs.Record.{block_of};
 ghost use Rattle.raft_log_record_base.specs.Files.{no_block};
 
 use crate::batch::{find_record, read_batch};
+use crate::foreign::{ForeignRecord, find_foreign};
 use crate::header::read_format;
 use crate::open_file::OpenFile;
 use crate::source::Source;
@@ -42,8 +43,9 @@ fn no_block() -> FileBlockHandle
 impl LogItemBatchFileReader {
     ghost use Rattle.raft_log_fs.specs.Disk.{Disk};
     ghost use Rattle.raft_log_file_reader.specs.Reader.{IsReading, HasNoneOpen, IsUnmoved, Opens, AnswersBatch, IsInsideFile, file_of, end_of, last_block};
-    ghost use Rattle.raft_log_file_reader.specs.Source.{bytes_of};
+    ghost use Rattle.raft_log_file_reader.specs.Source.{bytes_of, CannotRead};
     ghost use Rattle.raft_log_file_reader.specs.Batches.{HasBlock};
+    ghost use Rattle.raft_log_file_reader.specs.Foreign.{FindsForeign, IsOffsetInside};
     ghost use Rattle.raft_log_file_reader.specs.Opening.{FailsToOpen};
     ghost use Rattle.raft_log_file_reader.specs.Refused.{FailsBehind, FailsToCheckBlock, bytes_at};
 
@@ -173,6 +175,30 @@ impl LogItemBatchFileReader {
         let bytes = self.window.held(offset, block.len);
         let _entries = decode_entries_block(alloc, bytes, CompressionType::None)?;
         Ok(())
+    }
+
+    /// The record of the open file after an offset, if it is foreign: whole by its length and its checksum, but with a
+    /// compression that isn't read. `None` if it isn't foreign, or if no file is open.
+    pub fn foreign_record<F: FileSystem>(
+        &mut self,
+        alloc: Global,
+        file_system: &F,
+        offset: usize,
+    ) -> Result<Option<ForeignRecord>>
+        requires reading { IsReading (F.disk file_system.now) self.old }
+        requires inside { IsOffsetInside offset self.old }
+        ensures reading { IsReading (F.disk file_system.now) self.new }
+        ensures same { IsUnmoved self.old self.new }
+        ensures closed { file_of self.old ≡ None → (result ≡ Ok None) × (self.new ≡ self.old) }
+        ensures ok { (file : OpenFile) → file_of self.old ≡ Some file
+            → IfOk result (FindsForeign file (bytes_of file.source (F.disk file_system.now)) offset) }
+        ensures err { (file : OpenFile) → file_of self.old ≡ Some file
+            → IfErr result (CannotRead file.source offset (F.disk file_system.now)) }
+    {
+        let Some(file) = self.file else {
+            return Ok(None);
+        };
+        find_foreign(alloc, file_system, &file, &mut self.window, offset)
     }
 
     /// The location of the entry block of the last batch, of any file; a block without bytes if there was no batch.

@@ -43,7 +43,8 @@ pub struct QueueInspection {
 ///
 /// The machine is handed the records before the damage.
 ///
-/// Fails with `Path` if a directory isn't listed, or a file isn't opened or read. Fails with `Log`:
+/// Fails with `Path` if a directory isn't listed, if a file isn't opened or read, or if a foreign record follows a
+/// file's last good one: an open fails on it too. Fails with `Log`:
 /// - if a file's name begins with a number and isn't that number's
 /// - if the machine declines a record
 /// - if memory runs out

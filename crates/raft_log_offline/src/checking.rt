@@ -39,6 +39,7 @@ struct CheckedQueues {
 /// - with `Other` if the settings have a fault
 /// - as a scan does: with `Other`, `Corruption`, or `Io` of the directories
 /// - with `Io` if a file can't be read, or with `Corruption` or `Codec` for damage that isn't tolerated
+/// - with `Corruption` for a foreign record: it is whole, but has a compression that isn't read
 /// - with `Io` if a file isn't truncated or synced, or with `Memory`
 pub fn check_log<R: Threads + Log + Sync, F: FileSystem + Sync>(
     rt: &R,

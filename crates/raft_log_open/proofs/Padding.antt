@@ -47,7 +47,8 @@ no_damage text last id content read is (torn file start end fault same says behi
 no_damage text last id content read is (headed file start end fault same says behind header tells at format) = untold text read.fault _ is tells
 
 not_refused : (text : String Global) (mode : RecoveryMode) (last : Bool) (id : FileId) (handle : Handle) (d : Disk) → FailsToReadFound mode last id handle d (errors.InvalidArgument text) → ⊥
-not_refused text mode last id handle d (inl never) = never
+not_refused text mode last id handle d (inl (inl never)) = never
+not_refused text mode last id handle d (inl (inr foreign)) = foreign.told
 not_refused text mode last id handle d (inr damaged) = no_damage text last id _ damaged.read damaged.told damaged.reads
 
 not_unread : (text : String Global) (config : RecoveryConfig) (files : List File) (d : Disk) → FilesAreUnread Declines config files d (errors.InvalidArgument text) → ⊥

@@ -12,7 +12,7 @@ use Rattle.raft_log_fs.specs.Exits.{FailsToDelete}
 use Rattle.raft_log_fs.specs.Reading.{IsNotOpened, IsOpened}
 use Rattle.raft_log_fs.specs.declared.handle.Handle.{Handle}
 use Rattle.raft_log_fs.specs.declared.handle.Permission.TheVariants.{ReadOnly}
-use Rattle.raft_log_recovery_read.specs.Reading.{FailsToRead}
+use Rattle.raft_log_recovery_read.specs.Foreign.{FailsToReadRecords}
 use Rattle.raft_log_recovery_read.specs.declared.found_file.ListedFile.{ListedFile}
 use Rattle.raft_log_offline.specs.Sources.{IsSourceRefusal}
 use Rattle.raft_log_open.specs.Placing.{AreLogFiles, temporary_in}
@@ -93,7 +93,7 @@ pub record WritesAnew (file : PlacedFile) (old new : Disk) : Type 0 where
 pub data FailsToUnpadOne (file : PlacedFile) (error : Error) (old new : Disk) : Type 0 where
   unopened : FailsToLookAt (string_bytes file.path) old error → new ≡ old → FailsToUnpadOne file error old new
   unread : (handle : Handle) → IsOpened (string_bytes file.path) ReadOnly handle old
-      → FailsToRead handle old error → new ≡ old → FailsToUnpadOne file error old new
+      → FailsToReadRecords file.is_last file.id handle old error → new ≡ old → FailsToUnpadOne file error old new
   unreplaced : (handle : Handle) (bytes : List ℕ) (kind : ErrorKind)
       → IsOpened (string_bytes file.path) ReadOnly handle old → NeedsBytes old (listed_as file handle) bytes
       → error ≡ errors.Io kind

@@ -6,6 +6,7 @@ ghost use Rattle.raft_log_file_reader.specs.Source.{bytes_in, bytes_of, CannotRe
 ghost use Rattle.raft_log_file_reader.specs.declared.open_file.OpenFile.{OpenFile};
 ghost use Rattle.raft_log_recovery_read.specs.Behind.{HasFileOpen};
 ghost use Rattle.raft_log_recovery_read.specs.Faults.{IsDamage};
+ghost use Rattle.raft_log_recovery_read.specs.Foreign.{FailsToReadRecords};
 ghost use Rattle.raft_log_recovery_read.specs.Reading.{FailsToRead};
 ghost use Rattle.raft_log_open.specs.Content.{IsPadded};
 ghost use Rattle.raft_log_open.specs.PaddingReading.{FindsNext, HasOpen, Joins, NeedsBytes, NeedsNothing, content_of};
@@ -41,8 +42,8 @@ pub enum Next {
 /// - it is the last file of its queue and has no whole record after its header: an open takes such a header for a torn
 ///   one.
 ///
-/// Holds the file's bytes in memory twice. Changes nothing on disk. Fails with `Io` if they can't be read, or with
-/// `Memory`.
+/// Holds the file's bytes in memory twice. Changes nothing on disk. Fails with `Io` if they can't be read, with
+/// `Corruption` if a foreign record follows the last good one, or with `Memory`.
 pub fn unpadded<F: FileSystem>(
     alloc: Global,
     file_system: &F,
@@ -50,7 +51,8 @@ pub fn unpadded<F: FileSystem>(
 ) -> Result<Option<Vec<u8>>>
     ensures ok { IfOk result (λ found. MatchOption found (NeedsNothing (F.disk file_system.now) file)
         (λ bytes. NeedsBytes (F.disk file_system.now) file bytes.items)) }
-    ensures err { IfErr result (FailsToRead file.handle (F.disk file_system.now)) }
+    ensures err { IfErr result
+        (FailsToReadRecords file.is_last file.id file.handle (F.disk file_system.now)) }
 {
     let mut reader = LogItemBatchFileReader::new(alloc, READ_BLOCK_SIZE);
     if !is_padded(alloc, file_system, &mut reader, file)? {
@@ -74,7 +76,8 @@ fn is_padded<F: FileSystem>(
     ensures ok { IfOk result (λ padded. MatchBool padded
         (IsPadded file.is_last file.id (content_of file (F.disk file_system.now)))
         (NeedsNothing (F.disk file_system.now) file)) }
-    ensures err { IfErr result (FailsToRead file.handle (F.disk file_system.now)) }
+    ensures err { IfErr result
+        (FailsToReadRecords file.is_last file.id file.handle (F.disk file_system.now)) }
 {
     let mut passing = Passing;
     let found = read_file(alloc, file_system, reader, file, &mut passing)?;

@@ -49,6 +49,7 @@ pub struct OpenedLog<F> {
 /// - `Other` if the settings have a fault.
 /// - The errors of scanning with `DualPipesBuilder`: `Other`, `Corruption`, `Io` for a directory.
 /// - `Io` if a file can't be read; `Corruption` or `Codec` for damage that isn't tolerated.
+/// - `Corruption` for a foreign record, in every mode: it is whole, but has a compression that isn't read.
 /// - `Hole` or `Corruption` for records that can't be.
 /// - `Io` if a file isn't truncated, written anew, created or synced.
 /// - `NumberRange` if there is no name for a file.

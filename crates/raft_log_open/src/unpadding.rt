@@ -37,7 +37,8 @@ use std::io::ErrorKind;
 /// - `Io(Other)` if the file system has stopped. This is checked first, so that a stop never shows as `Memory`.
 /// - `Io` if a directory of the log doesn't exist. Nothing changed.
 /// - `Corruption` if a name in a directory begins with a number and has more before its end. Nothing changed.
-/// - `Io` if a file system call fails later, or `Memory`. Earlier files may have been written anew.
+/// - `Corruption` if a foreign record follows a file's last good one: whole, but with a compression that isn't read.
+/// - `Io` if a file system call fails later, or `Memory`. Before either, earlier files may have been written anew.
 pub fn unpad<F: FileSystem>(
     alloc: Global,
     source: &Config,

@@ -89,7 +89,7 @@ impl DualPipesBuilder {
     {
         let paths = paths(alloc, &self.config)?;
         let mode = self.config.recovery_mode;
-        let found = scan(alloc, file_system, paths.as_slice(), mode)?;
+        let found = scan(alloc, rt, file_system, paths.as_slice(), mode)?;
         clear_old(alloc, rt, file_system, paths.as_slice(), &found)?;
         let ScannedFiles {
             append,
@@ -108,6 +108,7 @@ impl DualPipesBuilder {
     /// Truncates nothing unless all files of both queues could be read and none has an alignment. Fails:
     /// - with `Io` if a read fails, which is never taken for damage
     /// - with `Corruption` or `Codec` for damage that isn't tolerated
+    /// - with `Corruption` for a foreign record, in every mode: it is whole, but has a compression that isn't read
     /// - with a machine's error if it declines a record
     /// - with `InvalidArgument` for an alignment, or with `Memory`
     /// - with `Io` if a file isn't truncated or synced; those before it are
@@ -171,7 +172,7 @@ impl DualPipesBuilder {
         if !have_no_padding(&append.endings) || !have_no_padding(&rewrite.endings) {
             return Err(aligned(alloc));
         }
-        self.cut_both(rt, file_system, &append.endings, &rewrite.endings)?;
+        self.cut_both(rt, alloc, file_system, &append.endings, &rewrite.endings)?;
         self.append.endings = append.endings;
         self.rewrite.endings = rewrite.endings;
         Ok((append.machine, rewrite.machine))
@@ -194,7 +195,7 @@ impl DualPipesBuilder {
     {
         let threads = ReplayThreads::Rayon;
         let (append, rewrite) = self.read_both(rt, alloc, threads, file_system, factory)?;
-        self.cut_both(rt, file_system, &append.endings, &rewrite.endings)?;
+        self.cut_both(rt, alloc, file_system, &append.endings, &rewrite.endings)?;
         Ok((append.machine, rewrite.machine))
     }
 
@@ -239,6 +240,7 @@ impl DualPipesBuilder {
     fn cut_both<F: FileSystem, L: Log>(
         &self,
         rt: &L,
+        alloc: Global,
         file_system: &mut F,
         append: &[FileEnding],
         rewrite: &[FileEnding],
@@ -252,6 +254,7 @@ impl DualPipesBuilder {
     {
         cut_files(
             rt,
+            alloc,
             file_system,
             LogQueue::Append,
             &self.append.files,
@@ -259,6 +262,7 @@ impl DualPipesBuilder {
         )?;
         cut_files(
             rt,
+            alloc,
             file_system,
             LogQueue::Rewrite,
             &self.rewrite.files,

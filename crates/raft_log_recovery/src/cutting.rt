@@ -3,20 +3,20 @@
 ghost use Rattle.std.specs.Prelude.{◌≡◌, ◌≤◌, length, IfErr, OnOk};
 ghost use Rattle.raft_log_recovery.specs.Cutting.{CutsEach, CutsOne, FailsToCutEach, FailsToCutOne};
 
-use log::{Log, info, warn};
+use crate::cut_log::log_cut;
+use log::Log;
 use raft_log_active_file::File;
 use raft_log_fs::FileSystem;
 use raft_log_record_base::LogQueue;
 use raft_log_recovery_read::FileEnding;
+use std::alloc::Global;
 use std::io::ErrorKind;
 
-/// How many bytes are read at a time to see whether they are zeros.
-const ROOM: usize = 4096;
-
-/// Truncates and syncs the damaged ones of these files of a queue, in order. Each then ends after its last good record,
-/// or is empty if it has no header. If that fails for a file, the damaged ones before it are truncated and synced.
+/// Truncates each damaged one of these files of a queue after its last good record, or to nothing if it has no header,
+/// and syncs it, in order. Logs what is truncated. If it fails, those before the failed one are truncated.
 pub fn cut_files<F: FileSystem, L: Log>(
     rt: &L,
+    alloc: Global,
     file_system: &mut F,
     queue: LogQueue,
     files: &[File],
@@ -29,7 +29,7 @@ pub fn cut_files<F: FileSystem, L: Log>(
         (F.disk file_system.old) (F.disk file_system.new)) }
 {
     for index in 0..endings.len() {
-        cut_file(rt, file_system, queue, files[index], endings[index])?;
+        cut_file(rt, alloc, file_system, queue, files[index], endings[index])?;
     }
     Ok(())
 }
@@ -37,6 +37,7 @@ pub fn cut_files<F: FileSystem, L: Log>(
 /// Truncates a damaged file, and syncs it.
 fn cut_file<F: FileSystem, L: Log>(
     rt: &L,
+    alloc: Global,
     file_system: &mut F,
     queue: LogQueue,
     file: File,
@@ -51,46 +52,7 @@ fn cut_file<F: FileSystem, L: Log>(
         return Ok(());
     }
     let end = ending.end.unwrap_or(0);
-    log_cut(rt, file_system, queue, file, end);
+    log_cut(rt, alloc, file_system, queue, file, ending);
     file_system.truncate(file.handle, end)?;
     file_system.sync(file.handle)
-}
-
-/// Logs which bytes of a file are truncated. Zeros are no damage: a file that was grown ahead of its records ends in
-/// them after a crash.
-fn log_cut<F: FileSystem, L: Log>(
-    rt: &L,
-    file_system: &F,
-    queue: LogQueue,
-    file: File,
-    end: usize,
-) {
-    let seq = file.seq;
-    let size = file_system.file_size(file.handle).unwrap_or(end);
-    let lost = size.saturating_sub(end);
-    let name = match queue {
-        LogQueue::Append => "append",
-        LogQueue::Rewrite => "rewrite",
-    };
-    if has_only_zeros(file_system, file, end, size) {
-        info!(rt; "{name} file {seq}: {lost} zeros after {end} bytes are truncated");
-    } else {
-        warn!(rt; "{name} file {seq} is damaged: {lost} bytes after {end} are truncated");
-    }
-}
-
-/// Whether a file of this size has only zeros from an offset on. If they can't be read, the answer is no.
-fn has_only_zeros<F: FileSystem>(file_system: &F, file: File, offset: usize, size: usize) -> bool {
-    let mut room = [0; ROOM];
-    for start in (offset..size).step_by(ROOM) {
-        match file_system.read_at(file.handle, start, &mut room) {
-            Ok(count) => {
-                if !room.iter().take(count).all(|byte| *byte == 0) {
-                    return false;
-                }
-            }
-            Err(_) => return false,
-        }
-    }
-    true
 }

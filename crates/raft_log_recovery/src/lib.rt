@@ -4,6 +4,7 @@
 
 pub mod builder;
 mod clearing;
+mod cut_log;
 pub mod cutting;
 mod dropping;
 mod filling;

@@ -52,6 +52,7 @@ impl RecoveredQueue {
     /// Truncates nothing unless all could be read and none has an alignment. Fails:
     /// - with `Io` if a read fails, which is never taken for damage
     /// - with `Corruption` or `Codec` for damage that isn't tolerated
+    /// - with `Corruption` for a foreign record, in every mode: it is whole, but has a compression that isn't read
     /// - with the machine's error if it declines a record
     /// - with `InvalidArgument` for an alignment, or with `Memory`
     /// - with `Io` if a file isn't truncated or synced; those before it are
@@ -86,7 +87,14 @@ impl RecoveredQueue {
         if !have_no_padding(&read.endings) {
             return Err(aligned(alloc));
         }
-        cut_files(rt, file_system, config.queue, &self.files, &read.endings)?;
+        cut_files(
+            rt,
+            alloc,
+            file_system,
+            config.queue,
+            &self.files,
+            &read.endings,
+        )?;
         self.endings = read.endings;
         Ok(read.machine)
     }

@@ -9,6 +9,7 @@ use Rattle.raft_log_active_file.specs.declared.format.File as listed
 use Rattle.raft_log_file_settings.specs.declared.config.Config.{Config}
 use Rattle.raft_log_file_settings.specs.declared.recovery_mode.RecoveryMode.{RecoveryMode}
 use Rattle.raft_log_file_reader.specs.Source.{bytes_in}
+use Rattle.raft_log_recovery_read.specs.Foreign.{StopsAtNoForeign}
 use Rattle.raft_log_recovery_read.specs.Reading.{ReadsBytes}
 use Rattle.raft_log_recovery_read.specs.Segments.{id_of, is_at_end, HoldsFile}
 use Rattle.raft_log_recovery_read.specs.declared.file_ending.FileEnding.{FileEnding}
@@ -144,6 +145,7 @@ module _ (E : ℕ → Bool) where
           is = h.reads.is;
           reads = record {
             reads = subst (λ (l : List ℕ). ReadsBytes (is_at_end files index) (id_of queue h.file) l h.read) (same_bytes (E id) (d.files id)) h.reads.reads.reads;
+            native = subst (λ (l : List ℕ). StopsAtNoForeign (is_at_end files index) (id_of queue h.file) l) (same_bytes (E id) (d.files id)) h.reads.reads.native;
             tolerated = h.reads.reads.tolerated;
           };
         };

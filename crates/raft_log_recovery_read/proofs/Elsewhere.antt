@@ -8,7 +8,7 @@ use Rattle.raft_log_file_reader.specs.Batches.{HasBatch, HasBatches, HasNoMore, 
 use Rattle.raft_log_file_reader.specs.Laws.{EndsBehind}
 use Rattle.raft_log_file_reader.specs.declared.open_file.OpenFile.{OpenFile}
 use Rattle.raft_log_file_reader.specs.declared.source.Source.{Source}
-use Rattle.raft_log_recovery_read.specs.Records.{EndsWhole, HasRecord, HasRecords, IsRecordTorn, IsWhole, ReadsBehind, ReadsEarlier, StopsGood, StopsWhole}
+use Rattle.raft_log_recovery_read.specs.Records.{EndsWhole, HasRecord, HasRecords, IsRecordTorn, ReadsBehind, ReadsEarlier, StopsGood, StopsWhole}
 use Rattle.raft_log_recovery_read.specs.Records.ReadsEarlier.{none, good, torn}
 
 -- the file, read from elsewhere

@@ -1,5 +1,5 @@
 -- Refusals that are of the bytes that were read, and the others.
-use Rattle.std.proofs.Common.{◌≡◌, ℕ, ◌≤◌, length, inl, inr, Option, Some, None, Result, Err, refl, ap, subst, arith, take}
+use Rattle.std.proofs.Common.{◌≡◌, ℕ, length, inl, inr, Option, Result, Err, refl, ap, subst, arith, take}
 use Rattle.std.specs.String.{string_bytes}
 use Rattle.std.specs.declared.io.ErrorKind.{ErrorKind}
 use Rattle.raft_log_record_base.specs.Fault.{Fault}
@@ -11,13 +11,13 @@ use Rattle.raft_log_fs.specs.Reading.{IsUnread}
 use Rattle.raft_log_fs.specs.Reading.IsUnread.{stopped, gone, unreadable}
 use Rattle.raft_log_fs.specs.declared.handle.Handle.{Handle}
 use Rattle.raft_log_file_format.specs.Header.{header_at}
-use Rattle.raft_log_file_reader.specs.Source.{bytes_in, bytes_of, CannotRead, IsUnreadFrom}
+use Rattle.raft_log_file_reader.specs.Source.{bytes_in, bytes_of, CannotRead}
 use Rattle.raft_log_file_reader.specs.Opening.{FailsToOpen}
 use Rattle.raft_log_file_reader.specs.Refused.{FailsAt, FailsBehind}
 use Rattle.raft_log_file_reader.specs.Batches.{IsBroken}
 use Rattle.raft_log_file_reader.specs.declared.source.Source.{Source}
 use Rattle.raft_log_file_reader.specs.declared.open_file.OpenFile.{OpenFile}
-use Rattle.raft_log_recovery_read.specs.Faults.{IsDamage, TellsFault, TellsIfAny}
+use Rattle.raft_log_recovery_read.specs.Faults.{IsDamage, TellsFault}
 use Rattle.raft_log_recovery_read.specs.Reading.{FailsToRead}
 
 -- bytes behind an offset are bytes of the file

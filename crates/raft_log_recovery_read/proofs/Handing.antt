@@ -1,11 +1,11 @@
 -- A machine is handed the batches of a file, one behind the other.
-use Rattle.std.proofs.Common.{◌≡◌, ℕ, Option, Some, None, List, [], ◌∷◌, ◌++◌, ◌<◌, zero, suc, length, slice_index_or, refl, sym, ap, subst, ◌∙◌, append_assoc, arith}
+use Rattle.std.proofs.Common.{◌≡◌, ℕ, List, [], ◌∷◌, ◌++◌, ◌<◌, zero, suc, length, slice_index_or, refl, sym, ap, subst, ◌∙◌, append_assoc, arith}
 use Rattle.std.proofs.lemmas.List.{append-nil}
 use Rattle.raft_log_record_base.specs.declared.errors.Error.{Error}
 use Rattle.raft_log_record_base.specs.declared.pipe_log.FileId.{FileId}
 use Rattle.raft_log_record_items.specs.declared.item.LogItem.{LogItem}
 use Rattle.raft_log_replay.specs.Machines.{Batch, batch_in}
-use Rattle.raft_log_recovery_read.specs.Batches.{DeclinesSome, HasTaken, TakesBatches, said}
+use Rattle.raft_log_recovery_read.specs.Batches.{DeclinesSome, TakesBatches, said}
 
 said_append : (id : FileId) (xs ys : List (List LogItem)) → said id (xs ++ ys) ≡ said id xs ++ said id ys
 said_append id [] ys = refl

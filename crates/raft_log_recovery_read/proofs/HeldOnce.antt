@@ -1,5 +1,5 @@
 -- A file of a queue holds one list of batches, and one thing is to be done with it.
-use Rattle.std.proofs.Common.{◌≡◌, ℕ, ◌+◌, ◌-◌, ◌≤◌, Bool, Option, Some, None, is_some, List, [], ◌∷◌, ◌++◌, length, take, map, Ok, Err, slice_index_or, refl, sym, ap, subst, ◌∙◌, arith}
+use Rattle.std.proofs.Common.{◌≡◌, ℕ, ◌+◌, ◌-◌, ◌≤◌, Bool, Option, Some, None, is_some, List, ◌++◌, length, take, Err, refl, sym, ap, subst, ◌∙◌, arith}
 use Rattle.std.proofs.lemmas.List.{length-append}
 use Rattle.std.proofs.Math.Seq.{take-append-add}
 use Rattle.raft_log_record_base.specs.Fault.{Fault}
@@ -19,7 +19,6 @@ use Rattle.raft_log_file_format.proofs.Headers.{is_header}
 use Rattle.raft_log_active_file.specs.declared.format.File.{File}
 use Rattle.raft_log_file_reader.specs.Opening.{SaysFormat}
 use Rattle.raft_log_file_reader.specs.declared.open_file.OpenFile.{OpenFile}
-use Rattle.raft_log_replay.specs.Machines.{Batch, batch_in}
 use Rattle.raft_log_replay.specs.Segments.{HoldsOne}
 use Rattle.raft_log_recovery_read.specs.Faults.{TellsIfAny}
 use Rattle.raft_log_recovery_read.specs.Reading.{FileReading, IsTornHeader, ReadsBytes, ReadsFileAs, torn_header}
@@ -50,7 +49,7 @@ header_short header format (u, front, back, is_magic, (v, number, payload, is_ve
     omega (arith, one, two, size, is_version.spelled.size, payload_short v payload format is_payload)
 
 -- where bytes begin with a header, their first 69 do
-header_found : (content : List ℕ) (format : LogFileFormat) (start : ℕ) (fault : Fault) → SaysFormat content format start → header_at (take 69 content) ≡ Err fault → ⊥
+pub header_found : (content : List ℕ) (format : LogFileFormat) (start : ℕ) (fault : Fault) → SaysFormat content format start → header_at (take 69 content) ≡ Err fault → ⊥
 header_found content format start fault h e =
     let short = header_short h.header format h.says in
     let size : 69 ≡ length h.header + (69 - length h.header) = omega (arith, short) in
@@ -61,7 +60,7 @@ header_found content format start fault h e =
     absurd cc
 
 -- bytes begin with one header
-one_header : (content : List ℕ) (f g : LogFileFormat) (m n : ℕ) → SaysFormat content f m → SaysFormat content g n → (f ≡ g) × (m ≡ n)
+pub one_header : (content : List ℕ) (f g : LogFileFormat) (m n : ℕ) → SaysFormat content f m → SaysFormat content g n → (f ≡ g) × (m ≡ n)
 one_header content f g m n a b =
     let same = prefix_free is_header a.header b.header a.rest b.rest f g a.says b.says (sym a.splits ∙ b.splits) in
     (same.1, a.ends ∙ ap length same.0 ∙ sym b.ends)

@@ -6,3 +6,4 @@ pub mod Elsewhere
 pub mod HeldOnce
 pub mod OneReading
 pub mod Handing
+pub mod ForeignFiles

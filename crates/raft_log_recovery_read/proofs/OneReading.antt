@@ -6,7 +6,7 @@ use Rattle.raft_log_record_base.specs.Files.{signature_of}
 use Rattle.raft_log_record_base.proofs.Grammar.{ok_is}
 use Rattle.raft_log_record_items.specs.declared.item.LogItem.{LogItem}
 use Rattle.raft_log_record_frames.specs.Record.{record_at}
-use Rattle.raft_log_file_reader.specs.Batches.{batch_at, context_of, HasBatch, HasBatches, HasNoMore, IsBroken}
+use Rattle.raft_log_file_reader.specs.Batches.{batch_at, context_of, HasBatch, HasBatches, HasNoMore}
 use Rattle.raft_log_file_reader.specs.Laws.{EndsBehind}
 use Rattle.raft_log_file_reader.specs.declared.open_file.OpenFile.{OpenFile}
 use Rattle.raft_log_file_reader.proofs.Extents.{extent_short, batch_broken}

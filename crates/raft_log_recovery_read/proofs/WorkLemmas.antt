@@ -1,9 +1,8 @@
 -- A reader at work behind a file's header.
-use Rattle.std.proofs.Common.{◌≡◌, ℕ, ◌+◌, ◌<◌, ◌≤◌, inl, inr, Option, Some, None, List, [], ◌∷◌, ◌++◌, length, take, map, ◌-◌, zero, suc, refl, sym, ap, subst, ◌∙◌, arith}
+use Rattle.std.proofs.Common.{◌≡◌, ℕ, ◌<◌, inl, inr, Option, Some, None, List, [], ◌∷◌, ◌++◌, refl, sym, ap, subst, ◌∙◌, arith}
 use Rattle.raft_log_record_base.specs.Fault.{Fault}
 use Rattle.raft_log_record_items.specs.declared.item.LogItem.{LogItem}
 use Rattle.raft_log_fs.specs.Disk.{Disk}
-use Rattle.raft_log_file_reader.specs.Source.{bytes_of}
 use Rattle.raft_log_file_reader.specs.Batches.{HasBatches}
 use Rattle.raft_log_file_reader.specs.Laws.{EndsBehind}
 use Rattle.raft_log_file_reader.proofs.Readings.{batches_go_on_is}

@@ -1,5 +1,5 @@
 -- Batches that were read from a file and passed to a replay machine, which applies them one after another.
-use Rattle.std.specs.Prelude.{◌≡◌, Option, Some, None, List, [], ◌∷◌, ◌++◌, map}
+use Rattle.std.specs.Prelude.{◌≡◌, Option, Some, None, List, ◌++◌, map}
 use Rattle.raft_log_record_base.specs.declared.errors.Error.{Error}
 use Rattle.raft_log_record_base.specs.declared.pipe_log.FileId.{FileId}
 use Rattle.raft_log_record_items.specs.declared.item.LogItem.{LogItem}

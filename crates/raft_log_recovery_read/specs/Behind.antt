@@ -1,5 +1,5 @@
 -- What a reader reads of a file after its header, and passes to a replay machine.
-use Rattle.std.specs.Prelude.{◌≡◌, ◌↔◌, ℕ, ◌-◌, Bool, true, IsTrue, Option, Some, None, List, [], ◌∷◌, ◌++◌}
+use Rattle.std.specs.Prelude.{◌≡◌, ◌↔◌, ℕ, Bool, true, IsTrue, Option, Some, None, List, [], ◌∷◌, ◌++◌}
 use Rattle.raft_log_record_base.specs.Fault.{Fault}
 use Rattle.raft_log_record_base.specs.declared.errors.Error.{Error}
 use Rattle.raft_log_record_base.specs.declared.pipe_log.FileId.{FileId}
@@ -7,7 +7,7 @@ use Rattle.raft_log_record_items.specs.declared.item.LogItem.{LogItem}
 use Rattle.raft_log_fs.specs.Disk.{Disk}
 use Rattle.raft_log_file_reader.specs.Source.{bytes_of}
 use Rattle.raft_log_file_reader.specs.Batches.{HasBatch, HasBatches, HasBlock}
-use Rattle.raft_log_file_reader.specs.Reader.{IsReading, IsInsideFile, file_of, end_of, size_in}
+use Rattle.raft_log_file_reader.specs.Reader.{IsReading, IsInsideFile, file_of, end_of}
 use Rattle.raft_log_file_reader.specs.declared.open_file.OpenFile.{OpenFile}
 use Rattle.raft_log_file_reader.specs.declared.reader.LogItemBatchFileReader.{LogItemBatchFileReader}
 use Rattle.raft_log_replay.specs.Machines.{Batch}
@@ -30,6 +30,11 @@ pub record WasReadBehind {M : Type 0} (last : Bool) (reads : List Batch → M �
   pub has : ReadsBehind last file (bytes_of file.source d) offset batches behind.end fault
   pub bare : last ≡ true → IsTrue behind.is_bare ↔ (batches ≡ [])
   pub taken : HasTaken reads declines (said id batches) old new behind.declined
+
+-- the reader still has the same file open, and its offset and window fit it
+pub record KeepsFile (d : Disk) (old new : LogItemBatchFileReader) : Type 0 where
+  pub reading : IsReading d new
+  pub same : file_of new ≡ file_of old
 
 -- the reader has a file open
 abbrev pub HasFileOpen : LogItemBatchFileReader → Type 0

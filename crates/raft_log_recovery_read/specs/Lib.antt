@@ -4,6 +4,8 @@ pub mod Steps
 pub mod Batches
 pub mod Behind
 pub mod Reading
+pub mod Foreign
+pub mod ForeignSteps
 pub mod Handed
 pub mod Tolerance
 pub mod Segments

@@ -1,7 +1,7 @@
 -- The records in a log file's bytes, with their entry blocks. In a file before the queue's last one, only the frames
 -- and the last record are read: all records were synced before the next file began. A frame is a record whose entry
 -- block isn't checked.
-use Rattle.std.specs.Prelude.{◌≡◌, ℕ, ◌<◌, ◌⊎◌, Bool, true, false, Option, Some, None, List, [], ◌∷◌, ◌++◌, length, drop, Result, Err, IsOk}
+use Rattle.std.specs.Prelude.{◌≡◌, ℕ, ◌<◌, Bool, true, false, Option, Some, None, List, [], ◌∷◌, ◌++◌, length, drop, Err, IsOk}
 use Rattle.raft_log_record_base.specs.Files.{signature_of}
 use Rattle.raft_log_record_base.specs.Fault.{Fault}
 use Rattle.raft_log_record_items.specs.declared.item.LogItem.{LogItem}

@@ -6,7 +6,9 @@ use Rattle.raft_log_fs.specs.Disk.{Disk}
 use Rattle.raft_log_fs.specs.declared.handle.Handle.{Handle}
 use Rattle.raft_log_file_settings.specs.declared.recovery_mode.RecoveryMode.{RecoveryMode}
 use Rattle.raft_log_file_settings.specs.declared.recovery_mode.RecoveryMode.TheVariants.{AbsoluteConsistency, TolerateTailCorruption, TolerateAnyCorruption}
-use Rattle.raft_log_recovery_read.specs.Reading.{FailsToRead, FileReading, ReadsFileAs}
+use Rattle.raft_log_file_reader.specs.Source.{bytes_in}
+use Rattle.raft_log_recovery_read.specs.Foreign.{FailsToReadRecords, StopsAtNoForeign}
+use Rattle.raft_log_recovery_read.specs.Reading.{FileReading, ReadsFileAs}
 
 -- whether this recovery mode tolerates damage in a file; `last` says whether it is its queue's last file
 abbrev pub tolerates : RecoveryMode → Bool → Bool
@@ -18,21 +20,24 @@ tolerates TolerateAnyCorruption last = true
 abbrev pub IsTolerated : RecoveryMode → Bool → Option Error → Type 0
 IsTolerated mode last fault = (fault ≡ None) ⊎ (tolerates mode last ≡ true)
 
--- `read` is what the file contains, and its damage, if any, is tolerated
+-- `read` is what the file contains. Its reading stops at no foreign record, and its damage, if any, is tolerated.
 pub record ReadsFound (mode : RecoveryMode) (last : Bool) (id : FileId) (handle : Handle) (d : Disk)
     (read : FileReading) : Type 0 where
   pub reads : ReadsFileAs last id handle d read
+  pub native : StopsAtNoForeign last id (bytes_in (d.files handle.file))
   pub tolerated : IsTolerated mode last read.fault
 
--- the file is damaged as `error` says, and this recovery mode doesn't tolerate that
+-- the file is damaged as `error` says, not foreign, and this recovery mode doesn't tolerate that
 pub record IsDamaged (mode : RecoveryMode) (last : Bool) (id : FileId) (handle : Handle) (d : Disk)
     (error : Error) : Type 0 where
   pub read : FileReading
   pub reads : ReadsFileAs last id handle d read
+  pub native : StopsAtNoForeign last id (bytes_in (d.files handle.file))
   pub told : read.fault ≡ Some error
   pub strict : tolerates mode last ≡ false
 
--- why a recovery fails to read a file: it can't be read, memory ran out, or it is damaged and that isn't tolerated
+-- Why a recovery fails to read a file: it can't be read, or memory ran out; in every mode, its reading stops at a
+-- foreign record; or it is damaged, and that isn't tolerated.
 abbrev pub FailsToReadFound : RecoveryMode → Bool → FileId → Handle → Disk → Error → Type 0
 FailsToReadFound mode last id handle d error =
-    FailsToRead handle d error ⊎ IsDamaged mode last id handle d error
+    FailsToReadRecords last id handle d error ⊎ IsDamaged mode last id handle d error

@@ -1,14 +1,14 @@
 //! Reads what follows the header of a log file. Passes each record on after the next one is read, so that at most two
 //! records are held.
 
-ghost use Rattle.std.specs.Prelude.{◌≡◌, ℕ, false, true, List, Option, Some, IfOk, IfErr};
+ghost use Rattle.std.specs.Prelude.{◌≡◌, ℕ, false, true, List, Option, Some, IfOk, IfErr, OnOk};
 ghost use Rattle.raft_log_record_base.specs.Fault.{Fault};
 ghost use Rattle.raft_log_record_items.specs.declared.item.LogItem.{LogItem};
 ghost use Rattle.raft_log_file_reader.specs.Reader.{IsReading, file_of, end_of};
 ghost use Rattle.raft_log_file_reader.specs.Source.{bytes_of, CannotRead};
 ghost use Rattle.raft_log_file_reader.specs.declared.open_file.OpenFile.{OpenFile};
 ghost use Rattle.raft_log_recovery_read.specs.Batches.{HasTaken, said};
-ghost use Rattle.raft_log_recovery_read.specs.Behind.{HasFileOpen, LiesInside, StandsAtLast, WasReadBehind};
+ghost use Rattle.raft_log_recovery_read.specs.Behind.{HasFileOpen, KeepsFile, LiesInside, StandsAtLast, WasReadBehind};
 ghost use Rattle.raft_log_recovery_read.specs.Faults.{TellsIfAny};
 ghost use Rattle.raft_log_recovery_read.specs.Records.{StopsGood};
 
@@ -62,6 +62,7 @@ pub(crate) fn read_last<F: FileSystem, M: ReplayMachine>(
         (F.disk file_system.now) file (end_of reader.old)) }
     ensures err { (file : OpenFile) → file_of reader.old ≡ Some file
         → IfErr result (CannotRead file.source 0 (F.disk file_system.now)) }
+    ensures kept { OnOk result (KeepsFile (F.disk file_system.now) reader.old reader.new) }
 {
     let mut is_bare = true;
     let mut declined = None;
@@ -110,6 +111,7 @@ pub(crate) fn read_earlier<F: FileSystem, M: ReplayMachine>(
         (F.disk file_system.now) file (end_of reader.old)) }
     ensures err { (file : OpenFile) → file_of reader.old ≡ Some file
         → IfErr result (CannotRead file.source 0 (F.disk file_system.now)) }
+    ensures kept { OnOk result (KeepsFile (F.disk file_system.now) reader.old reader.new) }
 {
     let mut declined = None;
     let mut last = None;
@@ -170,6 +172,7 @@ fn check_last<F: FileSystem, M: ReplayMachine>(
         (F.disk file_system.now) file offset) }
     ensures err { (file : OpenFile) → file_of reader.old ≡ Some file
         → IfErr result (CannotRead file.source 0 (F.disk file_system.now)) }
+    ensures kept { OnOk result (KeepsFile (F.disk file_system.now) reader.old reader.new) }
 {
     let Some(record) = last else {
         return Ok(read);

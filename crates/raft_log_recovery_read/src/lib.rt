@@ -5,6 +5,7 @@
 mod behind;
 mod damage;
 pub mod file_ending;
+mod foreign;
 pub mod found_file;
 pub mod laws;
 pub mod queue_segments;

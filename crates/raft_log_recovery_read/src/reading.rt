@@ -1,19 +1,21 @@
 //! Reading a log file that was found.
 
-ghost use Rattle.std.specs.Prelude.{◌≡◌, ◌↔◌, None, Some, IfOk, IfErr, IsTrue};
+ghost use Rattle.std.specs.Prelude.{◌≡◌, ◌↔◌, None, Some, IfOk, IfErr, IsTrue, OnOk};
 ghost use Rattle.raft_log_record_base.specs.Fault.Fault.{corrupt};
 ghost use Rattle.raft_log_record_base.specs.declared.errors.Error.TheVariants.{Memory};
 ghost use Rattle.raft_log_file_reader.specs.Reader.{IsReading, file_of, end_of};
-ghost use Rattle.raft_log_file_reader.specs.Source.{CannotRead};
+ghost use Rattle.raft_log_file_reader.specs.Source.{bytes_in, CannotRead};
 ghost use Rattle.raft_log_file_reader.specs.declared.open_file.OpenFile.{OpenFile};
-ghost use Rattle.raft_log_recovery_read.specs.Behind.{HasFileOpen, WasReadBehind};
+ghost use Rattle.raft_log_recovery_read.specs.Behind.{HasFileOpen, KeepsFile, WasReadBehind};
 ghost use Rattle.raft_log_recovery_read.specs.Faults.{TellsFault};
-ghost use Rattle.raft_log_recovery_read.specs.Reading.{FailsToRead, FileReading, HasTornHeader, ReadsFileAs, torn_header};
+ghost use Rattle.raft_log_recovery_read.specs.Reading.{FileReading, HasTornHeader, ReadsFileAs, torn_header};
+ghost use Rattle.raft_log_recovery_read.specs.Foreign.{FailsToReadRecords, StopsAtNoForeign};
 ghost use Rattle.raft_log_recovery_read.specs.Handed.{WasHanded};
 ghost use Rattle.raft_log_file_format.specs.Header.{first_format};
 
 use crate::behind::{Behind, read_earlier, read_last};
 use crate::damage::damage;
+use crate::foreign::refuse_foreign;
 use crate::found_file::{FoundFile, ListedFile};
 use raft_log_file_format::LogFileFormat;
 use raft_log_file_reader::LogItemBatchFileReader;
@@ -31,7 +33,8 @@ use std::alloc::Global;
 /// A last file whose header has an alignment, and no record after it, reads as one without a header. A power failure
 /// tore the header's write.
 ///
-/// Fails with `Io` if a read fails, which is never reported as damage, or with `Memory`. An error of the machine is
+/// Fails with `Io` if a read fails, which is never reported as damage, or with `Memory`. Fails with `Corruption` if a
+/// foreign record follows the last good one: whole, but with a compression that isn't read. An error of the machine is
 /// returned in `declined`.
 pub fn read_file<F: FileSystem, M: ReplayMachine>(
     alloc: Global,
@@ -44,11 +47,15 @@ pub fn read_file<F: FileSystem, M: ReplayMachine>(
         × ReadsFileAs file.is_last file.id file.handle (F.disk file_system.now) reading
         × WasHanded (M.reads file.id.queue) (M.declines file.id.queue) file.id machine.old machine.new reading
         found) }
-    ensures err { IfErr result (FailsToRead file.handle (F.disk file_system.now)) }
+    ensures native { OnOk result (StopsAtNoForeign file.is_last file.id
+        (bytes_in ((F.disk file_system.now).files file.handle.file))) }
+    ensures err { IfErr result
+        (FailsToReadRecords file.is_last file.id file.handle (F.disk file_system.now)) }
 {
     match reader.open(alloc, file_system, file.id, file.handle) {
         Ok(format) => {
             let behind = read_behind(alloc, file_system, reader, file, machine)?;
+            refuse_foreign(alloc, file_system, reader, file.id, behind.end)?;
             if has_torn_header(file.is_last, format, behind.is_bare) {
                 let fault = torn_header(alloc)?;
                 return Ok(without_header(fault, behind.declined));
@@ -114,6 +121,7 @@ fn read_behind<F: FileSystem, M: ReplayMachine>(
         machine.old machine.new (F.disk file_system.now) opened (end_of reader.old)) }
     ensures err { (opened : OpenFile) → file_of reader.old ≡ Some opened
         → IfErr result (CannotRead opened.source 0 (F.disk file_system.now)) }
+    ensures kept { OnOk result (KeepsFile (F.disk file_system.now) reader.old reader.new) }
 {
     if file.is_last {
         read_last(alloc, file_system, reader, file.id, machine)

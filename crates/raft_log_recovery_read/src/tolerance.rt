@@ -27,8 +27,8 @@ pub fn tolerates(mode: RecoveryMode, is_last: bool) -> bool
 
 /// Reads a log file, and hands a machine its records up to its end, or to the first damaged one. Changes nothing.
 ///
-/// Fails with `Io` if a read fails, which is never reported as damage; with `Corruption` or `Codec` for damage that
-/// isn't tolerated; or with `Memory`. An error of the machine is returned in `declined`.
+/// Fails with `Io` if a read fails, which is never reported as damage; with `Corruption` if a foreign record follows
+/// the last good one, in every mode; with `Corruption` or `Codec` for damage that isn't tolerated; or with `Memory`. An error of the machine is returned in `declined`.
 pub fn read_found<F: FileSystem, M: ReplayMachine>(
     alloc: Global,
     file_system: &F,

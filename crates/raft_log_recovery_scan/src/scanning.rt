@@ -16,6 +16,7 @@ pub mod runs;
 use crate::file_kind::FileKind;
 use directories::{list_directories, make_directories};
 use found::{FoundFile, find_files};
+use log::Log;
 use opening::{open_files, open_queue};
 use raft_log_active_file::File;
 use raft_log_file_settings::RecoveryMode;
@@ -39,8 +40,8 @@ pub struct ScannedFiles {
 /// missing directories; changes no file.
 /// - The last file of a queue is opened for writing, and under `TolerateAnyCorruption` each of its files; the others
 ///   for reading.
-/// - For each kind, only the files after the last gap are kept. The others stay in their directories. A gap is a
-///   missing number, or two files with one number.
+/// - For each kind, only the files after the last gap are kept. The others stay in their directories, and a queue's
+///   are logged. A gap is a missing number, or two files with one number.
 /// - A file keeps its name, with a sign before the number or without one.
 ///
 /// Fails:
@@ -48,8 +49,9 @@ pub struct ScannedFiles {
 /// - with `Corruption` if a name begins with a number and has more between it and the end
 /// - with `Io` if a directory isn't made or the file system has stopped
 /// - with `Memory`
-pub fn scan<F: FileSystem>(
+pub fn scan<F: FileSystem, L: Log>(
     alloc: Global,
+    rt: &L,
     file_system: &mut F,
     paths: &[String],
     mode: RecoveryMode,
@@ -60,13 +62,14 @@ pub fn scan<F: FileSystem>(
         (F.disk file_system.old) (F.disk file_system.new)) }
 {
     make_directories(alloc, file_system, paths)?;
-    let scanned = scan_files(alloc, file_system, paths, mode)?;
+    let scanned = scan_files(alloc, rt, file_system, paths, mode)?;
     Ok(scanned)
 }
 
 /// Finds and opens the files in these directories.
-fn scan_files<F: FileSystem>(
+fn scan_files<F: FileSystem, L: Log>(
     alloc: Global,
+    rt: &L,
     file_system: &F,
     paths: &[String],
     mode: RecoveryMode,
@@ -77,9 +80,10 @@ fn scan_files<F: FileSystem>(
 {
     let listings = list_directories(alloc, file_system, paths)?;
     let names = listings.as_slice();
-    let append = scan_queue(alloc, file_system, FileKind::Append, paths, names, mode)?;
-    let rewrite = scan_queue(alloc, file_system, FileKind::Rewrite, paths, names, mode)?;
-    let reserved = scan_reserved(alloc, file_system, paths, names)?;
+    let (append, rewrite) = (FileKind::Append, FileKind::Rewrite);
+    let append = scan_queue(alloc, rt, file_system, append, paths, names, mode)?;
+    let rewrite = scan_queue(alloc, rt, file_system, rewrite, paths, names, mode)?;
+    let reserved = scan_reserved(alloc, rt, file_system, paths, names)?;
     Ok(ScannedFiles {
         append,
         rewrite,
@@ -88,8 +92,9 @@ fn scan_files<F: FileSystem>(
 }
 
 /// Finds and opens the files of a queue.
-fn scan_queue<F: FileSystem>(
+fn scan_queue<F: FileSystem, L: Log>(
     alloc: Global,
+    rt: &L,
     file_system: &F,
     kind: FileKind,
     paths: &[String],
@@ -102,14 +107,15 @@ fn scan_queue<F: FileSystem>(
         IsQueueIn kind (map string_bytes paths.now) (F.disk file_system.now) mode files.items) }
     ensures err { IfErr result (FailsToFindFiles (map string_bytes paths.now) (F.disk file_system.now)) }
 {
-    let kept = scan_run(alloc, kind, listings)?;
+    let kept = scan_run(alloc, rt, kind, listings)?;
     let files = open_queue(alloc, file_system, kind, paths, mode, kept.as_slice())?;
     Ok(files)
 }
 
 /// Finds and opens the reserved files.
-fn scan_reserved<F: FileSystem>(
+fn scan_reserved<F: FileSystem, L: Log>(
     alloc: Global,
+    rt: &L,
     file_system: &F,
     paths: &[String],
     listings: &[Vec<String>],
@@ -121,7 +127,7 @@ fn scan_reserved<F: FileSystem>(
     ensures err { IfErr result (FailsToFindFiles (map string_bytes paths.now) (F.disk file_system.now)) }
 {
     let kind = FileKind::Reserved;
-    let kept = scan_run(alloc, kind, listings)?;
+    let kept = scan_run(alloc, rt, kind, listings)?;
     let files = open_files(
         alloc,
         file_system,
@@ -133,8 +139,13 @@ fn scan_reserved<F: FileSystem>(
     Ok(files)
 }
 
-/// The files of a kind that are kept, among those with these names.
-fn scan_run(alloc: Global, kind: FileKind, listings: &[Vec<String>]) -> Result<Vec<FoundFile>>
+/// The files of a kind that are kept, among those with these names. Logs which files of a queue aren't.
+fn scan_run<L: Log>(
+    alloc: Global,
+    rt: &L,
+    kind: FileKind,
+    listings: &[Vec<String>],
+) -> Result<Vec<FoundFile>>
     ensures ok { IfOk result (λ kept.
         IsRunAmong kind (map (λ names. map string_bytes names.items) listings.now)
         kept.items) }
@@ -142,6 +153,6 @@ fn scan_run(alloc: Global, kind: FileKind, listings: &[Vec<String>]) -> Result<V
         (FailsAmongAll kind (map (λ names. map string_bytes names.items) listings.now)) }
 {
     let found = find_files(alloc, kind, listings)?;
-    let kept = keep_run(found)?;
+    let kept = keep_run(rt, kind, found)?;
     Ok(kept)
 }

@@ -29,7 +29,7 @@ pub(crate) fn replay_chunk<S: ReplaySource, M: ReplayMachine, FA: Factory<M>>(
 }
 
 /// Reads the segments from one number up to another with a machine of its own.
-fn replay_between<S: ReplaySource, M: ReplayMachine, FA: Factory<M>>(
+pub(crate) fn replay_between<S: ReplaySource, M: ReplayMachine, FA: Factory<M>>(
     alloc: Global,
     source: &S,
     factory: &FA,

@@ -3,12 +3,14 @@
 #![tactic(auto)]
 
 mod chunk;
+pub mod in_turn;
 pub mod laws;
 pub mod machine;
 pub mod scoped;
 pub mod segments;
 pub mod source;
 
+pub use in_turn::replay_segments_in_turn;
 pub use machine::{Factory, ReplayMachine};
 pub use scoped::{ReplayThreads, replay_segments_by, replay_segments_scoped};
 pub use segments::{ReadSegments, chunk_size, replay_segments};

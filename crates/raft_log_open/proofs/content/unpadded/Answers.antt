@@ -1,4 +1,4 @@
-use Rattle.std.proofs.Common.{◌≡◌, ℕ, List, ◌++◌, refl, ap, subst, ◌∙◌}
+use Rattle.std.proofs.Common.{◌≡◌, ℕ, inl, List, ◌++◌, refl, ap, subst, ◌∙◌}
 use Rattle.std.proofs.lemmas.Result.{err_from_is_err_and}
 use Rattle.raft_log_fs.specs.declared.handle.Handle.{Handle}
 use Rattle.raft_log_file_format.specs.Header.{header_bytes}
@@ -17,7 +17,7 @@ returns-in_err-format-clause-err g c =
     let file = c.args.file in
     let gave = err_from_is_err_and c.from_residual-in_err-format.result c.from_residual-in_err-format.ensures.1 in
     let padded = rw c.if-not-branch.false at c.in_ok-is_padded.ensures.ok in
-    rw (gave.1, gave.2) (unopened file.is_last file.id file.handle d c.in_err-format.field-0.0 padded c.in_err-format.ensures.err)
+    rw (gave.1, gave.2) (inl (unopened file.is_last file.id file.handle d c.in_err-format.field-0.0 padded c.in_err-format.ensures.err))
 
 pub returns-in_err-join_records-clause-err : goal.returns-in_err-join_records-clause-err
 returns-in_err-join_records-clause-err g c =
@@ -25,7 +25,7 @@ returns-in_err-join_records-clause-err g c =
     let opens = c.in_ok-format.ensures.ok in
     let file : OpenFile = record { id = c.args.file.id; source = opens.source; format = c.in_ok-format.format } in
     let gave = err_from_is_err_and c.from_residual-in_err-join_records.result c.from_residual-in_err-join_records.ensures.1 in
-    rw (gave.1, gave.2) (file_unread opens.source c.args.file.handle d c.in_err-join_records.field-0.0 opens.reads_by opens.size (c.in_err-join_records.ensures.err file opens.opened))
+    rw (gave.1, gave.2) (inl (file_unread opens.source c.args.file.handle d c.in_err-join_records.field-0.0 opens.reads_by opens.size (c.in_err-join_records.ensures.err file opens.opened)))
 
 pub returns-clause-ok : goal.returns-clause-ok
 returns-clause-ok g c =

@@ -1,7 +1,5 @@
-use Rattle.std.proofs.Common.{◌≡◌, ℕ, List, [], ◌∷◌, ◌++◌, Some, refl, subst}
-use Rattle.raft_log_record_items.specs.declared.item.LogItem.{LogItem}
+use Rattle.std.proofs.Common.{[], ◌∷◌, ◌++◌, Some, refl}
 use Rattle.raft_log_file_reader.specs.Source.{bytes_of}
-use Rattle.raft_log_recovery_read.specs.Batches.{HasTaken, said}
 use Rattle.raft_log_recovery_read.specs.Records.ReadsEarlier.{good, none, torn}
 use Rattle.raft_log_recovery_read.proofs.WorkLemmas.{stops_there}
 use Rattle.raft_log_recovery_read.proofs.behind.check_last.Goals as goal

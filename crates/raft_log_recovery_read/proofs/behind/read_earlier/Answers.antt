@@ -1,12 +1,13 @@
-use Rattle.std.proofs.Common.{◌≡◌, ℕ, false, IfOk, List, [], Some, None, refl, sym, subst, ◌∙◌}
+use Rattle.std.proofs.Common.{◌≡◌, ℕ, false, IfOk, [], Some, None, refl, sym, subst, ◌∙◌}
 use Rattle.raft_log_record_base.specs.declared.pipe_log.FileBlockHandle.{FileBlockHandle}
 use Rattle.raft_log_file_reader.specs.Source.{bytes_of}
 use Rattle.raft_log_file_reader.specs.Batches.{HasBatch, HasBatches, HasBlock, HasNoMore, IsBroken}
 use Rattle.raft_log_file_reader.specs.Reader.{IsInsideFile, end_of}
 use Rattle.raft_log_file_reader.specs.declared.open_file.OpenFile.{OpenFile}
-use Rattle.raft_log_recovery_read.specs.Behind.{StandsAtLast, WasReadBehind, with_noted}
+use Rattle.raft_log_recovery_read.specs.Behind.{KeepsFile, StandsAtLast, WasReadBehind, with_noted}
 use Rattle.raft_log_recovery_read.specs.declared.behind.LastRecord.{LastRecord}
 use Rattle.raft_log_recovery_read.proofs.Handing.{takes_none}
+use Rattle.raft_log_recovery_read.proofs.ResultLemmas.{on_ok_then}
 use Rattle.raft_log_recovery_read.proofs.WorkLemmas.{all_batches}
 use Rattle.raft_log_recovery_read.proofs.behind.read_earlier.Goals as goal
 
@@ -74,3 +75,17 @@ returns-in-Fault-clause-ok g c = λ file opened.
     let there = subst (λ (n : ℕ). StandsAtLast work.file content start before last n × IsBroken work.file content n found.0) (sym c.valid_offset-end.ensures) (work.has, found.2) in
     let stands = c.check_last-in-Fault.ensures.ok work.file start (Some found.0) before c.args.machine.now (c.next_batch.ensures.file ∙ work.opened) there.0 there.1 (found.0, refl, found.1) handed in
     subst (λ (f : OpenFile). IfOk c.check_last-in-Fault.result (WasReadBehind false (g.M.ReplayMachine.reads c.args.id.queue) (g.M.ReplayMachine.declines c.args.id.queue) c.args.id c.args.machine.now c.check_last-in-Fault.new.machine d f start)) same stands
+
+pub returns-in-End-clause-kept : goal.returns-in-End-clause-kept
+returns-in-End-clause-kept g c =
+    let d = g.F.FileSystem.disk c.args.file_system.now in
+    let (before, work, inside, handed) = c.loop-last.invariant in
+    on_ok_then c.check_last.result (KeepsFile d c.next_batch.new.reader c.check_last.new.reader) (KeepsFile d c.args.reader.now c.check_last.new.reader) c.check_last.ensures.kept
+    (λ kept. record { reading = kept.reading; same = kept.same ∙ c.next_batch.ensures.file ∙ work.same })
+
+pub returns-in-Fault-clause-kept : goal.returns-in-Fault-clause-kept
+returns-in-Fault-clause-kept g c =
+    let d = g.F.FileSystem.disk c.args.file_system.now in
+    let (before, work, inside, handed) = c.loop-last.invariant in
+    on_ok_then c.check_last-in-Fault.result (KeepsFile d c.next_batch.new.reader c.check_last-in-Fault.new.reader) (KeepsFile d c.args.reader.now c.check_last-in-Fault.new.reader) c.check_last-in-Fault.ensures.kept
+    (λ kept. record { reading = kept.reading; same = kept.same ∙ c.next_batch.ensures.file ∙ work.same })

@@ -1,5 +1,4 @@
-use Rattle.std.proofs.Common.{◌≡◌, ℕ, List, [], ◌∷◌, ◌++◌, Some, None, refl, sym, subst, ◌∙◌}
-use Rattle.raft_log_record_items.specs.declared.item.LogItem.{LogItem}
+use Rattle.std.proofs.Common.{◌≡◌, ℕ, [], ◌∷◌, ◌++◌, Some, None, refl, sym, subst, ◌∙◌}
 use Rattle.raft_log_file_reader.specs.Source.{bytes_of}
 use Rattle.raft_log_file_reader.specs.Batches.{HasNoMore}
 use Rattle.raft_log_file_reader.specs.Reader.{end_of}
@@ -74,3 +73,13 @@ returns-in-Fault-clause-ok g c = λ file opened.
       bare = λ last. bare;
       taken = handed;
     }
+
+pub returns-in-End-clause-kept : goal.returns-in-End-clause-kept
+returns-in-End-clause-kept g c =
+    let (batches, work, bare, handed) = c.loop-declined.invariant in
+    record { reading = c.next_record.ensures.reading; same = c.next_record.ensures.file ∙ work.same }
+
+pub returns-in-Fault-clause-kept : goal.returns-in-Fault-clause-kept
+returns-in-Fault-clause-kept g c =
+    let (batches, work, bare, handed) = c.loop-declined.invariant in
+    record { reading = c.next_record.ensures.reading; same = c.next_record.ensures.file ∙ work.same }

@@ -1,18 +1,18 @@
-use Rattle.std.proofs.Common.{◌≡◌, ◌∙◌, ℕ, List, [], Option, Some, None, refl, sym, subst, ap}
+use Rattle.std.proofs.Common.{◌≡◌, ◌∙◌, ◌≤◌, inl, [], Option, Some, None, refl, sym, subst, arith}
 use Rattle.std.proofs.lemmas.Result.{err_from_is_err_and}
 use Rattle.raft_log_record_base.specs.Fault.Fault.{corrupt}
 use Rattle.raft_log_record_base.specs.declared.errors.Error.{Error}
-use Rattle.raft_log_record_items.specs.declared.item.LogItem.{LogItem}
 use Rattle.raft_log_fs.specs.declared.handle.Handle.{Handle}
 use Rattle.raft_log_file_reader.specs.Source.{bytes_in, bytes_of}
 use Rattle.raft_log_file_reader.specs.Reader.{end_of}
 use Rattle.raft_log_file_reader.specs.declared.open_file.OpenFile.{OpenFile}
 use Rattle.raft_log_file_format.specs.Header.{first_format}
-use Rattle.raft_log_recovery_read.specs.Faults.{TellsFault, TellsIfAny}
+use Rattle.raft_log_recovery_read.specs.Faults.{TellsFault}
 use Rattle.raft_log_recovery_read.specs.Batches.{HasTaken, said}
 use Rattle.raft_log_recovery_read.specs.Reading.{FailsToRead, FileReading, IsTornHeader, ReadsBytes, torn_header}
 use Rattle.raft_log_recovery_read.specs.Reading.ReadsBytes.{headed, headless, torn}
-use Rattle.raft_log_recovery_read.specs.Records.{ReadsBehind}
+use Rattle.raft_log_recovery_read.specs.Foreign.{StopsAtNoForeign}
+use Rattle.raft_log_recovery_read.proofs.ForeignFiles.{ends_inside, headless_native, native_is, refused_as}
 use Rattle.raft_log_recovery_read.proofs.FaultLemmas.{file_unread, header_damaged, header_unread}
 use Rattle.raft_log_recovery_read.proofs.Handing.{takes_none}
 use Rattle.raft_log_recovery_read.proofs.reading.read_file.Goals as goal
@@ -80,7 +80,7 @@ returns-in_err-behind-in-Ok-clause-err g c =
     let file : OpenFile = record { id = c.args.file.id; source = opens.source; format = c.in-Ok.format } in
     let e = c.in_err-behind-in-Ok.field-0.0 in
     let gave = err_from_is_err_and c.from_residual.result c.from_residual.ensures.1 in
-    rw (gave.1, gave.2) (file_unread opens.source c.args.file.handle d e opens.reads_by opens.size (c.in_err-behind-in-Ok.ensures.err file opens.opened))
+    rw (gave.1, gave.2) (inl (file_unread opens.source c.args.file.handle d e opens.reads_by opens.size (c.in_err-behind-in-Ok.ensures.err file opens.opened)))
 
 pub returns-in_err-fault-in-Err-clause-err : goal.returns-in_err-fault-in-Err-clause-err
 returns-in_err-fault-in-Err-clause-err g c =
@@ -88,4 +88,68 @@ returns-in_err-fault-in-Err-clause-err g c =
     let other = c.in_err-fault-in-Err.ensures.err in
     let unread = header_unread c.args.file.handle d c.in-Err.error c.in-Err.ensures.err other.1 in
     let gave = err_from_is_err_and c.from_residual-in_err-fault-in-Err.result c.from_residual-in_err-fault-in-Err.ensures.1 in
-    rw (gave.1, gave.2) (subst (λ (e : Error). FailsToRead c.args.file.handle d e) (sym other.0) unread)
+    rw (gave.1, gave.2) (inl (subst (λ (e : Error). FailsToRead c.args.file.handle d e) (sym other.0) unread))
+
+-- The reader is where the last good record ends.
+
+pub refuse_foreign-requires-clause-inside : goal.refuse_foreign-requires-clause-inside
+refuse_foreign-requires-clause-inside g c = λ opened is.
+    let d = g.F.FileSystem.disk c.args.file_system.now in
+    let opens = c.in-Ok.ensures.ok in
+    let file : OpenFile = record { id = c.args.file.id; source = opens.source; format = c.in-Ok.format } in
+    let stands = c.in_ok-behind-in-Ok.ensures.ok file opens.opened in
+    let kept = c.in_ok-behind-in-Ok.ensures.kept in
+    let was = opens.opened in
+    let now = kept.same in
+    let same : file ≡ opened = cc in
+    let inside = ends_inside c.args.file.is_last file (bytes_of opens.source d) (end_of c.open.new.self) c.in_ok-behind-in-Ok.behind.end stands.batches stands.fault stands.has in
+    let size : c.in_ok-behind-in-Ok.behind.end ≤ file.source.size = omega (arith, inside, opens.size) in
+    subst (λ (f : OpenFile). c.in_ok-behind-in-Ok.behind.end ≤ f.source.size) same size
+
+-- What was read stops at no foreign record.
+
+pub returns-else-has_torn_header-clause-native : goal.returns-else-has_torn_header-clause-native
+returns-else-has_torn_header-clause-native g c =
+    let d = g.F.FileSystem.disk c.args.file_system.now in
+    let id = c.args.file.id in
+    let last = c.args.file.is_last in
+    let opens = c.in-Ok.ensures.ok in
+    let file : OpenFile = record { id = id; source = opens.source; format = c.in-Ok.format } in
+    let stands = c.in_ok-behind-in-Ok.ensures.ok file opens.opened in
+    let other = c.in_ok-refuse_foreign-in-Ok.ensures.ok file (c.in_ok-behind-in-Ok.ensures.kept.same ∙ opens.opened) in
+    subst (λ (h : Handle). StopsAtNoForeign last id (bytes_in (d.files h.file))) opens.reads_by
+    (native_is last id (bytes_of opens.source d) file (end_of c.open.new.self) c.in_ok-behind-in-Ok.behind.end stands.batches stands.fault refl opens.header stands.has other)
+
+pub returns-then-has_torn_header-clause-native : goal.returns-then-has_torn_header-clause-native
+returns-then-has_torn_header-clause-native g c =
+    let d = g.F.FileSystem.disk c.args.file_system.now in
+    let id = c.args.file.id in
+    let last = c.args.file.is_last in
+    let opens = c.in-Ok.ensures.ok in
+    let file : OpenFile = record { id = id; source = opens.source; format = c.in-Ok.format } in
+    let stands = c.in_ok-behind-in-Ok.ensures.ok file opens.opened in
+    let other = c.in_ok-refuse_foreign-in-Ok.ensures.ok file (c.in_ok-behind-in-Ok.ensures.kept.same ∙ opens.opened) in
+    subst (λ (h : Handle). StopsAtNoForeign last id (bytes_in (d.files h.file))) opens.reads_by
+    (native_is last id (bytes_of opens.source d) file (end_of c.open.new.self) c.in_ok-behind-in-Ok.behind.end stands.batches stands.fault refl opens.header stands.has other)
+
+pub returns-in_ok-fault-in-Err-clause-native : goal.returns-in_ok-fault-in-Err-clause-native
+returns-in_ok-fault-in-Err-clause-native g c =
+    let d = g.F.FileSystem.disk c.args.file_system.now in
+    let same = c.in_ok-fault-in-Err.ensures.ok in
+    let damaged = header_damaged c.args.file.handle d c.in-Err.error c.in-Err.ensures.err same.1 in
+    headless_native c.args.file.is_last c.args.file.id (bytes_in (d.files c.args.file.handle.file)) damaged.0 damaged.2
+
+-- It isn't read, or a foreign record is told.
+
+pub returns-in_err-refuse_foreign-in-Ok-clause-err : goal.returns-in_err-refuse_foreign-in-Ok-clause-err
+returns-in_err-refuse_foreign-in-Ok-clause-err g c =
+    let d = g.F.FileSystem.disk c.args.file_system.now in
+    let id = c.args.file.id in
+    let last = c.args.file.is_last in
+    let opens = c.in-Ok.ensures.ok in
+    let file : OpenFile = record { id = id; source = opens.source; format = c.in-Ok.format } in
+    let stands = c.in_ok-behind-in-Ok.ensures.ok file opens.opened in
+    let e = c.in_err-refuse_foreign-in-Ok.field-0.0 in
+    let gave = err_from_is_err_and c.from_residual-in_err-refuse_foreign-in-Ok.result c.from_residual-in_err-refuse_foreign-in-Ok.ensures.1 in
+    let why = c.in_err-refuse_foreign-in-Ok.ensures.err file (c.in_ok-behind-in-Ok.ensures.kept.same ∙ opens.opened) in
+    rw (gave.1, gave.2) (refused_as last id c.args.file.handle d file (end_of c.open.new.self) c.in_ok-behind-in-Ok.behind.end stands.batches stands.fault e refl opens.reads_by opens.size opens.header stands.has why)

@@ -1,4 +1,4 @@
-use Rattle.std.proofs.Common.{◌≡◌, false, Option, Some, inr, inl, sym, subst, ◌∙◌, ap}
+use Rattle.std.proofs.Common.{◌≡◌, false, Option, Some, inr, inl, sym, subst, ◌∙◌}
 use Rattle.std.proofs.lemmas.Result.{err_from_is_err_and}
 use Rattle.raft_log_record_base.specs.declared.errors.Error.{Error}
 use Rattle.raft_log_recovery_read.specs.Handed.{WasHanded}
@@ -22,7 +22,7 @@ returns-clause-ok g c =
     × WasHanded (g.M.ReplayMachine.reads file.id.queue) (g.M.ReplayMachine.declines file.id.queue) file.id c.args.machine.now c.read_file.new.machine reading found in
     ok_then c.accept.result (λ same. (same ≡ c.in_ok-found.found) × IsTolerated c.args.mode file.is_last c.in_ok-found.found.fault) Found c.accept.ensures.ok
     (λ found same. subst Found (sym same.0)
-    (read, record { reads = reads; tolerated = subst (λ (o : Option Error). IsTolerated c.args.mode file.is_last o) handed.fault same.1 }, handed))
+    (read, record { reads = reads; native = c.in_ok-found.ensures.native; tolerated = subst (λ (o : Option Error). IsTolerated c.args.mode file.is_last o) handed.fault same.1 }, handed))
 
 pub returns-clause-err : goal.returns-clause-err
 returns-clause-err g c =
@@ -30,4 +30,4 @@ returns-clause-err g c =
     let (read, reads, handed) = c.in_ok-found.ensures.ok in
     err_then c.accept.result (λ error. (c.in_ok-found.found.fault ≡ Some error) × (tolerates c.args.mode file.is_last ≡ false))
     (FailsToReadFound c.args.mode file.is_last file.id file.handle (g.F.FileSystem.disk c.args.file_system.now)) c.accept.ensures.err
-    (λ error told. inr (record { read = read; reads = reads; told = sym handed.fault ∙ told.0; strict = told.1 }))
+    (λ error told. inr (record { read = read; reads = reads; native = c.in_ok-found.ensures.native; told = sym handed.fault ∙ told.0; strict = told.1 }))

@@ -1,4 +1,4 @@
-use Rattle.std.proofs.Common.{List, ℕ, ◌<◌, ◌∙◌, ap, sym, subst, length, map}
+use Rattle.std.proofs.Common.{List, ℕ, ◌∙◌, ap, sym, subst, map}
 use Rattle.std.proofs.lemmas.List.{length-map}
 use Rattle.std.proofs.lemmas.Result.{err_from_is_err_and}
 use Rattle.std.specs.String.{string_bytes}

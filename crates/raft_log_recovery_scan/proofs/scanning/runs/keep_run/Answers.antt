@@ -6,7 +6,7 @@ use Rattle.raft_log_recovery_scan.proofs.RunLemmas.{run_is}
 use Rattle.raft_log_recovery_scan.proofs.scanning.runs.keep_run.Goals as goal
 
 pub returns-clause-ok : goal.returns-clause-ok
-returns-clause-ok c =
+returns-clause-ok g c =
     let files = c.sort_by_key.new.self.items in
     let first = c.first_of_run-first.result in
     let begins = subst (λ (l : List FoundFile). BeginsRun l (length l) first) c.as_slice.ensures.value c.first_of_run-first.ensures.run in

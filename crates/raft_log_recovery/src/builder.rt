@@ -2,6 +2,8 @@
 
 ghost use Rattle.std.specs.Prelude.{◌≡◌, ◌≤◌, ◌↔◌, length, IfErr, IfOk, IsTrue, OnErr, OnOk, []};
 
+mod in_turn;
+
 use crate::clearing::clear_old;
 use crate::cutting::cut_files;
 use crate::finishing::{recovered_pipe, unread, wanted_pipe};
@@ -237,7 +239,7 @@ impl DualPipesBuilder {
 
     /// Truncates the damaged files of both queues, Append's first, and syncs them. If it fails, those before the
     /// failed one are truncated.
-    fn cut_both<F: FileSystem, L: Log>(
+    pub(crate) fn cut_both<F: FileSystem, L: Log>(
         &self,
         rt: &L,
         alloc: Global,

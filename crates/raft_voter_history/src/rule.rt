@@ -1,4 +1,4 @@
-//! The rule of a history, and what each step of a pass tells.
+//! The rule of a history, and what each step of a pass says.
 use atomic_table::{Join, Split};
 use crossbeam_utils::atomic::seq_cell::{Pass, RuledSeqCell};
 use crossbeam_utils::rule::{Outcome, Protocol};

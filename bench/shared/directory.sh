@@ -13,7 +13,7 @@ room="$(mktemp -d)"
 folder="$(mktemp -d "${FOLDER:-$PWD}/bench.XXXXXX")"
 trap 'rm -rf "$room" "$folder"' EXIT
 . "$here/../common/build.sh"
-program="${PROGRAM:-$(build_program "$here" "$room" raft_voter raft_voter_shared_log raft_log_engine raft_log_fs_os anyhow log)}"
+program="${PROGRAM:-$(build_program "$here" "$room" raft_voter raft_voter_history raft_voter_shared_log raft_log_engine raft_log_fs_os anyhow log)}"
 cd "$folder"
 for _ in $(seq "$rounds"); do
     for threads; do

@@ -10,3 +10,4 @@ pub mod Right
 pub mod Leading
 pub mod PurgeSteps
 pub mod Failing
+pub mod Kept

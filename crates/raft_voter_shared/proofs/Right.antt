@@ -6,7 +6,7 @@ use Rattle.raft_voter_messages.specs.declared.round.Round.{Round}
 use Rattle.raft_voter_shared.specs.declared.receipt.Receipt.{Receipt}
 use Rattle.raft_voter_shared.specs.Receipts.{IsLeastBelow, IsRight, IsWrongBelow}
 
-module _ (rounds : List Round) (rs : List Receipt) (end : ℕ) (this : Receipt) (is : slice_get rs end ≡ Some this) where
+module _ (first : ℕ) (rounds : List Round) (rs : List Receipt) (end : ℕ) (this : Receipt) (is : slice_get rs end ≡ Some this) where
   -- what is so of those before and of this one is so of one more
   one_more :
       (P : ℕ → Receipt → Type 0) → P end this
@@ -21,9 +21,9 @@ module _ (rounds : List Round) (rs : List Receipt) (end : ℕ) (this : Receipt) 
   ]
 
   pub right_more :
-      (least : Option ℕ) → IsRight rounds rs end this → IsLeastBelow rounds rs end least
-      → IsLeastBelow rounds rs (end + 1) least
-  right_more None right before = one_more (λ i r. IsRight rounds rs i r) right before
+      (least : Option ℕ) → IsRight first rounds rs end this → IsLeastBelow first rounds rs end least
+      → IsLeastBelow first rounds rs (end + 1) least
+  right_more None right before = one_more (λ i r. IsRight first rounds rs i r) right before
   right_more (Some place) right before = record {
     index = before.index;
     receipt = before.receipt;
@@ -31,12 +31,12 @@ module _ (rounds : List Round) (rs : List Receipt) (end : ℕ) (this : Receipt) 
     at = before.at;
     is = before.is;
     wrong = before.wrong;
-    least = one_more (λ i r. r.place < place → IsRight rounds rs i r) (λ lower. right) before.least;
+    least = one_more (λ i r. r.place < place → IsRight first rounds rs i r) (λ lower. right) before.least;
   }
 
   pub first_wrong :
-      (IsRight rounds rs end this → ⊥) → IsLeastBelow rounds rs end None
-      → IsWrongBelow rounds rs (end + 1) this.place
+      (IsRight first rounds rs end this → ⊥) → IsLeastBelow first rounds rs end None
+      → IsWrongBelow first rounds rs (end + 1) this.place
   first_wrong wrong before = record {
     index = end;
     receipt = this;
@@ -44,17 +44,17 @@ module _ (rounds : List Round) (rs : List Receipt) (end : ℕ) (this : Receipt) 
     at = is;
     is = refl;
     wrong = wrong;
-    least = one_more (λ i r. r.place < this.place → IsRight rounds rs i r) (λ lower. absurd (omega arith))
+    least = one_more (λ i r. r.place < this.place → IsRight first rounds rs i r) (λ lower. absurd (omega arith))
         (λ index r below at lower. before index r below at);
   }
 
   pub wrong_more :
-      (place : ℕ) → (IsRight rounds rs end this → ⊥) → IsWrongBelow rounds rs end place
-      → IsWrongBelow rounds rs (end + 1) (min place this.place)
+      (place : ℕ) → (IsRight first rounds rs end this → ⊥) → IsWrongBelow first rounds rs end place
+      → IsWrongBelow first rounds rs (end + 1) (min place this.place)
   wrong_more place wrong before = elim (cases_lt this.place place) [
     | inl lower ↦
         let least : this.place ≡ min place this.place = omega arith in
-        subst (λ (p : ℕ). IsWrongBelow rounds rs (end + 1) p) least
+        subst (λ (p : ℕ). IsWrongBelow first rounds rs (end + 1) p) least
         record {
           index = end;
           receipt = this;
@@ -62,12 +62,12 @@ module _ (rounds : List Round) (rs : List Receipt) (end : ℕ) (this : Receipt) 
           at = is;
           is = refl;
           wrong = wrong;
-          least = one_more (λ i r. r.place < this.place → IsRight rounds rs i r) (λ h. absurd (omega arith))
+          least = one_more (λ i r. r.place < this.place → IsRight first rounds rs i r) (λ h. absurd (omega arith))
               (λ index r below at h. before.least index r below at (omega arith));
         }
     | inr not_lower ↦
         let least : place ≡ min place this.place = omega arith in
-        subst (λ (p : ℕ). IsWrongBelow rounds rs (end + 1) p) least
+        subst (λ (p : ℕ). IsWrongBelow first rounds rs (end + 1) p) least
         record {
           index = before.index;
           receipt = before.receipt;
@@ -75,13 +75,13 @@ module _ (rounds : List Round) (rs : List Receipt) (end : ℕ) (this : Receipt) 
           at = before.at;
           is = before.is;
           wrong = before.wrong;
-          least = one_more (λ i r. r.place < place → IsRight rounds rs i r) (λ h. absurd (omega arith)) before.least;
+          least = one_more (λ i r. r.place < place → IsRight first rounds rs i r) (λ h. absurd (omega arith)) before.least;
         }
   ]
 
 -- where a least place was found a receipt there is wrong
 pub wrong_there :
-    (rounds : List Round) (rs : List Receipt) (end : ℕ) (least : Option ℕ) → IsLeastBelow rounds rs end least
-    → IfSome least (λ place. IsWrongBelow rounds rs end place)
-wrong_there rounds rs end None h = tt
-wrong_there rounds rs end (Some place) h = h
+    (first : ℕ) (rounds : List Round) (rs : List Receipt) (end : ℕ) (least : Option ℕ) → IsLeastBelow first rounds rs end least
+    → IfSome least (λ place. IsWrongBelow first rounds rs end place)
+wrong_there first rounds rs end None h = tt
+wrong_there first rounds rs end (Some place) h = h

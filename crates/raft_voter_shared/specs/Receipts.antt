@@ -1,6 +1,6 @@
 -- A receipt is what a thread gets for a round: the round's position in the journal, its requests and its replies.
--- Which receipts are right for a journal.
-use Rattle.std.specs.Prelude.{◌≡◌, ℕ, ◌<◌, ◌==◌, ◌&&◌, ◌||◌, nat_le, nat_lt, not, Bool, false, List, length, slice_get, Option, None, Some}
+-- Which receipts are right for a journal whose records are kept from place `first` on.
+use Rattle.std.specs.Prelude.{◌≡◌, ℕ, ◌-◌, ◌<◌, ◌≤◌, ◌==◌, ◌&&◌, ◌||◌, nat_le, nat_lt, not, Bool, false, List, length, slice_get, Option, None, Some}
 use Rattle.std.specs.List.{enumerate_from, list_any}
 use Rattle.raft_voter_messages.specs.declared.round.Outcome.TheVariants.{Answered}
 use Rattle.raft_voter_messages.specs.declared.round.Round.{Round}
@@ -10,10 +10,12 @@ use Rattle.raft_voter_shared.specs.declared.receipt.Receipt.{Receipt}
 abbrev pub IsRecordOf : Receipt → Round → Type 0
 IsRecordOf r round = (round.requests ≡ r.requests) × (round.outcome ≡ Answered r.replies)
 
--- the journal has a record at the receipt's `place`, with the receipt's requests and replies
-pub record StandsIn (rounds : List Round) (r : Receipt) : Type 0 where
+-- these records, which are those of the journal from place `first` on, have one at the receipt's `place`, with the
+-- receipt's requests and replies
+pub record StandsIn (first : ℕ) (rounds : List Round) (r : Receipt) : Type 0 where
   pub round : Round
-  pub at : slice_get rounds r.place ≡ Some round
+  pub kept : first ≤ r.place
+  pub at : slice_get rounds (r.place - first) ≡ Some round
   pub is : IsRecordOf r round
 
 -- Receipt `other` contradicts receipt `r`. It has the same `place` in the journal. Or it is an earlier one of the same
@@ -27,37 +29,37 @@ clash r other =
 abbrev pub clashes : List Receipt → ℕ → Receipt → Bool
 clashes receipts index r = list_any (λ other. not (other.0 == index) && clash r other.1) (enumerate_from 0 receipts)
 
--- Receipt `r`, at `index` in the list, is right: its record is in the journal, and no other receipt contradicts it.
-pub record IsRight (rounds : List Round) (receipts : List Receipt) (index : ℕ) (r : Receipt) : Type 0 where
-  pub stands : StandsIn rounds r
+-- Receipt `r`, at `index` in the list, is right: its record is kept, and no other receipt contradicts it.
+pub record IsRight (first : ℕ) (rounds : List Round) (receipts : List Receipt) (index : ℕ) (r : Receipt) : Type 0 where
+  pub stands : StandsIn first rounds r
   pub alone : clashes receipts index r ≡ false
 
 -- each receipt whose index in the list is below `end` is right
-abbrev pub AllRightBelow : List Round → List Receipt → ℕ → Type 0
-AllRightBelow rounds receipts end =
-    (index : ℕ) (r : Receipt) → index < end → slice_get receipts index ≡ Some r → IsRight rounds receipts index r
+abbrev pub AllRightBelow : ℕ → List Round → List Receipt → ℕ → Type 0
+AllRightBelow first rounds receipts end =
+    (index : ℕ) (r : Receipt) → index < end → slice_get receipts index ≡ Some r → IsRight first rounds receipts index r
 
 -- Of the receipts whose index in the list is below `end`, one with this `place` in the journal is wrong. Each with a
 -- lower `place` is right.
-pub record IsWrongBelow (rounds : List Round) (receipts : List Receipt) (end place : ℕ) : Type 0 where
+pub record IsWrongBelow (first : ℕ) (rounds : List Round) (receipts : List Receipt) (end place : ℕ) : Type 0 where
   pub index : ℕ
   pub receipt : Receipt
   pub below : index < end
   pub at : slice_get receipts index ≡ Some receipt
   pub is : receipt.place ≡ place
-  pub wrong : IsRight rounds receipts index receipt → ⊥
+  pub wrong : IsRight first rounds receipts index receipt → ⊥
   pub least : (index : ℕ) (r : Receipt) → index < end → slice_get receipts index ≡ Some r → r.place < place
-      → IsRight rounds receipts index r
+      → IsRight first rounds receipts index r
 
 -- the lowest `place` of a wrong receipt whose index in the list is below `end`; `None` if there is none
-abbrev pub IsLeastBelow : List Round → List Receipt → ℕ → Option ℕ → Type 0
-IsLeastBelow rounds receipts end None = AllRightBelow rounds receipts end
-IsLeastBelow rounds receipts end (Some place) = IsWrongBelow rounds receipts end place
+abbrev pub IsLeastBelow : ℕ → List Round → List Receipt → ℕ → Option ℕ → Type 0
+IsLeastBelow first rounds receipts end None = AllRightBelow first rounds receipts end
+IsLeastBelow first rounds receipts end (Some place) = IsWrongBelow first rounds receipts end place
 
 -- each of these receipts is right
-abbrev pub AllRight : List Round → List Receipt → Type 0
-AllRight rounds receipts = AllRightBelow rounds receipts (length receipts)
+abbrev pub AllRight : ℕ → List Round → List Receipt → Type 0
+AllRight first rounds receipts = AllRightBelow first rounds receipts (length receipts)
 
 -- `place` is the lowest one of a wrong receipt among these
-abbrev pub IsLeastWrong : List Round → List Receipt → ℕ → Type 0
-IsLeastWrong rounds receipts place = IsWrongBelow rounds receipts (length receipts) place
+abbrev pub IsLeastWrong : ℕ → List Round → List Receipt → ℕ → Type 0
+IsLeastWrong first rounds receipts place = IsWrongBelow first rounds receipts (length receipts) place

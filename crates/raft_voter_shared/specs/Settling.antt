@@ -1,6 +1,12 @@
--- When a shared store can be settled: all seats are handed in, and all receipts are right.
-use Rattle.std.specs.Prelude.{◌≡◌, ◌≢◌, ℕ, List, Option, None, Some}
+-- When a shared store can be settled: all seats are handed in, and all receipts are right. What is so then.
+use Rattle.std.specs.Prelude.{◌≡◌, ◌≢◌, ℕ, ◌+◌, ◌≤◌, ◌++◌, Bool, true, false, is_some, List, drop, length, Option, None, Some}
 use Rattle.raft_voter_messages.specs.declared.round.Round.{Round}
+use Rattle.raft_voter.specs.Rounds.{World}
+use Rattle.raft_voter.specs.Service.{IsOpenAt, Service}
+use Rattle.raft_voter_shared.specs.Failing.{CameToFailAs}
+use Rattle.raft_voter_shared.specs.Journal.{IsLegal, reached}
+use Rattle.raft_voter_shared.specs.Standing.{is_last, standing}
+use Rattle.raft_voter_shared.specs.declared.failure.Failure.{Failure}
 use Rattle.raft_voter_shared.specs.declared.receipt.Receipt.{Receipt}
 use Rattle.raft_voter_shared.specs.declared.settled.SettleCause.{SettleCause}
 use Rattle.raft_voter_shared.specs.declared.settled.SettleCause.TheVariants as causes
@@ -8,11 +14,36 @@ use Rattle.raft_voter_shared.specs.Receipts.{AllRight, IsLeastWrong}
 
 -- Why the store can't be settled. `SeatCount`: the seats don't have all parts of the ledger, as `parts` isn't `all`.
 -- `Receipt place`: they have all, and `place` is the lowest one of a wrong receipt.
-abbrev pub IsCause : List Round → ℕ → ℕ → List Receipt → SettleCause → Type 0
-IsCause rounds all parts receipts causes.SeatCount = parts ≢ all
-IsCause rounds all parts receipts (causes.Receipt place) = (parts ≡ all) × IsLeastWrong rounds receipts place
+abbrev pub IsCause : ℕ → List Round → ℕ → ℕ → List Receipt → SettleCause → Type 0
+IsCause first rounds all parts receipts causes.SeatCount = parts ≢ all
+IsCause first rounds all parts receipts (causes.Receipt place) = (parts ≡ all) × IsLeastWrong first rounds receipts place
 
 -- `None` if the seats have all parts of the ledger and each receipt is right; otherwise the cause why not
-abbrev pub SettlesUnless : List Round → ℕ → ℕ → List Receipt → Option SettleCause → Type 0
-SettlesUnless rounds all parts receipts None = (parts ≡ all) × AllRight rounds receipts
-SettlesUnless rounds all parts receipts (Some cause) = IsCause rounds all parts receipts cause
+abbrev pub SettlesUnless : ℕ → List Round → ℕ → ℕ → List Receipt → Option SettleCause → Type 0
+SettlesUnless first rounds all parts receipts None = (parts ≡ all) × AllRight first rounds receipts
+SettlesUnless first rounds all parts receipts (Some cause) = IsCause first rounds all parts receipts cause
+
+-- the history begins with the records that were taken from the journal
+abbrev pub HasTaken : List Round → List Round → Type 0
+HasTaken history taken = (later : List Round) × (history ≡ taken ++ later)
+
+-- A store was settled. It served voters of `served` when it was shared. The seats counted `turns` records.
+-- - `history`: there is a history of its rounds. `begins`: it begins with the records that were taken from the journal.
+-- - `kept`, `whole`: those from place `first` on are kept.
+-- - `legal`, `last`: the history is legal. If the store failed in rounds, it and all later ones were cut off.
+-- - `serves`: unless it failed, the store serves the voters after the history. `left`: a crash leaves these.
+-- - `cause`, `why`: if it failed while it was shared, it is known how, and a file call failed.
+pub record IsSettled {S : Type 0} (v : Service S) (served : World → Type 0) (had_failed : Bool) (turns : ℕ) (taken : List Round)
+    (store : S) (first : ℕ) (rounds : List Round) (failure : Option Failure) (calls : ℕ) : Type 0 where
+  pub history : List Round
+  pub begins : HasTaken history taken
+  pub kept : drop first history ≡ rounds
+  pub whole : first + length rounds ≡ length history
+  pub count : length history ≡ turns
+  pub legal : (W : World) → served W → IsLegal W history
+  pub few : calls ≤ length history
+  pub serves : (W : World) → served W → v.is_failed store ≡ false → ∥ IsOpenAt v store (reached W history) ∥₁
+  pub left : (W : World) → served W → ∥ v.leaves store (standing W history failure) ∥₁
+  pub last : is_last failure history ≡ true
+  pub cause : v.is_failed store ≡ true → had_failed ≡ false → is_some failure ≡ true
+  pub why : (W : World) → served W → CameToFailAs v failure (standing W history failure) store

@@ -1,5 +1,5 @@
 //! What only one caller at a time works with.
-ghost use Rattle.std.specs.Prelude.{◌≡◌, ◌≤◌, [], false, true, is_some, length, None};
+ghost use Rattle.std.specs.Prelude.{◌≡◌, ◌<◌, ◌≤◌, [], false, true, is_some, length, sum_by, None};
 ghost use Rattle.raft_voter.specs.Rounds.{World};
 ghost use Rattle.raft_voter.specs.Service.{IsOpenAt};
 ghost use Rattle.raft_voter_shared.specs.Failing.{CameToFailAs};
@@ -9,6 +9,7 @@ ghost use Rattle.raft_voter_shared.specs.Standing.{is_last, standing};
 use crate::done::{Done, fetch};
 use crate::failure::{Failure, failure_behind, failure_in_purge};
 use crate::hall::Hall;
+use crate::journal::Journal;
 use crate::maintenance::Maintenance;
 use crate::merged_round::MergedRound;
 use crate::opening::Opening;
@@ -17,10 +18,13 @@ use crate::receipts::least_wrong;
 use crate::records::{hand_out, note_answers, note_cuts, refuse_all};
 use crate::seat::{Seat, have_all, merged};
 use crate::settled::{SettleCause, Settled};
+use crate::taken::Taken;
 use crate::ticket::Ticket;
 use raft_voter::{Round, RoundFault, RoundService};
+use raft_voter_history::{History, Keeper};
 use std::alloc::Global;
 use std::marker::PhantomData;
+use std::sync::Wait;
 use std::sync::ledger::Book;
 
 /// The store, the journal of the rounds that it served, how it failed, and the ledger's book, which counts the records.
@@ -38,44 +42,51 @@ use std::sync::ledger::Book;
 pub struct Desk<R, S: RoundService<R>, L: Opening> {
     alloc: Global,
     store: S,
-    journal: Vec<Round>,
+    journal: Journal<L>,
     failure: Option<Failure>,
     book: Book<L>,
     done: Vec<Done<L>>,
     together: usize,
     calls: usize,
     runtime: PhantomData<R>,
-    ghost counted: { length journal.items ≡ book.total },
-    ghost fewer: { calls ≤ length journal.items },
-    ghost legal: { (W : World) → L.served W → IsLegal W journal.items },
+    ghost counted: { length journal.history ≡ book.total },
+    ghost fewer: { calls ≤ length journal.history },
+    ghost legal: { (W : World) → L.served W → IsLegal W journal.history },
     ghost serves: { (W : World) → L.served W → S.service.is_failed store ≡ false
-        → ∥ IsOpenAt S.service store (reached W journal.items) ∥₁ },
+        → ∥ IsOpenAt S.service store (reached W journal.history) ∥₁ },
     ghost left: { (W : World) → L.served W
-        → ∥ S.service.leaves store (standing W journal.items failure) ∥₁ },
+        → ∥ S.service.leaves store (standing W journal.history failure) ∥₁ },
     ghost alive: { S.service.is_failed store ≡ false → failure ≡ None },
-    ghost last: { is_last failure journal.items ≡ true },
+    ghost last: { is_last failure journal.history ≡ true },
     ghost cause: { S.service.is_failed store ≡ true → L.had_failed ≡ false → is_some failure ≡ true },
     ghost why: { (W : World) → L.served W
-        → CameToFailAs S.service failure (standing W journal.items failure) store },
+        → CameToFailAs S.service failure (standing W journal.history failure) store },
 }
 
 impl<R, S: RoundService<R>, L: Opening> Desk<R, S, L> {
-    ghost use Rattle.std.specs.Prelude.{◌==◌, ◌<◌, ◌++◌, nat_lt, map, sum_by, IfErr, IfSome, OnOk};
+    ghost use Rattle.std.specs.Prelude.{◌==◌, ◌-◌, ◌++◌, nat_lt, map, IfErr, IfSome, OnOk};
     ghost use Rattle.raft_voter_shared.specs.Noting.{GivesNoReplies, NotesAnswered};
-    ghost use Rattle.raft_voter_shared.specs.Settling.{SettlesUnless};
+    ghost use Rattle.raft_voter_shared.specs.Settling.{IsSettled, SettlesUnless};
 
-    /// Returns a desk with an empty journal.
-    pub fn new(alloc: Global, store: S, book: Book<L>) -> Desk<R, S, L>
+    /// Returns a desk with an empty journal, which keeps its records in memory or not.
+    pub fn new(
+        alloc: Global,
+        store: S,
+        book: Book<L>,
+        history: Keeper<L>,
+        keeps: bool,
+    ) -> Desk<R, S, L>
+        requires empty { history ≡ [] }
         requires served { (W : World) → L.served W → ∥ IsOpenAt S.service store W ∥₁ }
         requires failed { L.had_failed ≡ S.service.is_failed store }
         requires unused { book.total ≡ 0 }
         ensures store { result.store ≡ store }
-        ensures journal { result.journal.items ≡ [] }
+        ensures journal { result.journal.history ≡ [] }
     {
         Desk {
             alloc,
             store,
-            journal: Vec::new(alloc),
+            journal: Journal::new(alloc, history, keeps),
             failure: None,
             book,
             done: Vec::new(alloc),
@@ -83,6 +94,21 @@ impl<R, S: RoundService<R>, L: Opening> Desk<R, S, L> {
             calls: 0,
             runtime: PhantomData,
         }
+    }
+
+    /// Returns the records that the journal keeps.
+    pub fn kept(&self) -> &[Round]
+        ensures { result.now ≡ self.now.journal.kept.items }
+    {
+        self.journal.kept()
+    }
+
+    /// Returns the claim that no records were taken from the journal yet.
+    pub fn none_taken(&mut self, history: &History<L>) -> Taken<L>
+        ensures taken { result ≡ [] }
+        ensures same { (self.new.store ≡ self.old.store) × (self.new.journal.history ≡ self.old.journal.history) }
+    {
+        self.journal.none_taken(history)
     }
 
     /// Whether the hall has taken over all answers.
@@ -105,15 +131,22 @@ impl<R, S: RoundService<R>, L: Opening> Desk<R, S, L> {
     ///
     /// Fails with `Cut` and the place of the first record if the rounds were cut off. Fails with `Memory` if there is no
     /// memory for the records; then nothing was taken, and each caller's answer is `Memory`.
-    pub fn serve(&mut self, rt: &R, merged: MergedRound<L>) -> Result<(), SharedFault>
+    pub fn serve(
+        &mut self,
+        rt: &R,
+        history: &History<L>,
+        merged: MergedRound<L>,
+    ) -> Result<(), SharedFault>
+    where
+        R: Wait,
         requires some { 0 < length merged.parts.items }
         requires cleared { length self.old.done.items ≡ 0 }
         ensures ok { OnOk result (NotesAnswered S.service (map (λ part. part.ticket.count) merged.parts.items)
-            merged.asked.items self.old.store self.old.journal.items self.new.store self.new.journal.items
+            merged.asked.items self.old.store self.old.journal.history self.new.store self.new.journal.history
             (map (λ done. done.answer) self.new.done.items)) }
         ensures err { IfErr result (λ fault. GivesNoReplies S.service fault
             (map (λ part. part.ticket.count) merged.parts.items) merged.asked.items
-            self.old.store self.old.journal.items self.new.store self.new.journal.items
+            self.old.store self.old.journal.history self.new.store self.new.journal.history
             (map (λ done. done.answer) self.new.done.items)) }
         ensures whose { map (λ done. done.ticket) self.new.done.items
             ≡ map (λ part. part.ticket) merged.parts.items }
@@ -148,12 +181,24 @@ impl<R, S: RoundService<R>, L: Opening> Desk<R, S, L> {
                 let mut told = replies.into_vec();
                 told.truncate(asked.len());
                 let (noted, handed) = hand_out(*alloc, told, noted, handed);
-                *answers = note_answers(journal, book, parts, asked, noted, handed, done);
+                *answers = note_answers(
+                    rt, history, journal, book, parts, asked, noted, handed, done,
+                );
                 Ok(())
             }
             Err(fault) => {
                 let RoundFault { refused, cause } = fault;
-                *answers = note_cuts(journal, book, cause, parts, asked, refused.as_slice(), done);
+                *answers = note_cuts(
+                    rt,
+                    history,
+                    journal,
+                    book,
+                    cause,
+                    parts,
+                    asked,
+                    refused.as_slice(),
+                    done,
+                );
                 *failure = failure_behind(cause, first, journal.len(), *failure);
                 Err(SharedFault::Cut {
                     place: first,
@@ -179,31 +224,47 @@ impl<R, S: RoundService<R>, L: Opening> Desk<R, S, L> {
         hall.take_over(&mut self.done);
     }
 
+    /// Removes the records that the journal keeps and returns them, if they follow those that were taken before.
+    pub fn take(&mut self, history: &History<L>, taken: &mut Taken<L>) -> Vec<Round>
+        ensures taken { taken.new ≡ taken.old ++ result.items }
+        ensures same { (self.new.store ≡ self.old.store) × (self.new.journal.history ≡ self.old.journal.history) }
+    {
+        self.journal.take(history, taken)
+    }
+
     /// Returns why these seats and receipts can't settle the store, which has a ledger of this many parts, or `None` if
-    /// they can. Checks the seats first.
+    /// they can. Checks the seats first, and receipts against the records that the journal keeps.
     pub fn fault(&self, parts: u64, seats: &[Seat<L>], receipts: &[Receipt]) -> Option<SettleCause>
         requires { parts ≡ L.all }
-        ensures { SettlesUnless self.now.journal.items L.all (sum_by (λ seat. seat.parts) seats.now)
-            receipts.now result }
+        ensures { SettlesUnless (length self.now.journal.history - length self.now.journal.kept.items)
+            self.now.journal.kept.items L.all (sum_by (λ seat. seat.parts) seats.now) receipts.now result }
     {
         if !have_all(seats, parts) {
             return Some(SettleCause::SeatCount);
         }
-        match least_wrong(self.journal.as_slice(), receipts) {
+        match least_wrong(self.journal.first(), self.journal.kept(), receipts) {
             Some(place) => Some(SettleCause::Receipt(place)),
             None => None,
         }
     }
 
-    /// Returns the store and the journal. All seats must be there; the journal has as many records as they count.
-    pub fn close(self, seats: Vec<Seat<L>>) -> Settled<S>
+    /// Returns the store and the records that the journal keeps. All seats must be there; the history has as many records
+    /// as they count, and begins with those that were taken.
+    pub fn close(
+        self,
+        rt: &R,
+        history: &History<L>,
+        taken: Taken<L>,
+        seats: Vec<Seat<L>>,
+    ) -> Settled<S>
+    where
+        R: Wait,
         requires all { sum_by (λ seat. seat.parts) seats.items ≡ L.parts }
         requires some { 0 < L.parts }
-        ensures store { result.store ≡ self.store }
-        ensures journal { result.journal ≡ self.journal }
-        ensures failure { result.failure ≡ self.failure }
-        ensures calls { result.calls ≤ length result.journal.items }
-        ensures count { length result.journal.items ≡ sum_by (λ seat. seat.turn) seats.items }
+        ensures settled { IsSettled S.service L.served L.had_failed (sum_by (λ seat. seat.turn) seats.items) taken
+            result.store result.first result.journal.items result.failure result.calls }
+        ensures kept { result.journal.items ≡ self.journal.kept.items }
+        ensures first { result.first ≡ length self.journal.history - length self.journal.kept.items }
     {
         let Desk {
             alloc: _,
@@ -216,11 +277,11 @@ impl<R, S: RoundService<R>, L: Opening> Desk<R, S, L> {
             calls,
             runtime: _,
         } = self;
-        if let Some(mut whole) = merged(seats) {
-            book.audit(&mut whole);
-        }
+        count_all(&mut book, seats);
+        let (first, journal) = journal.close(rt, history, taken);
         Settled {
             store,
+            first,
             journal,
             failure,
             calls,
@@ -252,5 +313,16 @@ impl<R, S: Maintenance<R>, L: Opening> Desk<R, S, L> {
         let purged = store.maintain(rt);
         *failure = failure_in_purge(before, store.is_failed(), *failure);
         purged
+    }
+}
+
+/// Compares the book with the shares of all seats: they count as many records.
+fn count_all<L: Opening>(book: &mut Book<L>, seats: Vec<Seat<L>>)
+    requires all { sum_by (λ seat. seat.parts) seats.items ≡ L.parts }
+    requires some { 0 < L.parts }
+    ensures { book.old.total ≡ sum_by (λ seat. seat.turn) seats.items }
+{
+    if let Some(mut whole) = merged(seats) {
+        book.audit(&mut whole);
     }
 }

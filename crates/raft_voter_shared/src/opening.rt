@@ -1,9 +1,10 @@
 //! The state of a store when it was shared.
+use raft_voter_history::Named;
 use std::marker::Brand;
 use std::sync::ledger::Ledger;
 
-/// Names the ledger of a shared store, and the state of the store when it was shared.
-pub trait Opening: Ledger {
+/// Names the ledger and the history of a shared store, and the state of the store when it was shared.
+pub trait Opening: Ledger + Named {
     ghost use Rattle.std.specs.Prelude.{ℕ, Bool};
     ghost use Rattle.raft_voter.specs.Rounds.{World};
 

@@ -7,30 +7,31 @@ use crate::receipt::Receipt;
 use raft_voter::{Items, Outcome, Reply, Request, Round};
 
 /// Returns the least place at which a receipt isn't right, or `None` if all are right.
-pub fn least_wrong(journal: &[Round], receipts: &[Receipt]) -> Option<usize>
-    ensures none { result ≡ None → AllRight journal.now receipts.now }
-    ensures some { IfSome result (λ place. IsLeastWrong journal.now receipts.now place) }
+pub fn least_wrong(first: usize, journal: &[Round], receipts: &[Receipt]) -> Option<usize>
+    ensures none { result ≡ None → AllRight first journal.now receipts.now }
+    ensures some { IfSome result (λ place. IsLeastWrong first journal.now receipts.now place) }
 {
     let mut least: Option<usize> = None;
     for index in 0..receipts.len() {
-        least = lesser(journal, receipts, index, least);
+        least = lesser(first, journal, receipts, index, least);
     }
     least
 }
 
 /// Returns the least place so far at which a receipt isn't right, after also checking the receipt at this index.
 fn lesser(
+    first: usize,
     journal: &[Round],
     receipts: &[Receipt],
     index: usize,
     least: Option<usize>,
 ) -> Option<usize>
     requires { index < length receipts.now }
-    ensures { IsLeastBelow journal.now receipts.now index least
-        → IsLeastBelow journal.now receipts.now (index + 1) result }
+    ensures { IsLeastBelow first journal.now receipts.now index least
+        → IsLeastBelow first journal.now receipts.now (index + 1) result }
 {
     let receipt = &receipts[index];
-    if is_right(journal, receipts, index, receipt) {
+    if is_right(first, journal, receipts, index, receipt) {
         return least;
     }
     match least {
@@ -40,17 +41,26 @@ fn lesser(
 }
 
 /// Whether the receipt at an index is right.
-fn is_right(journal: &[Round], receipts: &[Receipt], index: usize, receipt: &Receipt) -> bool
-    ensures { Decides result (IsRight journal.now receipts.now index receipt.now) }
+fn is_right(
+    first: usize,
+    journal: &[Round],
+    receipts: &[Receipt],
+    index: usize,
+    receipt: &Receipt,
+) -> bool
+    ensures { Decides result (IsRight first journal.now receipts.now index receipt.now) }
 {
-    stands_in(journal, receipt) && !clashes(receipts, index, receipt)
+    stands_in(first, journal, receipt) && !clashes(receipts, index, receipt)
 }
 
 /// Whether a receipt's record is at its place in the journal.
-fn stands_in(journal: &[Round], receipt: &Receipt) -> bool
-    ensures { Decides result (StandsIn journal.now receipt.now) }
+fn stands_in(first: usize, journal: &[Round], receipt: &Receipt) -> bool
+    ensures { Decides result (StandsIn first journal.now receipt.now) }
 {
-    match journal.get(receipt.place) {
+    if receipt.place < first {
+        return false;
+    }
+    match journal.get(receipt.place - first) {
         Some(round) => is_record_of(receipt, round),
         None => false,
     }

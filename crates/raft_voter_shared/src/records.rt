@@ -1,5 +1,5 @@
 //! Records of rounds that were served together, and the answers to their callers.
-ghost use Rattle.std.specs.Prelude.{◌≡◌, ◌+◌, ◌≤◌, ◌++◌, [], true, length, map, sum_by, vec_capacity, vec_len, Err};
+ghost use Rattle.std.specs.Prelude.{◌≡◌, ◌+◌, ◌<◌, ◌≤◌, ◌^◌, ◌++◌, [], true, length, map, sum_by, vec_capacity, vec_len, Err};
 ghost use Rattle.std.specs.List.{All, AllZip};
 ghost use Rattle.raft_voter.specs.Rounds.{are_rising};
 ghost use Rattle.raft_voter_shared.specs.Handing.{HandsOut};
@@ -9,10 +9,13 @@ ghost use Rattle.raft_voter_shared.specs.declared.receipt.SharedFault.TheVariant
 use crate::copies::copy_reply;
 use crate::done::Done;
 use crate::job::Part;
+use crate::journal::Journal;
 use crate::opening::Opening;
-use raft_voter::{Cause, Reply, Request, Round};
+use raft_voter::{Cause, Reply, Request};
+use raft_voter_history::History;
 use std::alloc::Global;
 use std::collections::VecDeque;
+use std::sync::Wait;
 use std::sync::ledger::Book;
 
 /// Returns the replies for the records and for the callers, which are the same. There must be room for both.
@@ -49,8 +52,10 @@ fn twice(alloc: Global, reply: Reply) -> (Reply, Reply)
 
 /// Appends the records of rounds with these requests and replies to the journal, which has room for them, and returns
 /// the answers to their callers. There must be room for these too.
-pub fn note_answers<L: Opening>(
-    journal: &mut Vec<Round>,
+pub fn note_answers<L: Opening, R: Wait>(
+    rt: &R,
+    history: &History<L>,
+    journal: &mut Journal<L>,
     book: &mut Book<L>,
     parts: Vec<Part<L>>,
     asked: Vec<(u64, Request)>,
@@ -58,16 +63,17 @@ pub fn note_answers<L: Opening>(
     handed: Vec<Reply>,
     room: Vec<Done<L>>,
 ) -> Vec<Done<L>>
-    requires counted { length journal.old.items ≡ book.old.total }
-    requires journal { vec_len journal.old + length parts.items ≤ vec_capacity journal.old }
+    requires counted { length journal.old.history ≡ book.old.total }
+    requires journal { vec_len journal.old.kept + length parts.items ≤ vec_capacity journal.old.kept }
+    requires more { length journal.old.history + length parts.items < 2 ^ 64 }
     requires room { (room.items ≡ []) × (length parts.items ≤ vec_capacity room) }
     requires short { All (λ part. part.ticket.count ≤ 4096) parts.items }
     requires same { noted.items ≡ handed.items }
-    ensures counted { length journal.new.items ≡ book.new.total }
-    ensures journal { journal.new.items ≡ journal.old.items
+    ensures counted { length journal.new.history ≡ book.new.total }
+    ensures journal { journal.new.history ≡ journal.old.history
         ++ answered_each (map (λ part. part.ticket.count) parts.items) asked.items noted.items }
     ensures answers { map (λ done. done.answer) result.items
-        ≡ told_each (length journal.old.items) (map (λ part. part.ticket.count) parts.items) noted.items }
+        ≡ told_each (length journal.old.history) (map (λ part. part.ticket.count) parts.items) noted.items }
     ensures whose { map (λ done. done.ticket) result.items ≡ map (λ part. part.ticket) parts.items }
 {
     let mut done = room;
@@ -78,7 +84,7 @@ pub fn note_answers<L: Opening>(
     while let Some(part) = parts.pop_front() {
         let place = journal.len();
         let (round, answer) = part.answered(book, place, &mut asked, &mut noted, &mut handed);
-        journal.push_reserved(round);
+        journal.note(rt, history, round);
         done.push_reserved(answer);
     }
     done
@@ -87,8 +93,10 @@ pub fn note_answers<L: Opening>(
 /// Appends the records of rounds that were cut off together for this cause to the journal, which has room for them, and
 /// returns the answers to their callers. There must be room for these too. `refused` has the refused places of all
 /// their requests.
-pub fn note_cuts<L: Opening>(
-    journal: &mut Vec<Round>,
+pub fn note_cuts<L: Opening, R: Wait>(
+    rt: &R,
+    history: &History<L>,
+    journal: &mut Journal<L>,
     book: &mut Book<L>,
     cause: Cause,
     parts: Vec<Part<L>>,
@@ -96,17 +104,18 @@ pub fn note_cuts<L: Opening>(
     refused: &[usize],
     room: Vec<Done<L>>,
 ) -> Vec<Done<L>>
-    requires counted { length journal.old.items ≡ book.old.total }
-    requires journal { vec_len journal.old + length parts.items ≤ vec_capacity journal.old }
+    requires counted { length journal.old.history ≡ book.old.total }
+    requires journal { vec_len journal.old.kept + length parts.items ≤ vec_capacity journal.old.kept }
+    requires more { length journal.old.history + length parts.items < 2 ^ 64 }
     requires room { (room.items ≡ []) × (length parts.items ≤ vec_capacity room) }
     requires cause { All (λ part. may_cut cause part.ticket.count ≡ true) parts.items }
     requires all { sum_by (λ part. part.ticket.count) parts.items ≡ length asked.items }
     requires rising { are_rising 0 (length asked.items) refused.now ≡ true }
-    ensures counted { length journal.new.items ≡ book.new.total }
-    ensures journal { journal.new.items ≡ journal.old.items
+    ensures counted { length journal.new.history ≡ book.new.total }
+    ensures journal { journal.new.history ≡ journal.old.history
         ++ cut_each 0 (map (λ part. part.ticket.count) parts.items) asked.items refused.now }
     ensures answers { map (λ done. done.answer) result.items
-        ≡ cut_told (length journal.old.items) cause (map (λ part. part.ticket.count) parts.items) }
+        ≡ cut_told (length journal.old.history) cause (map (λ part. part.ticket.count) parts.items) }
     ensures whose { map (λ done. done.ticket) result.items ≡ map (λ part. part.ticket) parts.items }
 {
     let mut told = room;
@@ -117,7 +126,7 @@ pub fn note_cuts<L: Opening>(
         let place = journal.len();
         let count = part.ticket.count;
         let (round, answer) = part.cut_off(book, place, cause, &mut asked, refused, start);
-        journal.push_reserved(round);
+        journal.note(rt, history, round);
         told.push_reserved(answer);
         start += count;
     }

@@ -3,7 +3,8 @@ use crate::failure::Failure;
 use crate::opening::Opening;
 use crate::receipt::Receipt;
 use crate::seat::Seat;
-use crate::shared::SharedStore;
+use crate::taken::Taken;
+use crate::unsettled::Unsettled;
 use raft_voter::{Round, RoundService};
 
 /// A shared store after it was settled.
@@ -11,7 +12,10 @@ use raft_voter::{Round, RoundService};
 pub struct Settled<S> {
     /// The store.
     pub store: S,
-    /// The rounds that the store served or cut off, in order, with their outcomes.
+    /// The place of the first record that the journal kept, counted from 0. Without a journal it is the number of all
+    /// records.
+    pub first: usize,
+    /// The records that it kept: the rounds that the store served or cut off, in order, with their outcomes.
     pub journal: Vec<Round>,
     /// How the store failed while it was shared, if it did.
     pub failure: Option<Failure>,
@@ -24,8 +28,8 @@ pub struct Settled<S> {
 pub enum SettleCause {
     /// The seats together don't have all parts of the ledger: some seats are missing.
     SeatCount,
-    /// A receipt is wrong at this place, the least such place. Its record isn't there, another receipt has the same
-    /// place, or another receipt of its seat has a lower turn and a place that isn't lower.
+    /// A receipt is wrong at this place, the least such place. Its record isn't kept there, another receipt has the
+    /// same place, or another receipt of its seat has a lower turn and a place that isn't lower.
     Receipt(usize),
 }
 
@@ -34,8 +38,10 @@ pub enum SettleCause {
 pub struct SettleFault<R, S: RoundService<R>, L: Opening> {
     /// The cause.
     pub cause: SettleCause,
-    /// The shared store, unchanged.
-    pub store: SharedStore<R, S, L>,
+    /// The store, unchanged.
+    pub store: Unsettled<R, S, L>,
+    /// The records that were taken from the journal.
+    pub taken: Taken<L>,
     /// The seats.
     pub seats: Vec<Seat<L>>,
     /// The receipts.

@@ -15,8 +15,11 @@ use crate::opening::Opening;
 use crate::receipt::{Receipt, SharedFault};
 use crate::seat::Seat;
 use crate::settled::{SettleFault, Settled};
+use crate::taken::Taken;
 use crate::ticket::Ticket;
-use raft_voter::{Items, Memory, Request, RoundService};
+use crate::unsettled::Unsettled;
+use raft_voter::{Items, Memory, Request, Round, RoundService};
+use raft_voter_history::{FreshHistory, History};
 use std::alloc::Global;
 use std::sync::ledger::Blank;
 use std::sync::{Condvar, Mutex, Wait};
@@ -30,29 +33,74 @@ use std::thread;
 /// takes both locks takes that of the desk first.
 #[derive(Drop)]
 pub struct SharedStore<R, S: RoundService<R>, L: Opening> {
-    alloc: Global,
-    hall: Mutex<Hall<L>>,
-    moved: Condvar,
-    desk: Mutex<Desk<R, S, L>>,
-    parts: u64,
+    pub(crate) alloc: Global,
+    pub(crate) history: History<L>,
+    pub(crate) hall: Mutex<Hall<L>>,
+    pub(crate) moved: Condvar,
+    pub(crate) desk: Mutex<Desk<R, S, L>>,
+    pub(crate) parts: u64,
     ghost all: { parts ≡ L.all },
     ghost some: { 0 < parts },
 }
 
 impl<R, S: RoundService<R>, L: Opening> SharedStore<R, S, L> {
-    ghost use Rattle.std.specs.Prelude.{◌+◌, ◌≤◌, false, true, is_some, sum_by, List, OnOk};
-    ghost use Rattle.raft_voter_messages.specs.declared.round.Round.{Round};
-    ghost use Rattle.raft_voter_shared.specs.Failing.{CameToFailAs};
-    ghost use Rattle.raft_voter_shared.specs.Journal.{IsLegal, reached};
+    ghost use Rattle.std.specs.Prelude.{◌+◌, ◌-◌, ◌≤◌, ◌++◌, [], sum_by, OnOk};
+    ghost use Rattle.raft_voter_history.specs.Names.{id_of};
     ghost use Rattle.raft_voter_shared.specs.Noting.{records_of, ToldOfLength};
     ghost use Rattle.raft_voter_shared.specs.Receipts.{AllRight};
-    ghost use Rattle.raft_voter_shared.specs.Standing.{is_last, standing};
-    ghost use Rattle.raft_voter_shared.specs.Settling.{IsCause};
+    ghost use Rattle.raft_voter_shared.specs.Settling.{IsCause, IsSettled};
 
     /// Shares a store, and returns the first seat, which has all parts of the ledger. The store must serve the voters
-    /// that the opening names.
-    pub fn new(alloc: Global, store: S, blank: Blank, parts: u64) -> (SharedStore<R, S, L>, Seat<L>)
-        requires name { blank.name ≡ L.name }
+    /// that the opening names. No records are kept in memory: the history of the rounds exists in proofs alone.
+    pub fn new(
+        alloc: Global,
+        store: S,
+        blank: Blank,
+        fresh: FreshHistory,
+        parts: u64,
+    ) -> (SharedStore<R, S, L>, Seat<L>)
+        requires name { (blank.name ≡ L.name) × (id_of fresh ≡ L.history) }
+        requires parts { (blank.parts ≡ parts) × (L.parts ≡ parts) × (L.all ≡ parts) }
+        requires some { 0 < parts }
+        requires served { (W : World) → L.served W → ∥ IsOpenAt S.service store W ∥₁ }
+        requires failed { L.had_failed ≡ S.service.is_failed store }
+        ensures parts { result.1.parts ≡ parts }
+        ensures number { result.1.number ≡ 0 }
+        ensures turn { result.1.turn ≡ 0 }
+    {
+        SharedStore::opened(alloc, store, blank, fresh, parts, false)
+    }
+
+    /// Shares a store as `new` does, with a journal: each record is kept in memory until `take_journal` removes it.
+    pub fn with_journal(
+        alloc: Global,
+        store: S,
+        blank: Blank,
+        fresh: FreshHistory,
+        parts: u64,
+    ) -> (SharedStore<R, S, L>, Seat<L>)
+        requires name { (blank.name ≡ L.name) × (id_of fresh ≡ L.history) }
+        requires parts { (blank.parts ≡ parts) × (L.parts ≡ parts) × (L.all ≡ parts) }
+        requires some { 0 < parts }
+        requires served { (W : World) → L.served W → ∥ IsOpenAt S.service store W ∥₁ }
+        requires failed { L.had_failed ≡ S.service.is_failed store }
+        ensures parts { result.1.parts ≡ parts }
+        ensures number { result.1.number ≡ 0 }
+        ensures turn { result.1.turn ≡ 0 }
+    {
+        SharedStore::opened(alloc, store, blank, fresh, parts, true)
+    }
+
+    /// Shares a store whose journal keeps its records in memory or not.
+    fn opened(
+        alloc: Global,
+        store: S,
+        blank: Blank,
+        fresh: FreshHistory,
+        parts: u64,
+        keeps: bool,
+    ) -> (SharedStore<R, S, L>, Seat<L>)
+        requires name { (blank.name ≡ L.name) × (id_of fresh ≡ L.history) }
         requires parts { (blank.parts ≡ parts) × (L.parts ≡ parts) × (L.all ≡ parts) }
         requires some { 0 < parts }
         requires served { (W : World) → L.served W → ∥ IsOpenAt S.service store W ∥₁ }
@@ -62,11 +110,13 @@ impl<R, S: RoundService<R>, L: Opening> SharedStore<R, S, L> {
         ensures turn { result.1.turn ≡ 0 }
     {
         let (book, share) = blank.open::<L>();
+        let (history, keeper) = fresh.named::<L>();
         let shared = SharedStore {
             alloc,
+            history,
             hall: Mutex::new(Hall::new(alloc)),
             moved: Condvar::new(),
-            desk: Mutex::new(Desk::new(alloc, store, book)),
+            desk: Mutex::new(Desk::new(alloc, store, book, keeper, keeps)),
             parts,
         };
         (shared, Seat::first(share, parts))
@@ -198,7 +248,7 @@ impl<R, S: RoundService<R>, L: Opening> SharedStore<R, S, L> {
                 thread::yield_now();
             }
             if let Some(merged) = self.next(rt) {
-                let _outcome = desk.serve(rt, merged);
+                let _outcome = desk.serve(rt, &self.history, merged);
             }
         }
         let answer = desk.fetch(ticket);
@@ -230,43 +280,55 @@ impl<R, S: RoundService<R>, L: Opening> SharedStore<R, S, L> {
         self.moved.notify_all();
     }
 
-    /// Returns the store and its journal, given all seats. For any voters that the store served when it was shared, the
-    /// journal is a legal history of them. It has as many records as the seats counted, and each receipt's record is in
-    /// it at its own place.
+    /// Returns what `take_journal` begins with: no records were taken yet.
+    pub fn none_taken(&self, rt: &R) -> Taken<L>
+    where
+        R: Wait,
+        ensures { result ≡ [] }
+    {
+        self.desk.lock(rt).none_taken(&self.history)
+    }
+
+    /// Removes the records that the journal keeps and returns them, while threads serve. They follow those that were taken
+    /// before, and are added to these. If others were removed by another `Taken`, nothing is removed.
+    pub fn take_journal(&self, rt: &R, taken: &mut Taken<L>) -> Vec<Round>
+    where
+        R: Wait,
+        ensures { taken.new ≡ taken.old ++ result.items }
+    {
+        self.desk.lock(rt).take(&self.history, taken)
+    }
+
+    /// Returns the store and the records that its journal kept, given all seats. There is a history of all its rounds,
+    /// which begins with the records that were taken from the journal. For any voters that the store served when it was
+    /// shared, it is a legal history of them. It has as many records as the seats counted. Each receipt's record was kept
+    /// at its own place.
     ///
-    /// Fails with `SeatCount` first, then with `Receipt` for the least place. The error returns all that the caller
-    /// passed.
+    /// Fails with `SeatCount` first, then with `Receipt` for the least place of a receipt that is wrong for the records that
+    /// were kept. The error returns all that the caller passed.
     pub fn settle(
         self,
+        rt: &R,
         seats: Vec<Seat<L>>,
         receipts: Vec<Receipt>,
+        taken: Taken<L>,
     ) -> Result<Settled<S>, SettleFault<R, S, L>>
+    where
+        R: Wait,
         requires { L.all ≡ L.parts }
-        ensures count { IfOk result (λ settled.
-            length settled.journal.items ≡ sum_by (λ seat. seat.turn) seats.items) }
-        ensures legal { IfOk result (λ settled. (W : World) → L.served W → IsLegal W settled.journal.items) }
-        ensures receipts { IfOk result (λ settled. AllRight settled.journal.items receipts.items) }
-        ensures calls { IfOk result (λ settled. settled.calls ≤ length settled.journal.items) }
-
-        // Unless it failed, the store serves the voters that the journal leads to. What it leaves are voters possible
-        // after the journal. If it failed while it was shared, `failure` says how, and a file call failed.
-        ensures serves { IfOk result (λ settled. (W : World) → L.served W
-            → S.service.is_failed settled.store ≡ false
-            → ∥ IsOpenAt S.service settled.store (reached W settled.journal.items) ∥₁) }
-        ensures left { IfOk result (λ settled. (W : World) → L.served W
-            → ∥ S.service.leaves settled.store (standing W settled.journal.items settled.failure) ∥₁) }
-        ensures last { IfOk result (λ settled. is_last settled.failure settled.journal.items ≡ true) }
-        ensures cause { IfOk result (λ settled. S.service.is_failed settled.store ≡ true
-            → L.had_failed ≡ false → is_some settled.failure ≡ true) }
-        ensures why { IfOk result (λ settled. (W : World) → L.served W
-            → CameToFailAs S.service settled.failure (standing W settled.journal.items settled.failure) settled.store) }
-
-        ensures err { IfErr result (λ fault. (fault.seats ≡ seats) × (fault.receipts ≡ receipts)) }
-        ensures errors { IfErr result (λ fault. (rounds : List Round)
-            × IsCause rounds L.all (sum_by (λ seat. seat.parts) seats.items) receipts.items fault.cause) }
+        ensures ok { IfOk result (λ settled. IsSettled S.service L.served L.had_failed
+            (sum_by (λ seat. seat.turn) seats.items) taken settled.store settled.first settled.journal.items
+            settled.failure settled.calls) }
+        ensures receipts { IfOk result (λ settled. AllRight settled.first settled.journal.items receipts.items) }
+        ensures err { IfErr result (λ fault. (fault.seats ≡ seats) × (fault.receipts ≡ receipts) × (fault.taken ≡ taken)) }
+        ensures errors { IfErr result (λ fault. IsCause
+            (length fault.store.desk.journal.history - length fault.store.desk.journal.kept.items)
+            fault.store.desk.journal.kept.items L.all (sum_by (λ seat. seat.parts) seats.items) receipts.items
+            fault.cause) }
     {
         let SharedStore {
             alloc,
+            history,
             hall,
             moved,
             desk,
@@ -276,17 +338,19 @@ impl<R, S: RoundService<R>, L: Opening> SharedStore<R, S, L> {
         match desk.fault(parts, seats.as_slice(), receipts.as_slice()) {
             Some(cause) => Err(SettleFault {
                 cause,
-                store: SharedStore {
+                store: Unsettled {
                     alloc,
+                    history,
                     hall,
                     moved,
-                    desk: Mutex::new(desk),
+                    desk,
                     parts,
                 },
+                taken,
                 seats,
                 receipts,
             }),
-            None => Ok(desk.close(seats)),
+            None => Ok(desk.close(rt, &history, taken, seats)),
         }
     }
 }

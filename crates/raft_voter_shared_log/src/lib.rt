@@ -7,7 +7,7 @@ mod service;
 mod store;
 
 pub use raft_voter_shared::{
-    Failure, Maintenance, Opening, Receipt, Seat, SettleCause, SettleFault, Settled, SharedFault,
-    SharedStore,
+    Failure, FreshHistory, Maintenance, Named, Opening, Receipt, Seat, SettleCause, SettleFault,
+    Settled, SharedFault, SharedStore, Taken, Unsettled,
 };
 pub use store::LogStore;

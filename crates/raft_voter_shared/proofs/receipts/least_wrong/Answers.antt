@@ -6,11 +6,11 @@ use Rattle.raft_voter_shared.proofs.receipts.least_wrong.Goals as goal
 pub returns-clause-none : goal.returns-clause-none
 returns-clause-none c =
     let all : c.loop-index.index ≡ length c.args.receipts.now = omega (arith, c.loop-index-test.false, c.loop-index.auto.index-end) in
-    λ none. subst (λ (least : Option ℕ). IsLeastBelow c.args.journal.now c.args.receipts.now (length c.args.receipts.now) least) none
-    (subst (λ (n : ℕ). IsLeastBelow c.args.journal.now c.args.receipts.now n c.loop-index.least) all c.loop-index.invariant)
+    λ none. subst (λ (least : Option ℕ). IsLeastBelow c.args.first c.args.journal.now c.args.receipts.now (length c.args.receipts.now) least) none
+    (subst (λ (n : ℕ). IsLeastBelow c.args.first c.args.journal.now c.args.receipts.now n c.loop-index.least) all c.loop-index.invariant)
 
 pub returns-clause-some : goal.returns-clause-some
 returns-clause-some c =
     let all : c.loop-index.index ≡ length c.args.receipts.now = omega (arith, c.loop-index-test.false, c.loop-index.auto.index-end) in
-    wrong_there c.args.journal.now c.args.receipts.now (length c.args.receipts.now) c.loop-index.least
-    (subst (λ (n : ℕ). IsLeastBelow c.args.journal.now c.args.receipts.now n c.loop-index.least) all c.loop-index.invariant)
+    wrong_there c.args.first c.args.journal.now c.args.receipts.now (length c.args.receipts.now) c.loop-index.least
+    (subst (λ (n : ℕ). IsLeastBelow c.args.first c.args.journal.now c.args.receipts.now n c.loop-index.least) all c.loop-index.invariant)

@@ -9,22 +9,22 @@ pub returns-then-is_right : goal.returns-then-is_right
 returns-then-is_right c =
     let at : slice_get c.args.receipts.now c.args.index ≡ Some c.index-receipts-index.result =
     slice_get-get_or _ _ c.index-receipts-index.result c.requires ∙ ap Some (sym c.index-receipts-index.is) in
-    right_more c.args.journal.now c.args.receipts.now c.args.index c.index-receipts-index.result at c.args.least
+    right_more c.args.first c.args.journal.now c.args.receipts.now c.args.index c.index-receipts-index.result at c.args.least
     (c.is_right.ensures.0 c.if-is_right.true)
 
 pub returns-in-Some : goal.returns-in-Some
 returns-in-Some c =
     let at : slice_get c.args.receipts.now c.args.index ≡ Some c.index-receipts-index.result =
     slice_get-get_or _ _ c.index-receipts-index.result c.requires ∙ ap Some (sym c.index-receipts-index.is) in
-    λ before. subst (λ (place : ℕ). IsWrongBelow c.args.journal.now c.args.receipts.now (c.args.index + 1) place) (sym c.min.ensures)
-    (wrong_more c.args.journal.now c.args.receipts.now c.args.index c.index-receipts-index.result at c.in-Some.place
+    λ before. subst (λ (place : ℕ). IsWrongBelow c.args.first c.args.journal.now c.args.receipts.now (c.args.index + 1) place) (sym c.min.ensures)
+    (wrong_more c.args.first c.args.journal.now c.args.receipts.now c.args.index c.index-receipts-index.result at c.in-Some.place
     (λ right. false≢true (sym c.if-is_right.false ∙ c.is_right.ensures.1 right))
-    (subst (λ (least : Option ℕ). IsLeastBelow c.args.journal.now c.args.receipts.now c.args.index least) c.in-Some.is before))
+    (subst (λ (least : Option ℕ). IsLeastBelow c.args.first c.args.journal.now c.args.receipts.now c.args.index least) c.in-Some.is before))
 
 pub returns-in-None : goal.returns-in-None
 returns-in-None c =
     let at : slice_get c.args.receipts.now c.args.index ≡ Some c.index-receipts-index.result =
     slice_get-get_or _ _ c.index-receipts-index.result c.requires ∙ ap Some (sym c.index-receipts-index.is) in
-    λ before. first_wrong c.args.journal.now c.args.receipts.now c.args.index c.index-receipts-index.result at
+    λ before. first_wrong c.args.first c.args.journal.now c.args.receipts.now c.args.index c.index-receipts-index.result at
     (λ right. false≢true (sym c.if-is_right.false ∙ c.is_right.ensures.1 right))
-    (subst (λ (least : Option ℕ). IsLeastBelow c.args.journal.now c.args.receipts.now c.args.index least) c.in-None.is before)
+    (subst (λ (least : Option ℕ). IsLeastBelow c.args.first c.args.journal.now c.args.receipts.now c.args.index least) c.in-None.is before)

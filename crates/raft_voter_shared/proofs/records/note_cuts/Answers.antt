@@ -13,6 +13,21 @@ pub cut_off-round-requires-clause-few : goal.cut_off-round-requires-clause-few
 cut_off-round-requires-clause-few g c =
     few_within c.loop-part.start c.in-Some.part.ticket.count 0 (length c.args.asked.items) c.args.refused.now c.requires.rising
 
+pub cut_off-round-requires-clause-within : goal.cut_off-round-requires-clause-within
+cut_off-round-requires-clause-within g c =
+    let popped = c.pop_front.ensures.items ∙ ap (λ r. option_to_list r ++ c.pop_front.new.self.items) c.in-Some.is in
+    omega (arith, c.loop-part.invariant.more, c.loop-part.invariant.counted, ap length popped)
+
+pub note-requires-clause-room : goal.note-requires-clause-room
+note-requires-clause-room g c =
+    let popped = c.pop_front.ensures.items ∙ ap (λ r. option_to_list r ++ c.pop_front.new.self.items) c.in-Some.is in
+    omega (arith, c.loop-part.invariant.records, ap length popped)
+
+pub note-requires-clause-count : goal.note-requires-clause-count
+note-requires-clause-count g c =
+    let popped = c.pop_front.ensures.items ∙ ap (λ r. option_to_list r ++ c.pop_front.new.self.items) c.in-Some.is in
+    omega (arith, c.loop-part.invariant.more, ap length popped)
+
 pub loop-part-preserved : goal.loop-part-preserved
 loop-part-preserved g c =
     let before = c.loop-part in
@@ -23,28 +38,29 @@ loop-part-preserved g c =
     let popped : before.left.items ≡ part ∷ rest = c.pop_front.ensures.items ∙ ap (λ r. option_to_list r ++ rest) c.in-Some.is in
     let counts : map (λ part. part.ticket.count) before.left.items ≡ n ∷ map (λ part. part.ticket.count) rest =
     ap (λ ps. map (λ part. part.ticket.count) ps) popped in
-    let js = before.journal.items in
-    let js' = c.push_reserved.new.self.items in
-    let here : c.len-place.result ≡ length js = omega (arith, c.len-place.ensures, before.journal.ok) in
-    let next : length js' ≡ length js + 1 = omega (arith, ap length c.push_reserved.ensures.items, length-append js (c.cut_off-round.result.0 ∷ [])) in
+    let js = before.journal.history in
+    let js' = c.note.new.self.history in
+    let here : c.len-place.result ≡ length js = c.len-place.ensures in
+    let next : length js' ≡ length js + 1 = omega (arith, ap length c.note.ensures.noted, length-append js (c.cut_off-round.result.0 ∷ [])) in
     let cut = c.cut_off-round.ensures in
-    let told' = c.push_reserved-in-Some.new.self.items in
+    let told' = c.push_reserved.new.self.items in
     let answer = c.cut_off-round.result.1 in
     record {
       counted = omega (arith, next, so_far.counted, cut.total);
       journal = cut_noted n _ _ counts js js' c.cut_off-round.result.0 before.start before.asked.items _ c.args.refused.now _
-          c.push_reserved.ensures.items cut.round cut.asked so_far.journal;
+          c.note.ensures.noted cut.round cut.asked so_far.journal;
       answers = cut_is_told n _ _ counts (map (λ done. done.answer) before.told.items) (map (λ done. done.answer) told') answer.answer
           (length js) (length js') c.args.cause _
-          (ap (λ ds. map (λ done. done.answer) ds) c.push_reserved-in-Some.ensures.items ∙ map_push (λ done. done.answer) before.told.items answer)
+          (ap (λ ds. map (λ done. done.answer) ds) c.push_reserved.ensures.items ∙ map_push (λ done. done.answer) before.told.items answer)
           (cut.answer ∙ ap (λ (p : ℕ). Err (faults.Cut p c.args.cause)) here) next so_far.answers;
       whose = one_more (map (λ done. done.ticket) before.told.items) (map (λ done. done.ticket) told') answer.ticket part.ticket
           (map (λ part. part.ticket) rest) _
-          (ap (λ ds. map (λ done. done.ticket) ds) c.push_reserved-in-Some.ensures.items ∙ map_push (λ done. done.ticket) before.told.items answer)
+          (ap (λ ds. map (λ done. done.ticket) ds) c.push_reserved.ensures.items ∙ map_push (λ done. done.ticket) before.told.items answer)
           cut.ticket (sym (ap (λ ps. map (λ done. done.ticket) before.told.items ++ map (λ part. part.ticket) ps) popped) ∙ so_far.whose);
       causes = All-rest (λ part. may_cut c.args.cause part.ticket.count ≡ true) part rest before.left.items popped so_far.causes;
       all = let is = sum_by-cons (λ part. part.ticket.count) part rest in
           omega (arith, so_far.all, is, ap (λ ps. sum_by (λ part. part.ticket.count) ps) popped);
-      records = omega (arith, so_far.records, ap length popped, c.push_reserved.ensures.len, c.push_reserved.ensures.capacity);
-      room = omega (arith, so_far.room, ap length popped, c.push_reserved-in-Some.ensures.len, c.push_reserved-in-Some.ensures.capacity);
+      records = omega (arith, so_far.records, ap length popped, c.note.ensures.len, c.note.ensures.capacity);
+      more = omega (arith, so_far.more, ap length popped, next);
+      room = omega (arith, so_far.room, ap length popped, c.push_reserved.ensures.len, c.push_reserved.ensures.capacity);
     }

@@ -9,7 +9,7 @@ use Rattle.raft_voter_shared.proofs.desk.Desk.new.Goals as goal
 pub invariant_of-result : goal.invariant_of-result
 invariant_of-result g c =
     let v = g.S.RoundService.service in
-    let none = c.new.ensures.items in
+    let none = c.new.ensures in
     record {
       counted = ap length none ∙ sym c.requires.unused;
       fewer = omega arith;

@@ -27,7 +27,7 @@ invariant_of-self-in-Ok-serve g c =
     let v = g.S.RoundService.service in
     let old = c.args.self.now in
     let now = c.serve.new.self in
-    let rounds = old.journal.items in
+    let rounds = old.journal.history in
     let asked = c.args.merged.asked.items in
     let counts : List ℕ = map (λ part. part.ticket.count) c.args.merged.parts.items in
     let all : sum counts ≡ length asked = sum-map (λ part. part.ticket.count) c.args.merged.parts.items ∙ c.args.merged.counted in
@@ -39,10 +39,10 @@ invariant_of-self-in-Ok-serve g c =
     (c.truncate.ensures.items ∙ ap (λ (n : ℕ). take n c.into_vec-told.result.items) many ∙ ap (λ (l : List Reply). take (length asked) l) c.into_vec-told.ensures) c.hand_out-noted.ensures.replies in
     let replied = subst (λ (qs : List (ℕ × Request)). AnswersRound v qs told old.store now) c.as_slice.ensures.value c.in-Ok-serve.ensures.ok in
     let answers = handed_round v asked told handed old.store now replied zip in
-    let noted : c.note_answers.new.journal.items ≡ rounds ++ answered_each counts asked handed =
-    c.note_answers.ensures.journal ∙ ap (λ (rs : List Round). rs ++ answered_each counts asked handed) c.reserve.ensures.items in
+    let noted : c.note_answers.new.journal.history ≡ rounds ++ answered_each counts asked handed =
+    c.note_answers.ensures.journal ∙ ap (λ (rs : List Round). rs ++ answered_each counts asked handed) c.reserve.ensures.history in
     let none : old.failure ≡ None = old.alive lives.0 in
-    let opens : (W : World) → g.L.Opening.served W → ∥ IsOpenAt v now (reached W c.note_answers.new.journal.items) ∥₁ = λ W s. subst (λ (rs : List Round). ∥ IsOpenAt v now (reached W rs) ∥₁) (sym noted)
+    let opens : (W : World) → g.L.Opening.served W → ∥ IsOpenAt v now (reached W c.note_answers.new.journal.history) ∥₁ = λ W s. subst (λ (rs : List Round). ∥ IsOpenAt v now (reached W rs) ∥₁) (sym noted)
     (answered_opens v old.store now rounds asked counts handed all answers W (old.serves W s lives.0)) in
     record {
       counted = c.note_answers.ensures.counted;
@@ -50,12 +50,12 @@ invariant_of-self-in-Ok-serve g c =
       legal = λ W s. subst (λ (rs : List Round). IsLegal W rs) (sym noted)
           (answered_legal v old.store now rounds asked counts handed all answers W (old.serves W s lives.0) (old.legal W s));
       serves = λ W s alive. opens W s;
-      left = λ W s. subst (λ (f : Option Failure). ∥ v.leaves now (standing W c.note_answers.new.journal.items f) ∥₁) (sym none)
+      left = λ W s. subst (λ (f : Option Failure). ∥ v.leaves now (standing W c.note_answers.new.journal.history f) ∥₁) (sym none)
           (∥∥₁_map (opens W s) (λ o. o.left));
       alive = λ alive. none;
-      last = subst (λ (f : Option Failure). is_last f c.note_answers.new.journal.items ≡ true) (sym none) refl;
+      last = subst (λ (f : Option Failure). is_last f c.note_answers.new.journal.history ≡ true) (sym none) refl;
       cause = λ dead lived. absurd (false≢true (sym lives.1 ∙ dead));
-      why = λ W s. subst (λ (f : Option Failure). CameToFailAs v f (standing W c.note_answers.new.journal.items f) now) (sym none)
+      why = λ W s. subst (λ (f : Option Failure). CameToFailAs v f (standing W c.note_answers.new.journal.history f) now) (sym none)
           (λ is. absurd (false≢true is));
     }
 
@@ -64,7 +64,7 @@ returns-in-Ok-serve-clause-ok g c =
     let v = g.S.RoundService.service in
     let old = c.args.self.now in
     let now = c.serve.new.self in
-    let rounds = old.journal.items in
+    let rounds = old.journal.history in
     let asked = c.args.merged.asked.items in
     let counts : List ℕ = map (λ part. part.ticket.count) c.args.merged.parts.items in
     let told = c.in-Ok-serve.replies in
@@ -75,8 +75,8 @@ returns-in-Ok-serve-clause-ok g c =
     let replied = subst (λ (qs : List (ℕ × Request)). AnswersRound v qs told old.store now) c.as_slice.ensures.value c.in-Ok-serve.ensures.ok in
     record {
       replies = handed;
-      noted = c.note_answers.ensures.journal ∙ ap (λ (rs : List Round). rs ++ answered_each counts asked handed) c.reserve.ensures.items;
-      own = c.note_answers.ensures.answers ∙ ap (λ (rs : List Round). told_each (length rs) counts handed) c.reserve.ensures.items;
+      noted = c.note_answers.ensures.journal ∙ ap (λ (rs : List Round). rs ++ answered_each counts asked handed) c.reserve.ensures.history;
+      own = c.note_answers.ensures.answers ∙ ap (λ (rs : List Round). told_each (length rs) counts handed) c.reserve.ensures.history;
       replied = handed_round v asked told handed old.store now replied zip;
       told = told;
       handed = zip;
@@ -90,7 +90,7 @@ invariant_of-self-in-Err g c =
     let v = g.S.RoundService.service in
     let old = c.args.self.now in
     let now = c.serve.new.self in
-    let rounds = old.journal.items in
+    let rounds = old.journal.history in
     let asked = c.args.merged.asked.items in
     let parts = c.args.merged.parts.items in
     let counts : List ℕ = map (λ part. part.ticket.count) parts in
@@ -102,11 +102,11 @@ invariant_of-self-in-Err g c =
     let fails = subst (λ (qs : List (ℕ × Request)). FailsAs cause (length qs) (v.is_failed old.store) (v.is_failed now)) c.as_slice.ensures.value c.in-Err.ensures.errors in
     let cut : List Round = cut_each 0 counts asked refused in
     let are = each_is_cut counts asked refused (omega (arith, many, c.requires.some)) all (cut_rising v old.store now rounds asked cause refused cuts) in
-    let noted : c.note_cuts.new.journal.items ≡ rounds ++ cut =
-    c.note_cuts.ensures.journal ∙ ap (λ (ps : List ℕ). c.reserve.new.self.items ++ cut_each 0 counts asked ps) c.as_slice-in-Err.ensures
-    ∙ ap (λ (rs : List Round). rs ++ cut) c.reserve.ensures.items in
-    let first : c.len-first.result ≡ length rounds = omega (arith, c.len-first.ensures, c.reserve.new.self.ok, ap length c.reserve.ensures.items) in
-    let end : c.len-in-Err.result ≡ length (rounds ++ cut) = omega (arith, c.len-in-Err.ensures, c.note_cuts.new.journal.ok, ap length noted) in
+    let noted : c.note_cuts.new.journal.history ≡ rounds ++ cut =
+    c.note_cuts.ensures.journal ∙ ap (λ (ps : List ℕ). c.reserve.new.self.history ++ cut_each 0 counts asked ps) c.as_slice-in-Err.ensures
+    ∙ ap (λ (rs : List Round). rs ++ cut) c.reserve.ensures.history in
+    let first : c.len-first.result ≡ length rounds = c.len-first.ensures ∙ ap length c.reserve.ensures.history in
+    let end : c.len-in-Err.result ≡ length (rounds ++ cut) = c.len-in-Err.ensures ∙ ap length noted in
     let failed : c.failure_behind.result ≡ failure_behind cause (length rounds) (length (rounds ++ cut)) old.failure =
     c.failure_behind.ensures ∙ ap (λ (n : ℕ). failure_behind cause n c.len-in-Err.result old.failure) first
     ∙ ap (λ (n : ℕ). failure_behind cause (length rounds) n old.failure) end in

@@ -1,0 +1,56 @@
+-- The history of a store: the records of all rounds that it served, in order. It exists in proofs alone.
+use Rattle.std.specs.Prelude.{◌≡◌, ℕ, List, [], ◌++◌, length, Bool, true, false}
+use mathlib.Core.Option.{some}
+use lib.ListN.{get_elem?}
+use Rattle.atomic_table.specs.Seated.{TableId}
+use Rattle.raft_voter_messages.specs.declared.round.Round.{Round}
+use Rattle.raft_voter_history.specs.declared.rule.View.{View}
+
+-- the name of no history
+abbrev pub no_table : TableId
+no_table = record { words = 0; slots = 0; views_name = 0; atom = 0; block = 0; offset = 0; slot_names = [] }
+
+-- from place `first` on, the history has the records `part`
+pub record HasPart (all : List Round) (first : ℕ) (part : List Round) : Type 0 where
+  pub before : List Round
+  pub later : List Round
+  pub is : all ≡ before ++ (part ++ later)
+  pub at : length before ≡ first
+
+-- the view of the pass that knows the whole history
+abbrev pub knows : List Round → View
+knows all = record { keeps = true; all = all; claims = false; first = 0; part = [] }
+
+-- the view of a pass that claims these records from place `first` on
+abbrev pub claims_part : ℕ → List Round → View
+claims_part first part = record { keeps = false; all = []; claims = true; first = first; part = part }
+
+-- the view of a pass that was used up
+abbrev pub spent : View
+spent = record { keeps = false; all = []; claims = false; first = 0; part = [] }
+
+-- what a view says of the history: the pass at `seat` alone may know it whole, and each claim is true
+abbrev pub IsTrue : ℕ → List Round → ℕ → View → Type 0
+IsTrue seat log by v =
+    (v.keeps ≡ true → (by ≡ seat) × (v.all ≡ log)) × (v.claims ≡ true → HasPart log v.first v.part)
+
+-- there is one history, of which each view is true
+abbrev pub IsOneHistory : List ℕ → List View → Type 0
+IsOneHistory words views =
+    (seat : ℕ) × (log : List Round) × ((by : ℕ) (v : View) → get_elem? views by ≡ some v → IsTrue seat log by v)
+
+-- these records were added to the history that the pass knows
+abbrev pub Notes : List Round → View → List ℕ → List ℕ → View → Type 0
+Notes part v before after w = w ≡ knows (v.all ++ part)
+
+-- the pass that knows the history knows it still, and the claim that it took in is true
+abbrev pub Finds : View → List ℕ → List ℕ → View → Type 0
+Finds v before after w = (w ≡ knows v.all) × (v.claims ≡ true → HasPart v.all v.first v.part)
+
+-- the pass that knows the history, with the claim of another
+abbrev pub with_claim : View → View → View
+with_claim v w = record { keeps = v.keeps; all = v.all; claims = w.claims; first = w.first; part = w.part }
+
+-- two claims as one, of the records of both
+abbrev pub joined : View → View → View
+joined v w = claims_part v.first (v.part ++ w.part)

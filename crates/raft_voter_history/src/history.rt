@@ -1,0 +1,61 @@
+//! What ties the keeper of a history and the claims together.
+ghost use Rattle.std.specs.Prelude.{◌≡◌, [], IfOk};
+ghost use Rattle.crossbeam_utils.specs.Seq.{cell_view};
+ghost use Rattle.raft_voter_history.specs.History.{knows};
+
+use crate::keeper::Keeper;
+use crate::rule::{Cell, HistoryPass};
+use std::alloc::{AllocError, Global};
+use std::marker::{Brand, PhantomData};
+
+/// Names a history.
+pub trait Named {
+    ghost use Rattle.atomic_table.specs.Seated.{TableId};
+
+    /// The history.
+    ghost history: { TableId };
+}
+
+impl Named for Brand {
+    ghost use Rattle.raft_voter_history.specs.History.{no_table};
+
+    ghost history = { no_table };
+}
+
+/// An empty history that has no name yet.
+#[derive(Drop)]
+pub struct FreshHistory {
+    cell: Cell,
+    pass: HistoryPass,
+    pub ghost same: { pass.table_id ≡ cell.table.shared.table_id },
+    pub ghost empty: { cell_view pass ≡ knows [] },
+}
+
+impl FreshHistory {
+    /// Returns an empty history. Memory may run out.
+    pub fn new(alloc: Global) -> Result<FreshHistory, AllocError> {
+        let (cell, pass) = Cell::ruled(alloc, [0])?;
+        Ok(FreshHistory { cell, pass })
+    }
+
+    /// Names the history, and returns it with its keeper.
+    pub fn named<L: Named>(self) -> (History<L>, Keeper<L>)
+        requires { self.cell.table.shared.table_id ≡ L.history }
+        ensures { result.1 ≡ [] }
+    {
+        let FreshHistory { cell, pass } = self;
+        let history = History {
+            cell,
+            of: PhantomData,
+        };
+        (history, Keeper::first(pass))
+    }
+}
+
+/// A history, by which its keeper and its claims know each other.
+#[derive(Drop)]
+pub struct History<L: Named> {
+    pub(crate) cell: Cell,
+    of: PhantomData<L>,
+    ghost named: { cell.table.shared.table_id ≡ L.history },
+}

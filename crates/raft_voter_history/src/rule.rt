@@ -1,0 +1,125 @@
+//! The rule of a history, and what each step of a pass says.
+use atomic_table::{Join, Split};
+use crossbeam_utils::atomic::seq_cell::{Pass, RuledSeqCell};
+use crossbeam_utils::rule::{Outcome, Protocol};
+use raft_voter_messages::Round;
+use std::collections::LinkedList;
+use std::marker::{Brand, PhantomData};
+
+/// What a pass knows: the whole history, or the records of a part of it. No value of it is made.
+pub struct View {
+    /// Whether the pass knows the whole history.
+    pub keeps: bool,
+    /// The history, if it does.
+    pub all: LinkedList<Round>,
+    /// Whether it claims a part.
+    pub claims: bool,
+    /// The place of the first record of that part.
+    pub first: u64,
+    /// The records of that part.
+    pub part: LinkedList<Round>,
+}
+
+/// The rule: there is one history.
+pub struct OneHistory;
+
+impl Protocol<[u64; 1], View> for OneHistory {
+    ghost use Rattle.std.specs.Prelude.{[]};
+    ghost use Rattle.raft_voter_history.specs.History.{IsOneHistory, knows};
+
+    ghost holds = { IsOneHistory };
+
+    ghost first = { knows [] };
+}
+
+/// Names a part of the history.
+pub trait Portion {
+    ghost use Rattle.std.specs.Prelude.{ℕ, List};
+    ghost use Rattle.raft_voter_messages.specs.declared.round.Round.{Round};
+
+    /// The place of its first record.
+    ghost first: { ℕ };
+
+    /// Its records.
+    ghost part: { List Round };
+}
+
+impl Portion for Brand {
+    ghost use Rattle.std.specs.Prelude.{[]};
+
+    ghost first = { 0 };
+
+    ghost part = { [] };
+}
+
+/// The keeper adds the records of a part.
+pub struct Add<X: Portion> {
+    of: PhantomData<X>,
+}
+
+impl<X: Portion> Outcome<[u64; 1], View> for Add<X> {
+    ghost use Rattle.raft_voter_history.specs.History.{Notes};
+
+    ghost then = { Notes X.part };
+}
+
+/// The keeper compares a claim with the history.
+pub struct Find;
+
+impl Outcome<[u64; 1], View> for Find {
+    ghost use Rattle.raft_voter_history.specs.History.{Finds};
+
+    ghost then = { Finds };
+}
+
+/// The keeper hands out a claim for a part.
+pub struct Give<X: Portion> {
+    of: PhantomData<X>,
+}
+
+impl<X: Portion> Split<View> for Give<X> {
+    ghost use Rattle.raft_voter_history.specs.History.{claims_part};
+
+    ghost left = { λ v. v };
+
+    ghost right = { λ v. claims_part X.first X.part };
+}
+
+/// The keeper takes a claim in.
+pub struct TakeIn;
+
+impl Join<View> for TakeIn {
+    ghost use Rattle.raft_voter_history.specs.History.{spent, with_claim};
+
+    ghost both = { with_claim };
+
+    ghost spent = { spent };
+}
+
+/// Two claims become one.
+pub struct Append;
+
+impl Join<View> for Append {
+    ghost use Rattle.raft_voter_history.specs.History.{joined, spent};
+
+    ghost both = { joined };
+
+    ghost spent = { spent };
+}
+
+/// A pass hands all that it claims to a new one.
+pub struct Whole;
+
+impl Split<View> for Whole {
+    ghost use Rattle.raft_voter_history.specs.History.{spent};
+
+    ghost left = { λ v. spent };
+
+    ghost right = { λ v. v };
+}
+
+/// The cell whose passes are under the rule.
+pub type Cell = RuledSeqCell<[u64; 1], View, OneHistory, 1>;
+
+/// A pass of the cell. It has no bytes.
+pub type HistoryPass = Pass<[u64; 1], View>;

@@ -1,0 +1,11 @@
+-- The faults of a run, as those of the file system.
+use Rattle.std.specs.Prelude.{true, false}
+use Rattle.raft_log_engine.specs.raft_log_fs.specs.declared.handle.Fault.{Fault as DiskFault}
+use Rattle.raft_log_engine.specs.raft_log_fs.specs.declared.handle.Fault.TheVariants as faults
+use Rattle.raft_log_world.specs.declared.event.Fault.{Fault}
+use Rattle.raft_log_world.specs.declared.event.Fault.TheVariants.{Refuse, Stop}
+
+abbrev pub fault_of : Fault → DiskFault
+fault_of (Refuse call part) = faults.RefuseInPart call part
+fault_of (Stop call true) = faults.StopAfter call
+fault_of (Stop call false) = faults.StopAt call

@@ -1,6 +1,6 @@
 -- What each call of an engine answers, and which log the engine is then.
 use Rattle.std.proofs.Common.{◌≡◌, ◌⊎◌, ◌↔◌, ◌-◌, ℕ, Bool, true, false, List, [], ◌∷◌, ◌++◌, Option, None, Some, inl, inr, refl, sym, ap, subst, ◌∙◌, if◌then◌else◌, length, nat_lt}
-use Rattle.std.specs.Prelude.{min, Err, IfErr, IfOk, IsTrue, Ok, OnOk, Result, option_map, unwrap_or}
+use Rattle.std.specs.Prelude.{min, IsTrue, option_map, unwrap_or}
 use Rattle.std.specs.Global.{Vec}
 use Rattle.std.proofs.lemmas.Bool.{false≢true}
 use Rattle.raft_log_engine.specs.raft_log_model_laws.specs.Groups.{taken}
@@ -12,32 +12,36 @@ use Rattle.raft_log_engine.specs.raft_log_record_base.specs.declared.errors.Erro
 use Rattle.raft_log_engine.specs.raft_log_record_base.specs.declared.errors.Error.TheVariants as errors
 use Rattle.raft_log_engine.specs.raft_log_record_items.specs.declared.item.LogItem.{LogItem}
 use Rattle.raft_log_engine.specs.raft_log_record_items.specs.declared.raw_message.RawMessage.{RawMessage}
-use Rattle.raft_log_engine.specs.raft_log_record_frames.specs.Meaning.{record_of}
+use Rattle.raft_log_engine.specs.raft_log_record_items.specs.declared.command.Command.TheVariants as commands
+use Rattle.raft_log_engine.specs.raft_log_record_items.specs.declared.entry.EntryIndex.{EntryIndex}
+use Rattle.raft_log_engine.specs.raft_log_record_frames.proofs.Meanings.{keeps_mark, no_mark_key}
+use Rattle.raft_log_engine.specs.raft_log_record_frames.specs.declared.marking.Marking.{Marking}
+use Rattle.raft_log_engine.specs.raft_log_record_frames.specs.ItemBatch.{command_item}
+use Rattle.raft_log_engine.specs.raft_log_record_frames.specs.Meaning.{IsUsers, marked, record_of, tagged, tagged_items, unless_mark}
 use Rattle.raft_log_engine.specs.raft_log_record_batches.specs.Batch.{Batch}
 use Rattle.raft_log_engine.specs.raft_log_record_batches.specs.Places.{entry_bytes}
 use Rattle.raft_log_engine.specs.raft_log_memtables.specs.Views.{view_of}
 use Rattle.raft_log_engine.specs.raft_log_dual_pipes.specs.Pipes.{LogRecordValue}
 use Rattle.raft_log_engine.specs.raft_log_engine_core.specs.Compacting.{CompactsTo, FailsToCompact, SaysCompact, entries_below}
-use Rattle.raft_log_engine.specs.raft_log_engine_core.specs.Reads.{IsUncopied, Lives}
-use Rattle.raft_log_engine.specs.raft_log_memtable_index.specs.Shown.{Shown}
-use Rattle.raft_log_engine.specs.raft_log_memtable.specs.Reads.{first_of}
+use Rattle.raft_log_memtable_index.specs.Shown.{Shown}
+use Rattle.raft_log_memtable.specs.Reads.{first_of}
 use Rattle.raft_log_engine.specs.raft_log_engine_laws.proofs.Reading.{tables_tell}
 use Rattle.raft_log_engine.specs.raft_log_engine_laws.proofs.Settling.{settled_held}
 use Rattle.raft_log_engine.specs.raft_log_engine_laws.specs.Reading.{IsFirstIn}
 use Rattle.raft_log_engine.specs.raft_log_engine_laws.specs.Settled.{HoldsSettled}
-use Rattle.raft_log_engine.specs.raft_log_purge_copy.specs.Parts.{Remains}
+use Rattle.raft_log_purge_copy.specs.Parts.{Remains}
 use Rattle.raft_log_engine.specs.raft_log_engine_laws.specs.EngineState.{LogDirectories, LogMap, EngineState, has_failed, said_of}
 use Rattle.raft_log_engine.specs.raft_log_engine_laws.specs.Fetching.{FailsToTell, HadFailed, IsEntryTold, TellsEntry}
 use Rattle.raft_log_engine.specs.raft_log_engine_laws.specs.Holding.{EndsAt, Represents, IsRecoverableAs, RunsAs}
 use Rattle.raft_log_engine.specs.raft_log_engine_laws.specs.Reading.{ReadsValue}
 use Rattle.raft_log_engine.specs.raft_log_engine_laws.specs.Syncing.{FailsToSyncAppend, NotSynced, SyncsAppend}
-use Rattle.raft_log_engine.specs.raft_log_engine_laws.specs.Writing.{IsUnfit, Leaves, NotWritten, PipesRefused, Writes, WritesBytes}
+use Rattle.raft_log_engine.specs.raft_log_engine_laws.specs.Writing.{Leaves, NotWritten, WritesBytes}
 use Rattle.raft_log_world.specs.declared.event.Answer.{Answer}
 use Rattle.raft_log_world.specs.declared.event.Answer.TheVariants.{Done, Found, Refused, Failed}
 use Rattle.raft_log_world.specs.declared.event.Call.{Call}
 use Rattle.raft_log_world.specs.declared.event.Call.TheVariants.{Compact, Write, Sync, Get, GetEntry, Purge as PurgeCall}
 use Rattle.raft_log_world.specs.declared.event.Purge.{Purge}
-use Rattle.raft_log_world.specs.Model.{HasWritten, ModelLog, RunsOn, Serves, compacts}
+use Rattle.raft_log_world.specs.Model.{ModelLog, RunsOn, Serves, compacts}
 use Rattle.raft_log_world.specs.Reads.{bytes_of}
 use Rattle.raft_log_world.specs.Model.ModelLog.{running, failed}
 use Rattle.raft_log_world_engine.specs.Calls.{IsEngineLog, ServesAs, failure_of}
@@ -236,8 +240,16 @@ none_below v index is = by (nat_lt 0 (length v.places)) is
     by true some = absurd (let never : ⊥ = cc in never)
     by false none = refl
 
+-- what a batch says that has one user's item
+one_said : (entry : EntryIndex → List ℕ) (x : LogItem) → IsUsers x.content → ◌≡◌ {A = LogRecordValue} (unwrap_or (record_of entry (x ∷ [])) (Plain [])) (Plain (tagged entry x ∷ []))
+one_said entry x own =
+    ap (λ (m : Marking). unwrap_or (marked m (tagged_items entry (x ∷ []))) (Plain [])) (keeps_mark [] x own)
+    ∙ ap (λ (b : Bool). Plain (unless_mark b (tagged entry x) [])) (no_mark_key x own)
+
 said_compact : (group index : ℕ) (b : Batch) → SaysCompact group index b → said_of b ≡ compacts group index
-said_compact group index b says = ap (λ (l : List LogItem). unwrap_or (record_of (entry_bytes b.entries) l) (Plain [])) says.items
+said_compact group index b says =
+    ap (λ (l : List LogItem). unwrap_or (record_of (entry_bytes b.entries) l) (Plain [])) says.items
+    ∙ one_said (entry_bytes b.entries) (command_item group (commands.Compact index)) tt
 
 pub compacted : (s t : EngineState) (group index count : ℕ) → CompactsTo group index count s t → ServesAs s (Compact group index) Done t
 compacted s t group index count (inl (none, zero, lives, same)) = record {
@@ -246,11 +258,12 @@ compacted s t group index count (inl (none, zero, lives, same)) = record {
       (running m pending, inr (λ i low high. first i, refl), subst (λ (e : EngineState). Represents home e m pending) (sym same) h);
   fails = λ fails. absurd (both s lives fails);
 }
-compacted s t group index count (inr (some, b, says, writes, record_of_it)) = record {
+compacted s t group index count (inr (some, wrote)) = record {
   runs = λ home m pending h.
-      let (next, on, is) = ends home t m (pending ++ said_of b ∷ []) (writes.holds home m pending h) in
-      (next, inl (subst (λ (r : LogRecordValue). RunsOn m (pending ++ r ∷ []) next) (said_compact group index b says) on), is);
-  fails = λ fails. absurd (both s writes.lived fails);
+      let b = wrote.0 in
+      let (next, on, is) = ends home t m (pending ++ said_of b ∷ []) (wrote.2.holds home m pending h) in
+      (next, inl (subst (λ (r : LogRecordValue). RunsOn m (pending ++ r ∷ []) next) (said_compact group index b wrote.1) on), is);
+  fails = λ fails. absurd (both s wrote.2.lived fails);
 }
 
 -- what a write of the batch leaves that fails is what the compaction leaves

@@ -5,4 +5,4 @@ mod Crashing
 mod Following
 mod Homes
 mod Opening
-mod Ranges
+mod Reading

@@ -9,7 +9,7 @@ ghost use Rattle.raft_log_world.specs.Model.ModelLog.{resting};
 ghost use Rattle.raft_log_world_engine.specs.Instance.{engine_log, IsFilesLog};
 
 use crate::calls::{self, failure};
-use crate::faults::fault_of;
+use crate::faults::{fault_of, told};
 use crate::ranges;
 use log::sink::Discard;
 use log::{LevelFilter, Log, Logged};
@@ -134,17 +134,15 @@ impl<R: Log> LogFiles<R, OpenLog, LogBatch, Remainder> for ClosedLog {
     }
 
     fn arm(&mut self, fault: &Fault) -> Answer {
-        match self.files.arm(&fault_of(fault)) {
-            Ok(()) => Answer::Done,
-            Err(_) => Answer::Refused,
-        }
+        let disk_fault = fault_of(fault);
+        let done = self.files.arm(&disk_fault).is_ok();
+        told(done)
     }
 
     fn arm_under(engine: &mut OpenLog, fault: &Fault) -> Answer {
-        match engine.engine.arm(&fault_of(fault)) {
-            Ok(()) => Answer::Done,
-            Err(_) => Answer::Refused,
-        }
+        let disk_fault = fault_of(fault);
+        let done = engine.engine.arm(&disk_fault).is_ok();
+        told(done)
     }
 
     fn close(engine: OpenLog, rt: &R) -> (Answer, ClosedLog) {

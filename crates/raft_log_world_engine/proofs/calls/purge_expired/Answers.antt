@@ -1,4 +1,4 @@
-use Rattle.std.proofs.Common.{◌≡◌, ◌⊎◌, inl, inr}
+use Rattle.std.proofs.Common.{inl, inr}
 use Rattle.raft_log_engine.specs.raft_log_record_base.specs.declared.errors.Error.{Error}
 use Rattle.raft_log_engine.specs.raft_log_engine_core.specs.Reads.{shows_of}
 use Rattle.raft_log_engine.specs.raft_log_engine_core.specs.Purging.{StopsPurgingExpired}

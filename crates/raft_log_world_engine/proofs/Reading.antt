@@ -1,19 +1,17 @@
 -- What reads of several entries, or of several keys, answer.
-use Rattle.std.proofs.Common.{◌≡◌, ◌⊎◌, ℕ, zero, suc, ◌+◌, ◌-◌, ◌<◌, ◌≤◌, Bool, true, false, List, [], ◌∷◌, ◌++◌, length, take, drop, map, Option, Some, None, inl, inr, refl, sym, ap, subst, ◌∙◌, arith, if◌then◌else◌, nat_le, nat_lt, option_map, slice_get}
+use Rattle.std.proofs.Common.{◌≡◌, ◌⊎◌, ℕ, zero, suc, ◌+◌, ◌-◌, ◌<◌, ◌≤◌, Bool, true, false, List, [], ◌∷◌, length, take, drop, map, Option, Some, None, inl, inr, refl, sym, ap, subst, ◌∙◌, arith, if◌then◌else◌, nat_le, nat_lt, option_map, slice_get}
 use Rattle.std.proofs.lemmas.List.{length-drop, length-take-le}
 use Rattle.std.specs.Global.{Vec}
 use Rattle.raft_log_engine.specs.raft_log_model_laws.specs.Groups.{taken}
-use Rattle.raft_log_engine.specs.raft_log_model_laws.specs.Meaning.{Content}
 use Rattle.raft_log_engine.specs.raft_log_model_laws.specs.Meaning.Slot.{Index}
 use Rattle.raft_log_engine.specs.raft_log_model_laws.specs.Meaning.Content.{Entry}
 use Rattle.raft_log_engine.specs.raft_log_model_laws.specs.Renamed.{renamed_content}
-use Rattle.raft_log_engine.specs.raft_log_record_items.specs.declared.entry.EntryIndex.{EntryIndex}
 use Rattle.raft_log_engine.specs.raft_log_record_items.specs.declared.raw_message.RawMessage.{RawMessage}
-use Rattle.raft_log_engine.specs.raft_log_extents.specs.declared.place.Place.{Place}
-use Rattle.raft_log_engine.specs.raft_log_extents.specs.Counts.{fitting, sized}
-use Rattle.raft_log_engine.specs.raft_log_memtable_index.specs.Shown.{Shown}
-use Rattle.raft_log_engine.specs.raft_log_memtable_index.specs.Bridge.{Located, in_queue, located}
-use Rattle.raft_log_engine.specs.raft_log_memtable.specs.Reads.{AreIn, entries_from, fetched, first_of, places_between}
+use Rattle.raft_log_extents.specs.declared.place.Place.{Place}
+use Rattle.raft_log_extents.specs.Counts.{fitting, sized}
+use Rattle.raft_log_memtable_index.specs.Shown.{Shown}
+use Rattle.raft_log_memtable_index.specs.Bridge.{Located, in_queue, located}
+use Rattle.raft_log_memtable.specs.Reads.{AreIn, entries_from, fetched, first_of, places_between}
 use Rattle.raft_log_engine.specs.raft_log_memtables.specs.Bare.{HasNothing}
 use Rattle.raft_log_engine.specs.raft_log_block_cache.specs.Stored.{entries_at}
 use Rattle.raft_log_engine.specs.raft_log_dual_pipes.specs.Pipes.{LogRecordValue}
@@ -24,10 +22,10 @@ use Rattle.raft_log_engine.specs.raft_log_engine_laws.specs.Reading.{IsFirstIn, 
 use Rattle.raft_log_engine.specs.raft_log_engine_laws.proofs.Reading.{tables_tell}
 use Rattle.raft_log_engine.specs.raft_log_record_base.specs.declared.errors.Error.{Error}
 use Rattle.raft_log_world.specs.declared.event.Answer.{Answer}
-use Rattle.raft_log_world.specs.declared.event.Answer.TheVariants.{Entries, Keys, Refused, Failed}
+use Rattle.raft_log_world.specs.declared.event.Answer.TheVariants.{Entries, Keys, Refused}
 use Rattle.raft_log_world.specs.declared.event.Call.TheVariants.{Fetch, Scan}
 use Rattle.raft_log_world.specs.Model.ModelLog.{running}
-use Rattle.raft_log_world.specs.Reads.{AreFetched, Fetches, HasEntries, HasNone, IsCount, Scans, all_bytes, bytes_of, pairs_of}
+use Rattle.raft_log_world.specs.Reads.{Fetches, HasEntries, IsCount, Scans, bytes_of}
 use Rattle.raft_log_world_engine.specs.Calls.{HasCopied, HasCopiedKeys, ServesAs, failure_of}
 use Rattle.raft_log_world_engine.proofs.Calling.{both, had_failed, reading, refused}
 use Rattle.raft_log_world_engine.proofs.Homes.{alive}
@@ -40,11 +38,11 @@ length_entries v n (p ∷ ps) = ap suc (length_entries v (n + 1) ps)
 
 fitting_le : (left : ℕ) (ps : List Place) → fitting left ps ≤ length ps
 fitting_le left [] = let low : 0 ≤ 0 = omega arith in low
-fitting_le left (p ∷ ps) = by (nat_le p.entry_len left)
+fitting_le left (p ∷ ps) = by (nat_le p.entry_len left) (fitting_le (left - p.entry_len) ps)
   where
-    by : (b : Bool) → (if b then suc (fitting (left - p.entry_len) ps) else 0) ≤ suc (length ps)
-    by true = let rest = fitting_le (left - p.entry_len) ps in omega (arith, rest)
-    by false = omega arith
+    by : (b : Bool) → fitting (left - p.entry_len) ps ≤ length ps → (if b then suc (fitting (left - p.entry_len) ps) else 0) ≤ suc (length ps)
+    by true rest = omega (arith, rest)
+    by false rest = omega arith
 
 sized_le : (max : Option ℕ) (ps : List Place) → sized max ps ≤ length ps
 sized_le None ps = omega arith

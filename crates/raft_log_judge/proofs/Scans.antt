@@ -1,5 +1,5 @@
 -- Scans, decided by the pairs that they returned and by the keys that were written.
-use Rattle.std.proofs.Common.{◌≡◌, ◌⊎◌, ◌↔◌, ◌×◌, ℕ, Bool, true, false, List, [], ◌∷◌, map, Option, None, Some, inl, inr, ap, refl, sym, subst, ◌∙◌, if◌then◌else◌, option_map, bytes_eq}
+use Rattle.std.proofs.Common.{◌≡◌, ◌⊎◌, ◌↔◌, ℕ, Bool, true, false, List, [], ◌∷◌, map, Option, None, Some, inl, inr, ap, refl, sym, subst, ◌∙◌, if◌then◌else◌, option_map, bytes_eq}
 use Rattle.std.specs.Prelude.{◌&&◌, is_some}
 use Rattle.std.specs.Cmp.Lexicographic.{slice_cmp}
 use Rattle.std.specs.List.{AllByRecursion}
@@ -38,23 +38,23 @@ not_below k below =
 -- a key that is found is among those that another one is below
 found_above : (k q v : List ℕ) (ps : Pairs) → AreBelow k (keys_of ps) → lookup (bytes_eq q) ps ≡ Some v → slice_cmp nat_cmp k q ≡ Less
 found_above k q v [] below is = absurd (let never : ⊥ = cc in never)
-found_above k q v (p ∷ ps) below is = by (bytes_eq q p.0) refl is
+found_above k q v (p ∷ ps) below is = by (bytes_eq q p.0) refl is (λ found. found_above k q v ps below.1 found)
   where
-    by : (b : Bool) → bytes_eq q p.0 ≡ b → (if b then Some p.1 else lookup (bytes_eq q) ps) ≡ Some v → slice_cmp nat_cmp k q ≡ Less
-    by true c found = subst (λ (x : List ℕ). slice_cmp nat_cmp k x ≡ Less) (sym ((bytes_eq-Decides q p.0).0 c)) below.0
-    by false c found = found_above k q v ps below.1 found
+    by : (b : Bool) → bytes_eq q p.0 ≡ b → (if b then Some p.1 else lookup (bytes_eq q) ps) ≡ Some v → (lookup (bytes_eq q) ps ≡ Some v → slice_cmp nat_cmp k q ≡ Less) → slice_cmp nat_cmp k q ≡ Less
+    by true c found more = subst (λ (x : List ℕ). slice_cmp nat_cmp k x ≡ Less) (sym ((bytes_eq-Decides q p.0).0 c)) below.0
+    by false c found more = more found
 
 module _ (m : Contents) (g : ℕ) (start end : Option (List ℕ)) where
   right_at : (ps : Pairs) (k v : List ℕ) → AreRight m g start end ps → lookup (bytes_eq k) ps ≡ Some v → IsRight m g start end (k, v)
   right_at [] k v right is = absurd (let never : ⊥ = cc in never)
-  right_at (p ∷ ps) k v right is = by (bytes_eq k p.0) refl is
+  right_at (p ∷ ps) k v right is = by (bytes_eq k p.0) refl is (λ found. right_at ps k v right.1 found)
     where
-      by : (b : Bool) → bytes_eq k p.0 ≡ b → (if b then Some p.1 else lookup (bytes_eq k) ps) ≡ Some v → IsRight m g start end (k, v)
-      by true c found =
+      by : (b : Bool) → bytes_eq k p.0 ≡ b → (if b then Some p.1 else lookup (bytes_eq k) ps) ≡ Some v → (lookup (bytes_eq k) ps ≡ Some v → IsRight m g start end (k, v)) → IsRight m g start end (k, v)
+      by true c found more =
           let same = (bytes_eq-Decides k p.0).0 c in
           let value : p.1 ≡ v = cc in
           subst (λ (x : List ℕ). IsRight m g start end (x, v)) (sym same) (subst (λ (y : List ℕ). IsRight m g start end (p.0, y)) value right.0)
-      by false c found = right_at ps k v right.1 found
+      by false c found more = more found
 
   module _ (pairs : Pairs) where
     abbrev pub TellsAll : List (List Change) → Type 0
@@ -72,6 +72,7 @@ module _ (m : Contents) (g : ℕ) (start end : Option (List ℕ)) where
           by false c = absurd (let out = scans.outside k c in let never : ⊥ = cc in never)
 
       all_right : (ps : Pairs) → IsStrictlySortedBy (slice_cmp nat_cmp) (keys_of ps) → ((k v : List ℕ) → lookup (bytes_eq k) ps ≡ Some v → lookup (bytes_eq k) pairs ≡ Some v) → AreRight m g start end ps
+      unfolding IsStrictlySortedBy
       all_right [] rising among = tt
       all_right (p ∷ ps) rising among = (
         one_right p.0 p.1 (among p.0 p.1 (ap (λ (b : Bool). if b then Some p.1 else lookup (bytes_eq p.0) ps) (same_key p.0))),

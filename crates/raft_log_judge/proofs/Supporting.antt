@@ -1,5 +1,5 @@
 -- What the judge reads of slots is what the contents have; and what contents have was written.
-use Rattle.std.proofs.Common.{◌≡◌, ◌⊎◌, ◌↔◌, ◌≤◌, ◌<◌, ◌-◌, ◌+◌, ℕ, zero, suc, Bool, true, false, List, [], ◌∷◌, ◌++◌, length, map, Option, None, Some, unwrap_or, inl, inr, append-nil, ap, refl, sym, subst, ◌∙◌, arith, if◌then◌else◌, ◌==◌, nat_lt, nat_le, option_map, slice_get, bytes_eq}
+use Rattle.std.proofs.Common.{◌≡◌, ◌⊎◌, ◌↔◌, ◌≤◌, ◌<◌, ◌-◌, ◌+◌, ℕ, zero, suc, Bool, true, false, List, [], ◌∷◌, ◌++◌, length, map, Option, None, Some, unwrap_or, inl, inr, append-nil, ap, refl, sym, subst, ◌∙◌, arith, if◌then◌else◌, ◌==◌, nat_lt, nat_le, not, option_map, slice_get, bytes_eq}
 use Rattle.std.specs.Prelude.{◌||◌}
 use Rattle.std.proofs.lemmas.Option.{slice_get_cases}
 use Rattle.std.proofs.lemmas.Slice.Eq.{bytes_eq-Decides}
@@ -41,16 +41,27 @@ module _ (shape : As) (one : (a b : List ℕ) → shape a ≡ shape b → a ≡ 
     λ is. (bytes_eq-Decides bytes want).1 (one bytes want (let same : shape bytes ≡ shape want = cc in same)),
   )
 
-  -- whatever is decided by a flag of two
-  by_flag : (want : Option (List ℕ)) (b x y : Bool) (o p : Option (Content (List ℕ) (List ℕ))) → (b ≡ true → Agrees shape want x o) → (b ≡ false → Agrees shape want y p) → Agrees shape want (if b then x else y) (if b then o else p)
-  by_flag want true x y o p yes no = yes refl
-  by_flag want false x y o p yes no = no refl
+abbrev entry_of : As
+entry_of bytes = Entry bytes
 
-one_entry : (a b : List ℕ) → Entry {V = List ℕ} a ≡ Entry b → a ≡ b
+abbrev value_of : As
+value_of bytes = Value bytes
+
+one_entry : (a b : List ℕ) → entry_of a ≡ entry_of b → a ≡ b
 one_entry a b is = cc
 
-one_value : (a b : List ℕ) → Value {E = List ℕ} a ≡ Value b → a ≡ b
+one_value : (a b : List ℕ) → value_of a ≡ value_of b → a ≡ b
 one_value a b is = cc
+
+-- flags
+
+pub from_not : (b : Bool) → not b ≡ false → b ≡ true
+from_not true is = refl
+from_not false is = absurd (let never : ⊥ = cc in never)
+
+pub to_not : (b : Bool) → not b ≡ true → b ≡ true → ⊥
+to_not true is yes = cc
+to_not false is yes = cc
 
 -- Steps.
 
@@ -105,13 +116,12 @@ module _ (shape : As) (want : Option (List ℕ)) (s : Slot) (step : Bool → Ite
     (ok : (flag : Bool) (m : Slots) (x : Item (List ℕ) (List ℕ)) → Agrees shape want flag (m s) → Agrees shape want (step flag x) (unwrap_or (write s x) (m s))) (g : ℕ) where
   folded_agrees : (xs : List (Tagged (List ℕ) (List ℕ))) (flag : Bool) (m : Slots) → Agrees shape want flag (m s) → Agrees shape want (folded (in_group g step) flag xs) (after m (of_group g xs) s)
   folded_agrees [] flag m h = h
-  folded_agrees (x ∷ xs) flag m h = by (x.group == g)
+  folded_agrees (x ∷ xs) flag m h = by (x.group == g) (folded_agrees xs (step flag x.item) (after m (x.item ∷ [])) (ok flag m x.item h)) (folded_agrees xs flag m h)
     where
-      by : (b : Bool) → Agrees shape want (folded (in_group g step) (if b then step flag x.item else flag) xs) (after m (if b then x.item ∷ of_group g xs else of_group g xs) s)
-      by true =
-          subst (Agrees shape want (folded (in_group g step) (step flag x.item) xs)) (sym (after_append m (x.item ∷ []) (of_group g xs) s))
-          (folded_agrees xs (step flag x.item) (after m (x.item ∷ [])) (ok flag m x.item h))
-      by false = folded_agrees xs flag m h
+      by : (b : Bool) → Agrees shape want (folded (in_group g step) (step flag x.item) xs) (after (after m (x.item ∷ [])) (of_group g xs) s) → Agrees shape want (folded (in_group g step) flag xs) (after m (of_group g xs) s)
+          → Agrees shape want (folded (in_group g step) (if b then step flag x.item else flag) xs) (after m (if b then x.item ∷ of_group g xs else of_group g xs) s)
+      by true one other = subst (Agrees shape want (folded (in_group g step) (step flag x.item) xs)) (sym (after_append m (x.item ∷ []) (of_group g xs) s)) one
+      by false one other = other
 
   all_agree : (batches : List (List Change)) (flag : Bool) (m : Contents) → Agrees shape want flag (m g s) → Agrees shape want (folded_all (in_group g step) flag batches) (taken m (map says_of batches) g s)
   all_agree [] flag m h = h
@@ -178,20 +188,21 @@ one_covered (Key k) m (Del l) h = by (bytes_eq l k)
 
 covered_in : (g : ℕ) (s : Slot) (xs : List (Tagged (List ℕ) (List ℕ))) (m : Slots) → m s ≡ None → (after m (of_group g xs) s ≡ None) ⊎ CoveredIn g s xs
 covered_in g s [] m h = inl h
-covered_in g s (x ∷ xs) m h = by (x.group == g) refl
+covered_in g s (x ∷ xs) m h = by (x.group == g) refl (λ n none. covered_in g s xs n none)
   where
-    later : (m' : Slots) → m' s ≡ None → (after m' (of_group g xs) s ≡ None) ⊎ CoveredIn g s (x ∷ xs)
-    later m' none = elim (covered_in g s xs m' none) [
-      | inl no ↦ inl no
-      | inr covered ↦ inr (inr covered)
-    ]
+    abbrev Later : Slots → Type 0
+    Later n = (after n (of_group g xs) s ≡ None) ⊎ CoveredIn g s xs
 
-    by : (b : Bool) → (x.group == g) ≡ b → (after m (if b then x.item ∷ of_group g xs else of_group g xs) s ≡ None) ⊎ CoveredIn g s (x ∷ xs)
-    by true c = elim (one_covered s m x.item h) [
-      | inl none ↦ subst (λ (o : Option (Content (List ℕ) (List ℕ))). (o ≡ None) ⊎ CoveredIn g s (x ∷ xs)) (sym (after_append m (x.item ∷ []) (of_group g xs) s)) (later (after m (x.item ∷ [])) none)
+    later : (n : Slots) → Later n → (after n (of_group g xs) s ≡ None) ⊎ CoveredIn g s (x ∷ xs)
+    later n (inl none) = inl none
+    later n (inr is) = inr (inr is)
+
+    by : (b : Bool) → (x.group == g) ≡ b → ((n : Slots) → n s ≡ None → Later n) → (after m (if b then x.item ∷ of_group g xs else of_group g xs) s ≡ None) ⊎ CoveredIn g s (x ∷ xs)
+    by true c more = elim (one_covered s m x.item h) [
+      | inl none ↦ subst (λ (o : Option (Content (List ℕ) (List ℕ))). (o ≡ None) ⊎ CoveredIn g s (x ∷ xs)) (sym (after_append m (x.item ∷ []) (of_group g xs) s)) (later (after m (x.item ∷ [])) (more (after m (x.item ∷ [])) none))
       | inr covers ↦ inr (inl (from_eq_true x.group g c, covers))
     ]
-    by false c = later m h
+    by false c more = later m (more m h)
 
 covered_all : (g : ℕ) (s : Slot) (batches : List (List Change)) (m : Contents) → m g s ≡ None → (taken m (map says_of batches) g s ≡ None) ⊎ CoveredAll g s batches
 covered_all g s [] m h = inl h
@@ -199,7 +210,7 @@ covered_all g s (batch ∷ batches) m h = elim (covered_in g s (map tagged batch
   | inl none ↦ (
       let first : taken m (says_of batch ∷ []) g s ≡ None = ap (λ (xs : List (Tagged (List ℕ) (List ℕ))). after (m g) (of_group g xs) s) (append-nil (map tagged batch)) ∙ none in
       elim (covered_all g s batches (taken m (says_of batch ∷ [])) first) [
-        | inl no ↦ inl (ap (λ (c : Contents). c g s) (sym (taken_twice m (says_of batch ∷ []) (map says_of batches))) ∙ no)
+        | inl gone ↦ inl (ap (λ (c : Contents). c g s) (sym (taken_twice m (says_of batch ∷ []) (map says_of batches))) ∙ gone)
         | inr covered ↦ inr (inr covered)
       ]
       )

@@ -2,17 +2,13 @@ use Rattle.std.proofs.Common.{◌≡◌, ◌∷◌, ◌+◌, [], List, drop, map
 use Rattle.raft_log_judge.specs.declared.change.Change.{Change}
 use Rattle.raft_log_judge.specs.Changes.{tagged}
 use Rattle.raft_log_judge.specs.Contents.{after_all}
-use Rattle.raft_log_judge.proofs.Supporting.{GoneAll, all_gone, none_left}
+use Rattle.raft_log_judge.proofs.Supporting.{GoneAll, all_gone, from_not, none_left, to_not}
 use Rattle.raft_log_judge.proofs.reading.has_none.Goals as goal
 
 pub returns-then-not-are_gone : goal.returns-then-not-are_gone
 returns-then-not-are_gone c = (
   λ no. absurd (let never : ⊥ = cc in never),
-  λ none. absurd (
-    let yes = c.are_gone.ensures.1 (all_gone (after_all c.args.batches.now) c.args.group c.args.begin c.args.end _ none) in
-    let no = c.if-are_gone.false in
-    let never : ⊥ = cc in never
-  ),
+  λ none. absurd (to_not c.are_gone.result c.if-not-are_gone.true (c.are_gone.ensures.1 (all_gone (after_all c.args.batches.now) c.args.group c.args.begin c.args.end _ none))),
 )
 
 pub loop-batch-init : goal.loop-batch-init
@@ -22,7 +18,7 @@ pub loop-batch-preserved : goal.loop-batch-preserved
 loop-batch-preserved c rest =
     let all = after_all c.args.batches.now in
     let split : drop c.loop-batch.batch-index c.args.batches.now ≡ c.in-Some.batch.now ∷ drop (c.loop-batch.batch-index + 1) c.args.batches.now = search rules in
-    c.loop-batch.invariant (subst (GoneAll all c.args.group c.args.begin c.args.end) (sym split) (c.are_gone.ensures.0 c.if-are_gone.true, rest))
+    c.loop-batch.invariant (subst (GoneAll all c.args.group c.args.begin c.args.end) (sym split) (c.are_gone.ensures.0 (from_not c.are_gone.result c.if-not-are_gone.false), rest))
 
 pub returns : goal.returns
 returns c =

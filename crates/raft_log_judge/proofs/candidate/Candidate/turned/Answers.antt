@@ -12,6 +12,6 @@ returns c =
     let bs = c.args.self.batches in
     let log = λ (n : ℕ). standing_log c.args.standing (taken no_contents (take n (map says_of bs))) (drop n (map says_of bs)) in
     elim c.if-settles.branch [
-      | then-settles w ↦ subst (λ (b : Bool). log c.if-settles.durable ≡ turned c.args.standing b c.args.self) (sym w.if-settles) (settled_log c.args.standing bs c.args.self.durable c.if-settles.durable (w.durable-is ∙ w.len-durable.ensures))
-      | else-settles w ↦ subst (λ (b : Bool). log c.if-settles.durable ≡ turned c.args.standing b c.args.self) (sym w.if-settles) (ap log w.durable-is)
+      | then-settles w ↦ subst (λ (b : Bool). log c.if-settles.durable ≡ turned c.args.standing b c.args.self) (sym w.if-settles.true) (settled_log c.args.standing bs c.args.self.durable c.if-settles.durable (w.durable-is ∙ w.len-durable.ensures))
+      | else-settles w ↦ subst (λ (b : Bool). log c.if-settles.durable ≡ turned c.args.standing b c.args.self) (sym w.if-settles.false) (ap log w.durable-is)
     ]

@@ -1,5 +1,0 @@
-mod Held
-mod Leading
-mod Scans
-mod Supporting
-mod Viewing

@@ -4,14 +4,15 @@ use Rattle.std.proofs.Math.Path.{fun_ext}
 use Rattle.raft_log_model_laws.specs.Groups.{taken}
 use Rattle.raft_log_model_laws.proofs.Steps.{taken_append}
 use Rattle.raft_log_world.specs.declared.event.Answer.{Answer}
-use Rattle.raft_log_world.specs.declared.event.Answer.TheVariants.{Done, Found, Refused, Failed, Idle}
+use Rattle.raft_log_world.specs.declared.event.Answer.TheVariants.{Done, Found, Entries, Keys, Refused, Failed, Idle}
 use Rattle.raft_log_world.specs.declared.event.Call.{Call}
-use Rattle.raft_log_world.specs.declared.event.Call.TheVariants.{Write, Sync, Get, GetEntry, Purge}
+use Rattle.raft_log_world.specs.declared.event.Call.TheVariants.{Write, Sync, Get, GetEntry, Fetch, Scan, Compact, Purge}
 use Rattle.raft_log_world.specs.declared.event.Event.{Event}
-use Rattle.raft_log_world.specs.declared.event.Event.TheVariants.{Open, Serve, Close, Crash}
+use Rattle.raft_log_world.specs.declared.event.Event.TheVariants.{Open, Serve, Close, Crash, Arm}
 use Rattle.raft_log_world.specs.Explained.{Explains}
 use Rattle.raft_log_world.specs.Kept.{GrowsBy, IsPart, KeepsDurable, durable, pending_in, written_in}
-use Rattle.raft_log_world.specs.Model.{Answers, BatchRecord, Contents, HasWritten, LosesSome, ModelLog, RunsOn, Serves}
+use Rattle.raft_log_world.specs.Model.{Answers, BatchRecord, FailsAt, HasWritten, LosesSome, ModelLog, RunsOn, Serves, compacts}
+use Rattle.raft_log_world.specs.Reads.{Contents}
 use Rattle.raft_log_world.specs.Model.ModelLog.{resting, left, running, failed}
 
 taken_twice : (m : Contents) (xs ys : List BatchRecord) → taken (taken m xs) ys ≡ taken m (xs ++ ys)
@@ -112,23 +113,35 @@ module _ (m : Contents) (pending : List BatchRecord) where
   fell : (more : List BatchRecord) (next : ModelLog) → next ≡ failed m pending → GrowsBy (running m pending) (pending ++ more) next
   fell more next is = of_equal (running m pending) next (failed m pending) (pending ++ more) is (kept (running m pending) (failed m pending) more refl (whole pending))
 
+-- the engine failed while it wrote a batch
+fails_at : (m : Contents) (pending : List BatchRecord) (batch : BatchRecord) (next : ModelLog) → FailsAt m pending batch next → GrowsBy (running m pending) (pending ++ batch ∷ []) next
+fails_at m pending batch next (inl is) = fell m pending (batch ∷ []) next is
+fails_at m pending batch next (inr is) =
+    of_equal (running m pending) next (failed m (pending ++ batch ∷ [])) (pending ++ batch ∷ []) is (record { done = []; contents = refl; part = whole (pending ++ batch ∷ []) })
+
 served : {B : Type 0} (C : Type 0) (says : B → BatchRecord) (m : Contents) (pending : List BatchRecord) (call : Call B) (answer : Answer) (next : ModelLog) → Serves says m pending call answer next → GrowsBy (running m pending) (pending ++ written_in {C = C} says (Serve call ∷ [])) next
 served C says m pending (Write batch sync) Done next (inl is) = has_written sync m pending (pending ++ says batch ∷ []) (pending ++ says batch ∷ []) next is (whole (pending ++ says batch ∷ []))
 served C says m pending (Write batch sync) Done next (inr is) = has_written sync m pending pending (pending ++ says batch ∷ []) next is.1 (prefix pending (says batch ∷ []))
 served C says m pending (Write batch sync) Refused next is = runs_on m pending pending (pending ++ says batch ∷ []) next is (prefix pending (says batch ∷ []))
-served C says m pending (Write batch sync) Failed next (inl is) = fell m pending (says batch ∷ []) next is
-served C says m pending (Write batch sync) Failed next (inr is) =
-    of_equal (running m pending) next (failed m (pending ++ says batch ∷ [])) (pending ++ says batch ∷ []) is (record { done = []; contents = refl; part = whole (pending ++ says batch ∷ []) })
+served C says m pending (Write batch sync) Failed next is = fails_at m pending (says batch) next is
 served C says m pending Sync Done next is = synced m pending [] next is
 served C says m pending Sync Failed next is = fell m pending [] next is
 served C says m pending (Get group key) (Found value) next is = stays m pending [] next is.1
 served C says m pending (Get group key) Refused next is = stays m pending [] next is
 served C says m pending (GetEntry group index) (Found value) next is = stays m pending [] next is.1
 served C says m pending (GetEntry group index) Refused next is = stays m pending [] next is
-served C says m pending Purge Done next is = synced m pending [] next is
-served C says m pending Purge Refused next is = synced m pending [] next is
-served C says m pending Purge Failed next (inl is) = fell m pending [] next is
-served C says m pending Purge Failed next (inr is) =
+served C says m pending (Fetch group begin end max) (Entries entries) next is = stays m pending [] next is.1
+served C says m pending (Fetch group begin end max) Refused next is = stays m pending [] next is
+served C says m pending (Scan group start end) (Keys pairs) next is = stays m pending [] next is.1
+served C says m pending (Scan group start end) Refused next is = stays m pending [] next is
+served C says m pending (Compact group index) Done next (inl is) = runs_on m pending (pending ++ compacts group index ∷ []) (pending ++ compacts group index ∷ []) next is (whole (pending ++ compacts group index ∷ []))
+served C says m pending (Compact group index) Done next (inr is) = stays m pending (compacts group index ∷ []) next is.1
+served C says m pending (Compact group index) Refused next is = runs_on m pending pending (pending ++ compacts group index ∷ []) next is (prefix pending (compacts group index ∷ []))
+served C says m pending (Compact group index) Failed next is = fails_at m pending (compacts group index) next is
+served C says m pending (Purge kind) Done next is = synced m pending [] next is
+served C says m pending (Purge kind) Refused next is = synced m pending [] next is
+served C says m pending (Purge kind) Failed next (inl is) = fell m pending [] next is
+served C says m pending (Purge kind) Failed next (inr is) =
     of_equal (running m pending) next (failed (taken m pending) []) (pending ++ []) is (all_done (running m pending) pending (pending ++ []) (failed (taken m pending) []) refl refl (prefix pending []))
 served C says m pending call answer next is = absurd is
 
@@ -155,6 +168,8 @@ module _ {B C : Type 0} (says : B → BatchRecord) where
   one (left m pending) (Crash what) Done next is = of_equal (left m pending) next (resting is.0) (pending ++ []) is.2 (some_lost (left m pending) [] is.0 (resting is.0) is.1 refl refl)
   one (running m pending) (Crash what) Done next is = of_equal (running m pending) next (resting is.0) (pending ++ []) is.2 (some_lost (running m pending) [] is.0 (resting is.0) is.1 refl refl)
   one (failed m pending) (Crash what) Done next is = of_equal (failed m pending) next (resting is.0) (pending ++ []) is.2 (some_lost (failed m pending) [] is.0 (resting is.0) is.1 refl refl)
+  one log (Arm fault) Done next is = idle log next [] is
+  one log (Arm fault) Refused next is = idle log next [] is
   one log event Idle next is = idle log next (written_in says (event ∷ [])) is.1
   one log event answer next is = absurd is
 
@@ -162,6 +177,7 @@ module _ {B C : Type 0} (says : B → BatchRecord) where
 
   written_first : (event : Event B C) (events : List (Event B C)) → written_in says (event ∷ events) ≡ written_in says (event ∷ []) ++ written_in says events
   written_first (Serve (Write batch sync)) events = refl
+  written_first (Serve (Compact group index)) events = refl
   written_first event events = refl
 
   joined : (log next last : ModelLog) (event : Event B C) (events : List (Event B C)) → GrowsBy log (pending_in log ++ written_in says (event ∷ [])) next → GrowsBy next (pending_in next ++ written_in says events) last

@@ -2,12 +2,13 @@
 use Rattle.std.specs.Prelude.{◌≡◌, ◌⊎◌, List, [], ◌∷◌, ◌++◌}
 use Rattle.raft_log_model_laws.specs.Groups.{taken}
 use Rattle.raft_log_world.specs.declared.event.Answer.{Answer}
-use Rattle.raft_log_world.specs.declared.event.Call.TheVariants.{Write}
+use Rattle.raft_log_world.specs.declared.event.Call.TheVariants.{Compact, Write}
 use Rattle.raft_log_world.specs.declared.event.Event.{Event}
 use Rattle.raft_log_world.specs.declared.event.Event.TheVariants.{Serve}
 use Rattle.raft_log_world.specs.Explained.{Explains}
-use Rattle.raft_log_world.specs.Model.{BatchRecord, Contents, ModelLog}
+use Rattle.raft_log_world.specs.Model.{BatchRecord, ModelLog, compacts}
 use Rattle.raft_log_world.specs.Model.ModelLog.{resting, left, running, failed}
+use Rattle.raft_log_world.specs.Reads.{Contents}
 
 -- the durable contents of a log
 abbrev pub durable : ModelLog → Contents
@@ -23,10 +24,11 @@ pending_in (left m pending) = pending
 pending_in (running m pending) = pending
 pending_in (failed m pending) = pending
 
--- the records of the batches that these events write
+-- the records of the batches that these events write, a compaction's among them
 abbrev pub written_in : {B C : Type 0} → (B → BatchRecord) → List (Event B C) → List BatchRecord
 written_in says [] = []
 written_in says (Serve (Write batch sync) ∷ events) = says batch ∷ written_in says events
+written_in says (Serve (Compact group index) ∷ events) = compacts group index ∷ written_in says events
 written_in says (event ∷ events) = written_in says events
 
 -- the first list is a part of the second: its elements are elements of it, in the same order

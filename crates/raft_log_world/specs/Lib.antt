@@ -2,5 +2,6 @@ pub mod Explained
 pub mod Kept
 pub mod Logs
 pub mod Model
+pub mod Reads
 pub mod Run
 pub mod Steps

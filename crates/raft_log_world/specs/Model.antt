@@ -1,21 +1,19 @@
 -- The model log: a log that never crashes, as its callers see it. It says which answers an event may have, and what the
 -- log is afterwards. A crash of the machine only loses the last few batches that aren't synced yet.
-use Rattle.std.specs.Prelude.{◌≡◌, ◌⊎◌, ◌≤◌, ℕ, Bool, true, false, List, [], ◌∷◌, ◌++◌, length, take, Option, option_map}
-use Rattle.std.specs.Global.{Vec}
+use Rattle.std.specs.Prelude.{◌≡◌, ◌⊎◌, ◌≤◌, ℕ, Bool, true, false, List, [], ◌∷◌, ◌++◌, length, take, option_map}
 use Rattle.raft_log_model_laws.specs.Item.{Record, items_of}
+use Rattle.raft_log_model_laws.specs.Item.Item.{Compact as CompactItem}
+use Rattle.raft_log_model_laws.specs.Item.Record.{Plain}
 use Rattle.raft_log_model_laws.specs.Meaning.Slot.{Index, Key}
 use Rattle.raft_log_model_laws.specs.Meaning.Content.{Entry, Value}
-use Rattle.raft_log_model_laws.specs.Groups.{Map, taken}
+use Rattle.raft_log_model_laws.specs.Groups.{taken}
 use Rattle.raft_log_world.specs.declared.event.Answer.{Answer}
-use Rattle.raft_log_world.specs.declared.event.Answer.TheVariants.{Done, Found, Refused, Failed, Idle}
+use Rattle.raft_log_world.specs.declared.event.Answer.TheVariants.{Done, Found, Entries, Keys, Refused, Failed, Idle}
 use Rattle.raft_log_world.specs.declared.event.Call.{Call}
-use Rattle.raft_log_world.specs.declared.event.Call.TheVariants.{Write, Sync, Get, GetEntry, Purge}
+use Rattle.raft_log_world.specs.declared.event.Call.TheVariants.{Write, Sync, Get, GetEntry, Fetch, Scan, Compact, Purge}
 use Rattle.raft_log_world.specs.declared.event.Event.{Event}
-use Rattle.raft_log_world.specs.declared.event.Event.TheVariants.{Open, Serve, Close, Crash}
-
--- the contents of a log: for each raft group, the bytes of its entry at each index, and the value of each key
-abbrev pub Contents : Type 0
-Contents = Map (List ℕ) (List ℕ)
+use Rattle.raft_log_world.specs.declared.event.Event.TheVariants.{Open, Serve, Close, Crash, Arm}
+use Rattle.raft_log_world.specs.Reads.{Contents, Fetches, HasNone, Scans, all_bytes, bytes_of, pairs_of}
 
 -- the record that a batch is written as: what it changes, in which groups
 abbrev pub BatchRecord : Type 0
@@ -60,21 +58,29 @@ abbrev pub Adds : Bool → Contents → List BatchRecord → BatchRecord → Mod
 Adds sync m pending batch next = HasWritten sync m (pending ++ batch ∷ []) next
     ⊎ ((items_of batch ≡ []) × HasWritten sync m pending next)
 
--- the bytes that a read returned, or none
-abbrev pub bytes_of : Option (Vec ℕ) → Option (List ℕ)
-bytes_of found = option_map (λ bytes. bytes.items) found
+-- the record that deletes the entries of a group below an index
+abbrev pub compacts : ℕ → ℕ → BatchRecord
+compacts group index = Plain (record { group = group; item = CompactItem index } ∷ [])
+
+-- a group is compacted: the record is written after the pending batches, unless it would delete nothing
+abbrev pub Compacts : Contents → List BatchRecord → ℕ → ℕ → ModelLog → Type 0
+Compacts m pending group index next = RunsOn m (pending ++ compacts group index ∷ []) next
+    ⊎ (HasNone (taken m pending) group 0 index × (next ≡ running m pending))
+
+-- the engine failed while it wrote this batch, which may be written or not
+abbrev pub FailsAt : Contents → List BatchRecord → BatchRecord → ModelLog → Type 0
+FailsAt m pending batch next = (next ≡ failed m pending) ⊎ (next ≡ failed m (pending ++ batch ∷ []))
 
 -- How an engine that runs answers a call, and what the log is then. Its contents are `m`, and `pending` are the pending
 -- batches. `says` gives the record of a batch.
--- - A write that succeeds adds its batch. A sync, and a purge, make all batches durable.
+-- - A write that succeeds adds its batch, and a compaction its record. A sync, and a purge, make all batches durable.
 -- - A read returns what the contents have after all batches.
 -- - If a call fails and the engine runs on, the call leaves no trace of its batch, and loses no other.
 -- - If the engine fails in a write, its batch may be written or not.
 abbrev pub Serves : {B : Type 0} → (B → BatchRecord) → Contents → List BatchRecord → Call B → Answer → ModelLog → Type 0
 Serves says m pending (Write batch sync) Done next = Adds sync m pending (says batch) next
 Serves says m pending (Write batch sync) Refused next = RunsOn m pending next
-Serves says m pending (Write batch sync) Failed next =
-    (next ≡ failed m pending) ⊎ (next ≡ failed m (pending ++ says batch ∷ []))
+Serves says m pending (Write batch sync) Failed next = FailsAt m pending (says batch) next
 Serves says m pending Sync Done next = next ≡ running (taken m pending) []
 Serves says m pending Sync Failed next = next ≡ failed m pending
 Serves says m pending (Get group key) (Found value) next =
@@ -83,9 +89,18 @@ Serves says m pending (Get group key) Refused next = next ≡ running m pending
 Serves says m pending (GetEntry group index) (Found entry) next =
     (taken m pending group (Index index) ≡ option_map Entry (bytes_of entry)) × (next ≡ running m pending)
 Serves says m pending (GetEntry group index) Refused next = next ≡ running m pending
-Serves says m pending Purge Done next = next ≡ running (taken m pending) []
-Serves says m pending Purge Refused next = next ≡ running (taken m pending) []
-Serves says m pending Purge Failed next = (next ≡ failed m pending) ⊎ (next ≡ failed (taken m pending) [])
+Serves says m pending (Fetch group begin end max) (Entries entries) next =
+    Fetches (taken m pending) group begin end max (all_bytes entries.items) × (next ≡ running m pending)
+Serves says m pending (Fetch group begin end max) Refused next = next ≡ running m pending
+Serves says m pending (Scan group start end) (Keys pairs) next =
+    Scans (taken m pending) group (bytes_of start) (bytes_of end) (pairs_of pairs.items) × (next ≡ running m pending)
+Serves says m pending (Scan group start end) Refused next = next ≡ running m pending
+Serves says m pending (Compact group index) Done next = Compacts m pending group index next
+Serves says m pending (Compact group index) Refused next = RunsOn m pending next
+Serves says m pending (Compact group index) Failed next = FailsAt m pending (compacts group index) next
+Serves says m pending (Purge kind) Done next = next ≡ running (taken m pending) []
+Serves says m pending (Purge kind) Refused next = next ≡ running (taken m pending) []
+Serves says m pending (Purge kind) Failed next = (next ≡ failed m pending) ⊎ (next ≡ failed (taken m pending) [])
 Serves says m pending call answer next = ⊥
 
 -- a call or a close does nothing if no engine has the log open, and an open if one has
@@ -94,6 +109,7 @@ IsIdle opened (Open workers) = opened ≡ true
 IsIdle opened (Serve call) = opened ≡ false
 IsIdle opened Close = opened ≡ false
 IsIdle opened (Crash what) = ⊥
+IsIdle opened (Arm fault) = ⊥
 
 -- How the log answers an event, and what it is then:
 -- - After an open the engine runs. What was pending is durable, or its last few batches are lost. If the open fails,
@@ -101,6 +117,7 @@ IsIdle opened (Crash what) = ⊥
 -- - A close that succeeds makes all batches durable. One that fails leaves them pending.
 -- - A crash loses the last few pending batches, and nothing else.
 -- - An engine that has failed fails each call, and a close, and changes nothing.
+-- - A fault that is armed changes nothing. Later events may fail.
 abbrev pub Answers : {B C : Type 0} → (B → BatchRecord) → ModelLog → Event B C → Answer → ModelLog → Type 0
 Answers says (resting m) (Open workers) Done next = next ≡ running m []
 Answers says (resting m) (Open workers) Refused next = (next ≡ resting m) ⊎ (next ≡ left m [])
@@ -120,5 +137,7 @@ Answers says (running m pending) (Crash what) Done next =
     (now : Contents) × LosesSome m pending now × (next ≡ resting now)
 Answers says (failed m pending) (Crash what) Done next =
     (now : Contents) × LosesSome m pending now × (next ≡ resting now)
+Answers says log (Arm fault) Done next = next ≡ log
+Answers says log (Arm fault) Refused next = next ≡ log
 Answers says log event Idle next = IsIdle (is_open log) event × (next ≡ log)
 Answers says log event answer next = ⊥

@@ -26,8 +26,72 @@ pub enum Call<B> {
         /// The index.
         index: u64,
     },
-    /// Collects garbage in both queues, if they are past the thresholds of the settings.
-    Purge,
+    /// Reads the entries of a group from an index on.
+    Fetch {
+        /// The group.
+        group: u64,
+        /// The index of the first entry.
+        begin: u64,
+        /// The index after the last entry.
+        end: u64,
+        /// The greatest size in bytes, if there is one. The first entry may be larger.
+        max: Option<u64>,
+    },
+    /// Reads the keys of a group and their values, in the order of the keys' bytes.
+    Scan {
+        /// The group.
+        group: u64,
+        /// The least key, if the scan has one.
+        start: Option<Vec<u8>>,
+        /// The scan has only keys below this one, if there is one.
+        end: Option<Vec<u8>>,
+    },
+    /// Deletes the entries of a group below an index.
+    Compact {
+        /// The group.
+        group: u64,
+        /// The index.
+        index: u64,
+    },
+    /// Collects garbage.
+    Purge(Purge),
+}
+
+/// How garbage is collected.
+#[derive(Drop)]
+pub enum Purge {
+    /// In both queues, if they are past the thresholds of the settings.
+    Expired,
+    /// All files that nothing in use is in. Nothing is copied.
+    Stale,
+    /// What is live in Append is written to Rewrite.
+    RewriteAppend {
+        /// The number of the last file to rewrite, if it isn't the last one of Append.
+        watermark: Option<u64>,
+        /// The step to end after, if it isn't the last one.
+        exit_after_step: Option<u64>,
+    },
+    /// What is live in Rewrite is written to it again.
+    RewriteRewrite,
+}
+
+/// A fault of the file system. Only calls that change files are counted, from the next one on.
+#[derive(Drop)]
+pub enum Fault {
+    /// A call fails. A write writes some of its first bytes before.
+    Refuse {
+        /// The number of the call.
+        call: u64,
+        /// How many bytes a write writes.
+        part: u64,
+    },
+    /// The file system stops.
+    Stop {
+        /// The number of the call.
+        call: u64,
+        /// Whether the call is done before.
+        after: bool,
+    },
 }
 
 /// One event. `C` is the type of what a crash leaves.
@@ -42,6 +106,11 @@ pub enum Event<B, C> {
     Serve(Call<B>),
     /// Closes the log, if an engine has it open.
     Close,
+    /// A fault of the file system is armed. It makes later calls fail.
+    Arm {
+        /// The fault.
+        fault: Fault,
+    },
     /// The machine stops. No engine has the log open then.
     Crash {
         /// What remains of the unsynced changes.
@@ -56,6 +125,10 @@ pub enum Answer {
     Done,
     /// A read returned the bytes, or nothing.
     Found(Option<Vec<u8>>),
+    /// A read returned these entries, one after another.
+    Entries(Vec<Vec<u8>>),
+    /// A read returned these keys, each with its value.
+    Keys(Vec<(Vec<u8>, Vec<u8>)>),
     /// It failed. If it was a call, the engine runs on.
     Refused,
     /// It failed, and the engine has failed: before this event, or in it.

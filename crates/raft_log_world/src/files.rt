@@ -3,7 +3,7 @@ ghost use Rattle.std.specs.Prelude.{IfErr, IfOk};
 ghost use Rattle.std.specs.Thread.{IsSync};
 ghost use Rattle.raft_log_world.specs.Logs.{Follows};
 
-use crate::event::{Answer, Call, Event};
+use crate::event::{Answer, Call, Event, Fault, Purge};
 use crate::storage::Storage;
 use std::alloc::{AllocError, Global};
 use std::thread::Threads;
@@ -46,14 +46,52 @@ pub trait LogFiles<R, S, B, C>: Sized {
         ensures { Follows log (Storage.Open engine.old) (Event.Serve (Call.GetEntry group index)) result
             (Storage.Open engine.new) };
 
-    /// Collects garbage in both queues, if they are past the thresholds of the settings. Returns how that ended.
-    fn purge(engine: &mut S, rt: &R) -> Answer
-        ensures { Follows log (Storage.Open engine.old) (Event.Serve Call.Purge) result
+    /// Reads the entries of a group from an index on, below another one, up to a greatest size in bytes. Returns them,
+    /// or how the read failed.
+    fn fetch(
+        engine: &mut S,
+        alloc: Global,
+        group: u64,
+        begin: u64,
+        end: u64,
+        max: Option<u64>,
+    ) -> Answer
+        ensures { Follows log (Storage.Open engine.old) (Event.Serve (Call.Fetch group begin end max)) result
+            (Storage.Open engine.new) };
+
+    /// Reads the keys of a group from one on, below another one, and their values. Returns them, or how the read
+    /// failed.
+    fn scan(
+        engine: &mut S,
+        alloc: Global,
+        group: u64,
+        start: Option<Vec<u8>>,
+        end: Option<Vec<u8>>,
+    ) -> Answer
+        ensures { Follows log (Storage.Open engine.old) (Event.Serve (Call.Scan group start end)) result
+            (Storage.Open engine.new) };
+
+    /// Deletes the entries of a group below an index. Returns how that ended.
+    fn compact(engine: &mut S, rt: &R, group: u64, index: u64) -> Answer
+        ensures { Follows log (Storage.Open engine.old) (Event.Serve (Call.Compact group index)) result
+            (Storage.Open engine.new) };
+
+    /// Collects garbage. Returns how that ended.
+    fn purge(engine: &mut S, rt: &R, kind: Purge) -> Answer
+        ensures { Follows log (Storage.Open engine.old) (Event.Serve (Call.Purge kind)) result
             (Storage.Open engine.new) };
 
     /// Closes the log. Returns how that ended, and the files in any case.
     fn close(engine: S, rt: &R) -> (Answer, Self)
         ensures { Follows log (Storage.Open engine) Event.Close result.0 (Storage.Closed result.1) };
+
+    /// Arms a fault of the files. Returns how that ended.
+    fn arm(&mut self, fault: &Fault) -> Answer
+        ensures { Follows log (Storage.Closed self.old) (Event.Arm fault.now) result (Storage.Closed self.new) };
+
+    /// Arms a fault of the files below an engine. Returns how that ended.
+    fn arm_under(engine: &mut S, fault: &Fault) -> Answer
+        ensures { Follows log (Storage.Open engine.old) (Event.Arm fault.now) result (Storage.Open engine.new) };
 
     /// Returns what a crash of the machine leaves of the files. Fails only for lack of memory.
     fn crash(self, left: &C) -> Result<Self, AllocError>

@@ -8,7 +8,7 @@ mod report;
 mod storage;
 mod world;
 
-pub use event::{Answer, Call, Event};
+pub use event::{Answer, Call, Event, Fault, Purge};
 pub use files::LogFiles;
 pub use report::LogReport;
 pub use storage::{Played, Storage};

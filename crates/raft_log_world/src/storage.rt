@@ -2,7 +2,7 @@
 ghost use Rattle.std.specs.Prelude.{IfOk};
 ghost use Rattle.raft_log_world.specs.Logs.{Follows};
 
-use crate::event::{Answer, Call, Event};
+use crate::event::{Answer, Call, Event, Fault};
 use crate::files::LogFiles;
 use std::alloc::{AllocError, Global};
 use std::thread::Threads;
@@ -28,6 +28,7 @@ pub struct Played<S, F> {
 /// Calls the engine. Returns how the call ended.
 fn call_engine<R, S, B: Drop, C, F: LogFiles<R, S, B, C>>(
     rt: &R,
+    alloc: Global,
     engine: &mut S,
     call: Call<B>,
 ) -> Answer
@@ -38,7 +39,15 @@ fn call_engine<R, S, B: Drop, C, F: LogFiles<R, S, B, C>>(
         Call::Sync => F::sync(engine, rt),
         Call::Get { group, key } => F::get(engine, group, key),
         Call::GetEntry { group, index } => F::get_entry(engine, group, index),
-        Call::Purge => F::purge(engine, rt),
+        Call::Fetch {
+            group,
+            begin,
+            end,
+            max,
+        } => F::fetch(engine, alloc, group, begin, end, max),
+        Call::Scan { group, start, end } => F::scan(engine, alloc, group, start, end),
+        Call::Compact { group, index } => F::compact(engine, rt, group, index),
+        Call::Purge(kind) => F::purge(engine, rt, kind),
     }
 }
 
@@ -56,8 +65,9 @@ impl<S: Drop, F: Drop> Storage<S, F> {
     {
         match event {
             Event::Open { workers } => Ok(self.open::<R, B, C>(rt, alloc, workers)),
-            Event::Serve(call) => Ok(self.serve::<R, B, C>(rt, call)),
+            Event::Serve(call) => Ok(self.serve::<R, B, C>(rt, alloc, call)),
             Event::Close => Ok(self.close::<R, B, C>(rt)),
+            Event::Arm { fault } => Ok(self.arm::<R, B, C>(&fault)),
             Event::Crash { left } => self.crash::<R, B, C>(&left),
         }
     }
@@ -92,7 +102,7 @@ impl<S: Drop, F: Drop> Storage<S, F> {
     }
 
     /// Calls the engine, if one has the log open.
-    fn serve<R, B: Drop, C: Drop>(self, rt: &R, call: Call<B>) -> Played<S, F>
+    fn serve<R, B: Drop, C: Drop>(self, rt: &R, alloc: Global, call: Call<B>) -> Played<S, F>
     where
         F: LogFiles<R, S, B, C>,
         ensures { Follows F.log self (Event.Serve call) result.answer result.storage }
@@ -103,7 +113,7 @@ impl<S: Drop, F: Drop> Storage<S, F> {
                 storage: Storage::Closed(files),
             },
             Storage::Open(mut engine) => {
-                let answer = call_engine::<R, S, B, C, F>(rt, &mut engine, call);
+                let answer = call_engine::<R, S, B, C, F>(rt, alloc, &mut engine, call);
                 Played {
                     answer,
                     storage: Storage::Open(engine),
@@ -128,6 +138,30 @@ impl<S: Drop, F: Drop> Storage<S, F> {
                 Played {
                     answer,
                     storage: Storage::Closed(files),
+                }
+            }
+        }
+    }
+
+    /// Arms a fault of the files.
+    fn arm<R, B: Drop, C: Drop>(self, fault: &Fault) -> Played<S, F>
+    where
+        F: LogFiles<R, S, B, C>,
+        ensures { Follows F.log self (Event.Arm fault.now) result.answer result.storage }
+    {
+        match self {
+            Storage::Closed(mut files) => {
+                let answer = files.arm(fault);
+                Played {
+                    answer,
+                    storage: Storage::Closed(files),
+                }
+            }
+            Storage::Open(mut engine) => {
+                let answer = F::arm_under(&mut engine, fault);
+                Played {
+                    answer,
+                    storage: Storage::Open(engine),
                 }
             }
         }

@@ -1,6 +1,6 @@
 -- What each call of an engine answers, and which log the engine is then.
-use Rattle.std.proofs.Common.{◌≡◌, ◌⊎◌, ◌↔◌, ℕ, Bool, true, false, List, [], ◌∷◌, ◌++◌, Option, None, Some, inl, inr, refl, sym, ap, subst, ◌∙◌}
-use Rattle.std.specs.Prelude.{Err, IfErr, IfOk, IsTrue, Ok, OnOk, Result, option_map, unwrap_or}
+use Rattle.std.proofs.Common.{◌≡◌, ◌⊎◌, ◌↔◌, ◌-◌, ℕ, Bool, true, false, List, [], ◌∷◌, ◌++◌, Option, None, Some, inl, inr, refl, sym, ap, subst, ◌∙◌, if◌then◌else◌, length, nat_lt}
+use Rattle.std.specs.Prelude.{min, IsTrue, option_map, unwrap_or}
 use Rattle.std.specs.Global.{Vec}
 use Rattle.std.proofs.lemmas.Bool.{false≢true}
 use Rattle.raft_log_engine.specs.raft_log_model_laws.specs.Groups.{taken}
@@ -12,29 +12,42 @@ use Rattle.raft_log_engine.specs.raft_log_record_base.specs.declared.errors.Erro
 use Rattle.raft_log_engine.specs.raft_log_record_base.specs.declared.errors.Error.TheVariants as errors
 use Rattle.raft_log_engine.specs.raft_log_record_items.specs.declared.item.LogItem.{LogItem}
 use Rattle.raft_log_engine.specs.raft_log_record_items.specs.declared.raw_message.RawMessage.{RawMessage}
-use Rattle.raft_log_engine.specs.raft_log_record_frames.specs.Meaning.{record_of}
+use Rattle.raft_log_engine.specs.raft_log_record_items.specs.declared.command.Command.TheVariants as commands
+use Rattle.raft_log_engine.specs.raft_log_record_items.specs.declared.entry.EntryIndex.{EntryIndex}
+use Rattle.raft_log_engine.specs.raft_log_record_frames.proofs.Meanings.{keeps_mark, no_mark_key}
+use Rattle.raft_log_engine.specs.raft_log_record_frames.specs.declared.marking.Marking.{Marking}
+use Rattle.raft_log_engine.specs.raft_log_record_frames.specs.ItemBatch.{command_item}
+use Rattle.raft_log_engine.specs.raft_log_record_frames.specs.Meaning.{IsUsers, marked, record_of, tagged, tagged_items, unless_mark}
 use Rattle.raft_log_engine.specs.raft_log_record_batches.specs.Batch.{Batch}
 use Rattle.raft_log_engine.specs.raft_log_record_batches.specs.Places.{entry_bytes}
 use Rattle.raft_log_engine.specs.raft_log_memtables.specs.Views.{view_of}
 use Rattle.raft_log_engine.specs.raft_log_dual_pipes.specs.Pipes.{LogRecordValue}
-use Rattle.raft_log_engine.specs.raft_log_engine_core.specs.Purging.{StopsPurgingExpired}
-use Rattle.raft_log_engine.specs.raft_log_engine_core.specs.Reads.{IsUncopied, Lives}
+use Rattle.raft_log_engine.specs.raft_log_engine_core.specs.Compacting.{CompactsTo, FailsToCompact, SaysCompact, entries_below}
+use Rattle.raft_log_memtable_index.specs.Shown.{Shown}
+use Rattle.raft_log_memtable.specs.Reads.{first_of}
+use Rattle.raft_log_engine.specs.raft_log_engine_laws.proofs.Reading.{tables_tell}
+use Rattle.raft_log_engine.specs.raft_log_engine_laws.proofs.Settling.{settled_held}
+use Rattle.raft_log_engine.specs.raft_log_engine_laws.specs.Reading.{IsFirstIn}
+use Rattle.raft_log_engine.specs.raft_log_engine_laws.specs.Settled.{HoldsSettled}
+use Rattle.raft_log_purge_copy.specs.Parts.{Remains}
 use Rattle.raft_log_engine.specs.raft_log_engine_laws.specs.EngineState.{LogDirectories, LogMap, EngineState, has_failed, said_of}
 use Rattle.raft_log_engine.specs.raft_log_engine_laws.specs.Fetching.{FailsToTell, HadFailed, IsEntryTold, TellsEntry}
 use Rattle.raft_log_engine.specs.raft_log_engine_laws.specs.Holding.{EndsAt, Represents, IsRecoverableAs, RunsAs}
 use Rattle.raft_log_engine.specs.raft_log_engine_laws.specs.Reading.{ReadsValue}
 use Rattle.raft_log_engine.specs.raft_log_engine_laws.specs.Syncing.{FailsToSyncAppend, NotSynced, SyncsAppend}
-use Rattle.raft_log_engine.specs.raft_log_engine_laws.specs.Writing.{IsUnfit, Leaves, NotWritten, PipesRefused, Writes, WritesBytes}
+use Rattle.raft_log_engine.specs.raft_log_engine_laws.specs.Writing.{Leaves, NotWritten, WritesBytes}
 use Rattle.raft_log_world.specs.declared.event.Answer.{Answer}
 use Rattle.raft_log_world.specs.declared.event.Answer.TheVariants.{Done, Found, Refused, Failed}
 use Rattle.raft_log_world.specs.declared.event.Call.{Call}
-use Rattle.raft_log_world.specs.declared.event.Call.TheVariants.{Write, Sync, Get, GetEntry, Purge}
-use Rattle.raft_log_world.specs.Model.{HasWritten, ModelLog, RunsOn, Serves, bytes_of}
+use Rattle.raft_log_world.specs.declared.event.Call.TheVariants.{Compact, Write, Sync, Get, GetEntry, Purge as PurgeCall}
+use Rattle.raft_log_world.specs.declared.event.Purge.{Purge}
+use Rattle.raft_log_world.specs.Model.{ModelLog, RunsOn, Serves, compacts}
+use Rattle.raft_log_world.specs.Reads.{bytes_of}
 use Rattle.raft_log_world.specs.Model.ModelLog.{running, failed}
 use Rattle.raft_log_world_engine.specs.Calls.{IsEngineLog, ServesAs, failure_of}
 use Rattle.raft_log_world_engine.proofs.Homes.{alive}
 
-both : (s : EngineState) → has_failed s ≡ false → has_failed s ≡ true → ⊥
+pub both : (s : EngineState) → has_failed s ≡ false → has_failed s ≡ true → ⊥
 both s lives fails = false≢true (sym lives ∙ fails)
 
 -- A call of an engine that runs: what it answers, and what the engine is then.
@@ -42,7 +55,7 @@ abbrev Served : LogDirectories → LogMap → List LogRecordValue → Call Batch
 Served home m pending call answer t = (next : ModelLog) × Serves said_of m pending call answer next × IsEngineLog home t next
 
 -- the answer of a call after which the engine runs
-refused : (call : Call Batch) (home : LogDirectories) (m : LogMap) (pending : List LogRecordValue) (t : EngineState) → has_failed t ≡ false → Served home m pending call Refused t → Served home m pending call (failure_of (has_failed t)) t
+pub refused : (call : Call Batch) (home : LogDirectories) (m : LogMap) (pending : List LogRecordValue) (t : EngineState) → has_failed t ≡ false → Served home m pending call Refused t → Served home m pending call (failure_of (has_failed t)) t
 refused call home m pending t lives s = subst (λ (b : Bool). Served home m pending call (failure_of b) t) (sym lives) s
 
 -- the answer of a call in which it failed
@@ -50,7 +63,7 @@ gone : (call : Call Batch) (home : LogDirectories) (m : LogMap) (pending : List 
 gone call home m pending t fails s = subst (λ (b : Bool). Served home m pending call (failure_of b) t) (sym fails) s
 
 -- a call that failed with an engine that had failed
-had_failed : (s t : EngineState) → has_failed s ≡ true → t ≡ s → (failure_of (has_failed t) ≡ Failed) × (t ≡ s)
+pub had_failed : (s t : EngineState) → has_failed s ≡ true → t ≡ s → (failure_of (has_failed t) ≡ Failed) × (t ≡ s)
 had_failed s t fails same = (ap (λ (e : EngineState). failure_of (has_failed e)) same ∙ ap failure_of fails, same)
 
 -- the answer of a call that failed, as it is asked for
@@ -218,31 +231,110 @@ entry_not_found s t group index error (inr f) = record {
   fails = λ fails. absurd (both s f.lived fails);
 }
 
+-- Compactions.
+
+none_below : (v : Shown) (index : ℕ) → entries_below v index ≡ None → first_of v ≡ None
+none_below v index is = by (nat_lt 0 (length v.places)) is
+  where
+    by : (b : Bool) → (if b then Some (min (index - v.first) (length v.places)) else None) ≡ None → (if b then Some v.first else None) ≡ None
+    by true some = absurd (let never : ⊥ = cc in never)
+    by false none = refl
+
+-- what a batch says that has one user's item
+one_said : (entry : EntryIndex → List ℕ) (x : LogItem) → IsUsers x.content → ◌≡◌ {A = LogRecordValue} (unwrap_or (record_of entry (x ∷ [])) (Plain [])) (Plain (tagged entry x ∷ []))
+one_said entry x own =
+    ap (λ (m : Marking). unwrap_or (marked m (tagged_items entry (x ∷ []))) (Plain [])) (keeps_mark [] x own)
+    ∙ ap (λ (b : Bool). Plain (unless_mark b (tagged entry x) [])) (no_mark_key x own)
+
+said_compact : (group index : ℕ) (b : Batch) → SaysCompact group index b → said_of b ≡ compacts group index
+said_compact group index b says =
+    ap (λ (l : List LogItem). unwrap_or (record_of (entry_bytes b.entries) l) (Plain [])) says.items
+    ∙ one_said (entry_bytes b.entries) (command_item group (commands.Compact index)) tt
+
+pub compacted : (s t : EngineState) (group index count : ℕ) → CompactsTo group index count s t → ServesAs s (Compact group index) Done t
+compacted s t group index count (inl (none, zero, lives, same)) = record {
+  runs = λ home m pending h.
+      let first : IsFirstIn (taken m pending) group None = subst (IsFirstIn (taken m pending) group) (none_below (s.tables group) index none) ((tables_tell.first s group).exact home m pending h) in
+      (running m pending, inr (λ i low high. first i, refl), subst (λ (e : EngineState). Represents home e m pending) (sym same) h);
+  fails = λ fails. absurd (both s lives fails);
+}
+compacted s t group index count (inr (some, wrote)) = record {
+  runs = λ home m pending h.
+      let b = wrote.0 in
+      let (next, on, is) = ends home t m (pending ++ said_of b ∷ []) (wrote.2.holds home m pending h) in
+      (next, inl (subst (λ (r : LogRecordValue). RunsOn m (pending ++ r ∷ []) next) (said_compact group index b wrote.1) on), is);
+  fails = λ fails. absurd (both s wrote.2.lived fails);
+}
+
+-- what a write of the batch leaves that fails is what the compaction leaves
+as_compact : (b : Batch) (group index : ℕ) (fell : Bool) (m : LogMap) (pending : List LogRecordValue) (next : ModelLog) → said_of b ≡ compacts group index → Serves said_of m pending (Write b false) (failure_of fell) next
+    → Serves said_of m pending (Compact group index) (failure_of fell) next
+as_compact b group index false m pending next says served = served
+as_compact b group index true m pending next says (inl is) = inl is
+as_compact b group index true m pending next says (inr is) = inr (is ∙ ap (λ (r : LogRecordValue). failed m (pending ++ r ∷ [])) says)
+
+pub not_compacted : (s t : EngineState) (group index : ℕ) (error : Error) → FailsToCompact group index error s t → ServesAs s (Compact group index) (failure_of (has_failed t)) t
+not_compacted s t group index error (inl had) = record {
+  runs = λ home m pending h. absurd (both s (alive home s m pending h) had.1);
+  fails = λ fails. had_failed s t fails had.2;
+}
+not_compacted s t group index error (inr (some, inl (memory, lives, same))) = record {
+  runs = λ home m pending h.
+      let after = subst (λ (e : EngineState). Represents home e m pending) (sym same) h in
+      refused (Compact group index) home m pending t (alive home t m pending after) (still home t m pending after);
+  fails = λ fails. absurd (both s lives fails);
+}
+not_compacted s t group index error (inr (some, inr (b, says, fails, record_of_it))) =
+    let write = not_written b false s t error fails in record {
+      runs = λ home m pending h.
+          let (next, served, is) = write.runs home m pending h in
+          (next, as_compact b group index (has_failed t) m pending next (said_compact group index b says) served, is);
+      fails = write.fails;
+    }
+
 -- Purges.
 
-pub purged : (s t : EngineState) → has_failed s ≡ false → ((home : LogDirectories) (m : LogMap) (pending : List LogRecordValue) → Represents home s m pending → Represents home t (taken m pending) []) → ServesAs s Purge Done t
-purged s t lives holds = record {
+pub purged : (kind : Purge) (s t : EngineState) → has_failed s ≡ false → ((home : LogDirectories) (m : LogMap) (pending : List LogRecordValue) → Represents home s m pending → Represents home t (taken m pending) []) → ServesAs s (PurgeCall kind) Done t
+purged kind s t lives holds = record {
   runs = λ home m pending h. (running (taken m pending) [], refl, holds home m pending h);
   fails = λ fails. absurd (both s lives fails);
 }
 
-pub not_purged : (s t : EngineState) (error : Error) → StopsPurgingExpired s t error → ServesAs s Purge (failure_of (has_failed t)) t
-not_purged s t error (inl had) = record {
+-- the same, by what it settles
+pub purge_settled : (kind : Purge) (s t : EngineState) → has_failed s ≡ false → ((home : LogDirectories) (m : LogMap) (pending : List LogRecordValue) → Represents home s m pending → HoldsSettled home t (taken m pending)) → ServesAs s (PurgeCall kind) Done t
+purge_settled kind s t lives settles = purged kind s t lives (λ home m pending h. settled_held home t (taken m pending) (settles home m pending h))
+
+-- what is left where a purge failed
+abbrev pub Unpurged : EngineState → EngineState → Error → Type 0
+Unpurged s t error = (home : LogDirectories) (m : LogMap) (pending : List LogRecordValue) → Represents home s m pending
+    → Represents home t (taken m pending) [] ⊎ ((error ≡ errors.Failed) × (IsRecoverableAs home t.pipes.disk (taken m pending) [] ⊎ IsRecoverableAs home t.pipes.disk m pending))
+
+pub purge_failed : (kind : Purge) (s t : EngineState) (error : Error) → HadFailed s t error → ServesAs s (PurgeCall kind) (failure_of (has_failed t)) t
+purge_failed kind s t error had = record {
   runs = λ home m pending h. absurd (both s (alive home s m pending h) had.1);
   fails = λ fails. had_failed s t fails had.2;
 }
-not_purged s t error (inr (lives, stops)) = record {
-  runs = λ home m pending h. remains home m pending (stops.remains home m pending h);
+
+pub purge_stopped : (kind : Purge) (s t : EngineState) (error : Error) → has_failed s ≡ false → (IsTrue (has_failed t) ↔ (error ≡ errors.Failed)) → Unpurged s t error → ServesAs s (PurgeCall kind) (failure_of (has_failed t)) t
+purge_stopped kind s t error lives tells unpurged = record {
+  runs = λ home m pending h. remains home m pending (unpurged home m pending h);
   fails = λ fails. absurd (both s lives fails);
 }
   where
     remains : (home : LogDirectories) (m : LogMap) (pending : List LogRecordValue)
         → Represents home t (taken m pending) [] ⊎ ((error ≡ errors.Failed) × (IsRecoverableAs home t.pipes.disk (taken m pending) [] ⊎ IsRecoverableAs home t.pipes.disk m pending))
-        → Served home m pending Purge (failure_of (has_failed t)) t
-    remains home m pending (inl runs) = refused Purge home m pending t (alive home t (taken m pending) [] runs) (running (taken m pending) [], refl, runs)
+        → Served home m pending (PurgeCall kind) (failure_of (has_failed t)) t
+    remains home m pending (inl runs) = refused (PurgeCall kind) home m pending t (alive home t (taken m pending) [] runs) (running (taken m pending) [], refl, runs)
     remains home m pending (inr (is, inl left)) =
-        let fails : has_failed t ≡ true = (stops.tells lives).1 is in
-        gone Purge home m pending t fails (failed (taken m pending) [], inr refl, (fails, left))
+        let fails : has_failed t ≡ true = tells.1 is in
+        gone (PurgeCall kind) home m pending t fails (failed (taken m pending) [], inr refl, (fails, left))
     remains home m pending (inr (is, inr left)) =
-        let fails : has_failed t ≡ true = (stops.tells lives).1 is in
-        gone Purge home m pending t fails (failed m pending, inl refl, (fails, left))
+        let fails : has_failed t ≡ true = tells.1 is in
+        gone (PurgeCall kind) home m pending t fails (failed m pending, inl refl, (fails, left))
+
+-- what remains, by the error
+pub by_error : (home : LogDirectories) (m : LogMap) (pending : List LogRecordValue) (t : EngineState) (error : Error) → Remains home (taken m pending) t error ⊎ ((error ≡ errors.Failed) × IsRecoverableAs home t.pipes.disk m pending)
+    → Represents home t (taken m pending) [] ⊎ ((error ≡ errors.Failed) × (IsRecoverableAs home t.pipes.disk (taken m pending) [] ⊎ IsRecoverableAs home t.pipes.disk m pending))
+by_error home m pending t error (inr (is, left)) = inr (is, inr left)
+by_error home m pending t errors.Failed (inl left) = inr (refl, inl left)
+by_error home m pending t _ (inl runs) = inl runs

@@ -1,5 +1,5 @@
 -- What a crash leaves of a log.
-use Rattle.std.proofs.Common.{◌≡◌, ◌∙◌, ◌<◌, ℕ, List, [], length, take, Option, Some, None, ap, refl, sym, subst}
+use Rattle.std.proofs.Common.{◌≡◌, ◌∙◌, ℕ, List, take, Option, Some, None, ap, refl, sym, subst}
 use Rattle.std.proofs.Math.Path.{fun_ext}
 use Rattle.raft_log_engine.specs.raft_log_model_laws.specs.Groups.{taken}
 use Rattle.raft_log_engine.specs.raft_log_fs.specs.Disk.{Disk as OnDisk, File, at_rest}
@@ -7,7 +7,7 @@ use Rattle.raft_log_engine.specs.raft_log_fs.specs.Image.{IsFileImage, IsImage, 
 use Rattle.raft_log_engine.specs.raft_log_fs.proofs.ImageLaws.{disk_ext, only_at_rest}
 use Rattle.raft_log_engine.specs.raft_log_file_settings.specs.declared.config.Config.{Config}
 use Rattle.raft_log_engine.specs.raft_log_dual_pipes.specs.Pipes.{LogRecordValue}
-use Rattle.raft_log_engine.specs.raft_log_engine_laws.specs.EngineState.{LogDirectories, LogMap, EngineState}
+use Rattle.raft_log_engine.specs.raft_log_engine_laws.specs.EngineState.{LogMap, EngineState}
 use Rattle.raft_log_engine.specs.raft_log_engine_laws.specs.Holding.{Represents, IsRecoverableAs}
 use Rattle.raft_log_recovery_laws.specs.Bare.{IsBare}
 use Rattle.raft_log_recovery_laws.specs.ByCalls.{home_of}

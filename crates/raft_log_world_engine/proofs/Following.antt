@@ -1,5 +1,5 @@
 -- Each call of the instance as an event of the model log.
-use Rattle.std.proofs.Common.{◌≡◌, ◌⊎◌, ℕ, Bool, true, false, List, [], inl, inr, refl, sym, ap, subst, ◌∙◌}
+use Rattle.std.proofs.Common.{◌≡◌, ℕ, true, false, List, [], inl, inr, refl, sym, ap, subst, ◌∙◌}
 use Rattle.raft_log_engine.specs.raft_log_model_laws.specs.Groups.{taken}
 use Rattle.raft_log_engine.specs.raft_log_fs.specs.Disk.{Disk as OnDisk}
 use Rattle.raft_log_engine.specs.raft_log_fs.specs.Image.{IsImage}
@@ -11,7 +11,7 @@ use Rattle.raft_log_engine.specs.raft_log_record_batches.specs.Batch.{Batch}
 use Rattle.raft_log_recovery_laws.specs.ByCalls.{home_of}
 use Rattle.raft_log_recovery_laws.specs.Running.{LeavesNoChance}
 use Rattle.raft_log_world.specs.declared.event.Answer.{Answer}
-use Rattle.raft_log_world.specs.declared.event.Answer.TheVariants.{Done, Refused, Failed}
+use Rattle.raft_log_world.specs.declared.event.Answer.TheVariants.{Done, Refused}
 use Rattle.raft_log_world.specs.declared.event.Call.{Call}
 use Rattle.raft_log_world.specs.declared.event.Event.TheVariants.{Open as OpenEvent, Serve, Close, Crash}
 use Rattle.raft_log_world.specs.Logs.{IfLeft, UnlessResting}

@@ -20,9 +20,8 @@ use Rattle.raft_log_recovery_laws.specs.Opened.{HoldsFresh}
 use Rattle.raft_log_recovery_laws.proofs.Bare.{bare_directories_open}
 use Rattle.raft_log_recovery_laws.proofs.Directory.{resting_directories_open}
 use Rattle.raft_log_recovery_laws.proofs.InPlaceOutcomes.{standing_directories_open}
-use Rattle.raft_log_world.specs.Model.{LosesSome, ModelLog}
-use Rattle.raft_log_world.specs.Model.ModelLog.{resting, left}
-use Rattle.raft_log_world_engine.specs.Instance.{IsFilesLog, Rests}
+use Rattle.raft_log_world.specs.Model.{LosesSome}
+use Rattle.raft_log_world_engine.specs.Instance.{Rests}
 use Rattle.raft_log_world_engine.specs.Instance.Rests.{bare, rests}
 use Rattle.raft_log_world_engine.proofs.Homes.{bare_for, some_append, some_rewrite}
 

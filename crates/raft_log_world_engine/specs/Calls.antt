@@ -1,14 +1,15 @@
 -- The engine as a log of the model: which log it is, and what its calls do.
-use Rattle.std.specs.Prelude.{◌≡◌, Bool, true, false, List}
+use Rattle.std.specs.Prelude.{◌≡◌, ℕ, Bool, true, false, List}
 use Rattle.raft_log_engine.specs.raft_log_dual_pipes.specs.Pipes.{LogRecordValue}
 use Rattle.raft_log_engine.specs.raft_log_engine_laws.specs.EngineState.{LogDirectories, LogMap, EngineState, has_failed, said_of}
 use Rattle.raft_log_engine.specs.raft_log_engine_laws.specs.Holding.{Represents, IsRecoverableAs}
 use Rattle.raft_log_engine.specs.raft_log_record_batches.specs.Batch.{Batch}
 use Rattle.raft_log_world.specs.declared.event.Answer.{Answer}
-use Rattle.raft_log_world.specs.declared.event.Answer.TheVariants.{Refused, Failed}
+use Rattle.raft_log_world.specs.declared.event.Answer.TheVariants.{Entries, Keys, Refused, Failed}
 use Rattle.raft_log_world.specs.declared.event.Call.{Call}
 use Rattle.raft_log_world.specs.Model.{ModelLog, Serves}
 use Rattle.raft_log_world.specs.Model.ModelLog.{resting, left, running, failed}
+use Rattle.raft_log_world.specs.Reads.{all_bytes, pairs_of}
 
 -- An engine with the state `e` has this log open, in the directories `home`:
 -- - a running one has the durable contents and the pending batches
@@ -23,6 +24,18 @@ IsEngineLog home e (left m pending) = ⊥
 abbrev pub failure_of : Bool → Answer
 failure_of true = Failed
 failure_of false = Refused
+
+-- the answer has these entries, or the read failed for lack of memory
+abbrev pub HasCopied : List (List ℕ) → Answer → Type 0
+HasCopied entries (Entries told) = all_bytes told.items ≡ entries
+HasCopied entries Refused = Unit {0}
+HasCopied entries _ = ⊥
+
+-- the answer has these keys and values, or the read failed for lack of memory
+abbrev pub HasCopiedKeys : List (List ℕ × List ℕ) → Answer → Type 0
+HasCopiedKeys pairs (Keys told) = pairs_of told.items ≡ pairs
+HasCopiedKeys pairs Refused = Unit {0}
+HasCopiedKeys pairs _ = ⊥
 
 -- A call of the engine had this answer:
 -- - If the engine had the contents `m` and these pending batches, it gave the model's answer, and is the log that

@@ -7,7 +7,7 @@ ghost use Rattle.raft_log_world_engine.specs.Calls.{ServesAs, failure_of};
 use log::Log;
 use raft_log_engine::{LogBatch, LogEngine, PipeLog};
 use raft_log_record_items::RawEntries;
-use raft_log_world::{Answer, Call};
+use raft_log_world::{Answer, Call, Purge};
 
 /// How a call or a close ended that failed; `failed` is whether the engine has failed.
 pub fn failure(failed: bool) -> Answer
@@ -69,12 +69,84 @@ pub fn get_entry<P: PipeLog>(engine: &mut LogEngine<P>, group: u64, index: u64) 
     }
 }
 
+/// Deletes the entries of a group below an index.
+pub fn compact<L: Log, P: PipeLog>(
+    rt: &L,
+    engine: &mut LogEngine<P>,
+    group: u64,
+    index: u64,
+) -> Answer
+    ensures { ServesAs (shows_of P.shown engine.old) (Call.Compact group index) result
+        (shows_of P.shown engine.new) }
+{
+    match engine.compact_to(rt, group, index) {
+        Ok(_) => Answer::Done,
+        Err(_) => failure(engine.is_failed()),
+    }
+}
+
+/// Collects garbage.
+pub fn purge<L: Log, P: PipeLog>(rt: &L, engine: &mut LogEngine<P>, kind: Purge) -> Answer
+    ensures { ServesAs (shows_of P.shown engine.old) (Call.Purge kind) result
+        (shows_of P.shown engine.new) }
+{
+    match kind {
+        Purge::Expired => purge_expired(rt, engine),
+        Purge::Stale => purge_stale(rt, engine),
+        Purge::RewriteAppend {
+            watermark,
+            exit_after_step,
+        } => rewrite_append(rt, engine, watermark, exit_after_step),
+        Purge::RewriteRewrite => rewrite_rewrite(rt, engine),
+    }
+}
+
 /// Purges both queues if they are past the thresholds of the settings.
-pub fn purge<L: Log, P: PipeLog>(rt: &L, engine: &mut LogEngine<P>) -> Answer
-    ensures { ServesAs (shows_of P.shown engine.old) Call.Purge result (shows_of P.shown engine.new) }
+fn purge_expired<L: Log, P: PipeLog>(rt: &L, engine: &mut LogEngine<P>) -> Answer
+    ensures { ServesAs (shows_of P.shown engine.old) (Call.Purge Purge.Expired) result
+        (shows_of P.shown engine.new) }
 {
     match engine.purge_expired_files(rt) {
         Ok(_) => Answer::Done,
+        Err(_) => failure(engine.is_failed()),
+    }
+}
+
+/// Deletes all files that nothing in use is in.
+fn purge_stale<L: Log, P: PipeLog>(rt: &L, engine: &mut LogEngine<P>) -> Answer
+    ensures { ServesAs (shows_of P.shown engine.old) (Call.Purge Purge.Stale) result
+        (shows_of P.shown engine.new) }
+{
+    match engine.must_purge_all_stale(rt) {
+        Ok(()) => Answer::Done,
+        Err(_) => failure(engine.is_failed()),
+    }
+}
+
+/// Writes what is live in Append to Rewrite.
+fn rewrite_append<L: Log, P: PipeLog>(
+    rt: &L,
+    engine: &mut LogEngine<P>,
+    watermark: Option<u64>,
+    exit_after_step: Option<u64>,
+) -> Answer
+    ensures { ServesAs (shows_of P.shown engine.old)
+        (Call.Purge (Purge.RewriteAppend watermark exit_after_step)) result
+        (shows_of P.shown engine.new) }
+{
+    match engine.must_rewrite_append_queue(rt, watermark, exit_after_step) {
+        Ok(()) => Answer::Done,
+        Err(_) => failure(engine.is_failed()),
+    }
+}
+
+/// Writes what is live in Rewrite to it again.
+fn rewrite_rewrite<L: Log, P: PipeLog>(rt: &L, engine: &mut LogEngine<P>) -> Answer
+    ensures { ServesAs (shows_of P.shown engine.old) (Call.Purge Purge.RewriteRewrite) result
+        (shows_of P.shown engine.new) }
+{
+    match engine.must_rewrite_rewrite_queue(rt) {
+        Ok(()) => Answer::Done,
         Err(_) => failure(engine.is_failed()),
     }
 }

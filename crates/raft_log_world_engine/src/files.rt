@@ -9,12 +9,14 @@ ghost use Rattle.raft_log_world.specs.Model.ModelLog.{resting};
 ghost use Rattle.raft_log_world_engine.specs.Instance.{engine_log, IsFilesLog};
 
 use crate::calls::{self, failure};
+use crate::faults::{fault_of, told};
+use crate::ranges;
 use log::sink::Discard;
 use log::{LevelFilter, Log, Logged};
 use raft_log_engine::{
-    Closed, Config, Engine, EnginePipes, LogBatch, MemoryFileSystem, PipeLog, Remainder,
+    Closed, Config, Engine, EnginePipes, FileSystem, LogBatch, MemoryFileSystem, PipeLog, Remainder,
 };
-use raft_log_world::{Answer, LogFiles};
+use raft_log_world::{Answer, Fault, LogFiles, Purge};
 use std::alloc::{AllocError, Global};
 use std::thread::Threads;
 
@@ -102,8 +104,45 @@ impl<R: Log> LogFiles<R, OpenLog, LogBatch, Remainder> for ClosedLog {
         calls::get_entry(&mut engine.engine, group, index)
     }
 
-    fn purge(engine: &mut OpenLog, rt: &R) -> Answer {
-        calls::purge(rt, &mut engine.engine)
+    fn fetch(
+        engine: &mut OpenLog,
+        alloc: Global,
+        group: u64,
+        begin: u64,
+        end: u64,
+        max: Option<u64>,
+    ) -> Answer {
+        ranges::fetch(&mut engine.engine, alloc, group, begin, end, max)
+    }
+
+    fn scan(
+        engine: &mut OpenLog,
+        alloc: Global,
+        group: u64,
+        start: Option<Vec<u8>>,
+        end: Option<Vec<u8>>,
+    ) -> Answer {
+        ranges::scan(&mut engine.engine, alloc, group, start, end)
+    }
+
+    fn compact(engine: &mut OpenLog, rt: &R, group: u64, index: u64) -> Answer {
+        calls::compact(rt, &mut engine.engine, group, index)
+    }
+
+    fn purge(engine: &mut OpenLog, rt: &R, kind: Purge) -> Answer {
+        calls::purge(rt, &mut engine.engine, kind)
+    }
+
+    fn arm(&mut self, fault: &Fault) -> Answer {
+        let disk_fault = fault_of(fault);
+        let done = self.files.arm(&disk_fault).is_ok();
+        told(done)
+    }
+
+    fn arm_under(engine: &mut OpenLog, fault: &Fault) -> Answer {
+        let disk_fault = fault_of(fault);
+        let done = engine.engine.arm(&disk_fault).is_ok();
+        told(done)
     }
 
     fn close(engine: OpenLog, rt: &R) -> (Answer, ClosedLog) {

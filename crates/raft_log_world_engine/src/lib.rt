@@ -3,6 +3,8 @@
 #![tactic(auto)]
 
 mod calls;
+mod faults;
 mod files;
+mod ranges;
 
 pub use files::{ClosedLog, OpenLog};

@@ -21,6 +21,18 @@ pub returns-in-GetEntry : goal.returns-in-GetEntry
 returns-in-GetEntry g c =
     subst (λ (call : Call g.row.B.Denot). Follows g.F.LogFiles.log (Open c.args.engine.now) (Serve call) c.get_entry.result (Open c.get_entry.new.engine)) (sym c.in-GetEntry.is) c.get_entry.ensures
 
+pub returns-in-Fetch : goal.returns-in-Fetch
+returns-in-Fetch g c =
+    subst (λ (call : Call g.row.B.Denot). Follows g.F.LogFiles.log (Open c.args.engine.now) (Serve call) c.fetch.result (Open c.fetch.new.engine)) (sym c.in-Fetch.is) c.fetch.ensures
+
+pub returns-in-Scan : goal.returns-in-Scan
+returns-in-Scan g c =
+    subst (λ (call : Call g.row.B.Denot). Follows g.F.LogFiles.log (Open c.args.engine.now) (Serve call) c.scan.result (Open c.scan.new.engine)) (sym c.in-Scan.is) c.scan.ensures
+
+pub returns-in-Compact : goal.returns-in-Compact
+returns-in-Compact g c =
+    subst (λ (call : Call g.row.B.Denot). Follows g.F.LogFiles.log (Open c.args.engine.now) (Serve call) c.compact.result (Open c.compact.new.engine)) (sym c.in-Compact.is) c.compact.ensures
+
 pub returns-in-Purge : goal.returns-in-Purge
 returns-in-Purge g c =
     subst (λ (call : Call g.row.B.Denot). Follows g.F.LogFiles.log (Open c.args.engine.now) (Serve call) c.purge.result (Open c.purge.new.engine)) (sym c.in-Purge.is) c.purge.ensures

@@ -1,4 +1,4 @@
-use Rattle.std.proofs.Common.{List, ℕ, Some, ap, refl, sym, ◌∙◌}
+use Rattle.std.proofs.Common.{List, ℕ, Some, ap, sym, ◌∙◌}
 use Rattle.raft_log_engine.specs.raft_log_engine_core.specs.Reads.{shows_of}
 use Rattle.raft_log_world.specs.declared.event.Call.TheVariants.{GetEntry}
 use Rattle.raft_log_world_engine.proofs.Calling.{as_asked, bytes_in, entry_found, entry_not_found}

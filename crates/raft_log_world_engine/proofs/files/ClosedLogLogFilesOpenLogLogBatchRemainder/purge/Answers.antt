@@ -5,4 +5,4 @@ use Rattle.raft_log_world_engine.proofs.Following.{call_served}
 use Rattle.raft_log_world_engine.proofs.files.ClosedLogLogFilesOpenLogLogBatchRemainder.purge.Goals as goal
 
 pub returns : goal.returns
-returns g c = call_served Remainder (home_of c.args.engine.now.config) _ _ Purge c.purge.result c.purge.ensures
+returns g c = call_served Remainder (home_of c.args.engine.now.config) _ _ (Purge c.args.kind) c.purge.result c.purge.ensures

@@ -1,0 +1,72 @@
+-- What reads of a log return, and what its contents are.
+use Rattle.std.specs.Prelude.{◌≡◌, ◌⊎◌, ◌+◌, ◌-◌, ◌<◌, ◌≤◌, ◌&&◌, ℕ, Bool, true, false, List, [], ◌∷◌, Option, Some, None, option_map, length, map, bytes_eq}
+use Rattle.std.specs.Cmp.Lexicographic.{slice_cmp}
+use Rattle.std.specs.Global.{Vec}
+use Rattle.std.specs.List.Sorted.{IsStrictlySortedBy}
+use Rattle.std.specs.Map.{keys_of, lookup}
+use Rattle.std.specs.Ordering.{is_le, is_lt, nat_cmp}
+use Rattle.raft_log_model_laws.specs.Meaning.Slot.{Index, Key}
+use Rattle.raft_log_model_laws.specs.Meaning.Content.{Entry, Value}
+use Rattle.raft_log_model_laws.specs.Groups.{Map}
+
+-- the contents of a log: for each raft group, the bytes of its entry at each index, and the value of each key
+abbrev pub Contents : Type 0
+Contents = Map (List ℕ) (List ℕ)
+
+-- the bytes that a read returned, or none
+abbrev pub bytes_of : Option (Vec ℕ) → Option (List ℕ)
+bytes_of found = option_map (λ bytes. bytes.items) found
+
+-- the bytes of each entry that a read returned
+abbrev pub all_bytes : List (Vec ℕ) → List (List ℕ)
+all_bytes entries = map (λ bytes. bytes.items) entries
+
+-- the bytes of each key that a read returned, and of its value
+abbrev pub pairs_of : List (Vec ℕ × Vec ℕ) → List (List ℕ × List ℕ)
+pairs_of pairs = map (λ pair. (pair.0.items, pair.1.items)) pairs
+
+-- the group has no entry from index `begin` on, below `end`
+abbrev pub HasNone : Contents → ℕ → ℕ → ℕ → Type 0
+HasNone m group begin end = (index : ℕ) → begin ≤ index → index < end → m group (Index index) ≡ None
+
+-- from this index on, the group has these entries, one after another
+abbrev pub HasEntries : Contents → ℕ → ℕ → List (List ℕ) → Type 0
+HasEntries m group index [] = Unit {0}
+HasEntries m group index (entry ∷ entries) =
+    (m group (Index index) ≡ Some (Entry entry)) × HasEntries m group (index + 1) entries
+
+-- how many of `all` entries a read may return: all of them, or at least one if there is a greatest size
+abbrev pub IsCount : Option ℕ → ℕ → ℕ → Type 0
+IsCount None all count = count ≡ all
+IsCount (Some max) all count = (count ≤ all) × (0 < all → 0 < count)
+
+-- The group has an entry at each index from `begin` on, below `end`. These are the first of them, and all unless there
+-- is a greatest size.
+pub record AreFetched (m : Contents) (group begin end : ℕ) (max : Option ℕ) (entries : List (List ℕ)) : Type 0 where
+  pub are : HasEntries m group begin entries
+  pub all : (index : ℕ) → begin ≤ index → index < end → m group (Index index) ≡ None → ⊥
+  pub count : IsCount max (end - begin) (length entries)
+
+-- what a read of the entries from `begin` on, below `end`, returns; none if the group has none of them
+abbrev pub Fetches : Contents → ℕ → ℕ → ℕ → Option ℕ → List (List ℕ) → Type 0
+Fetches m group begin end max entries =
+    (HasNone m group begin end × (entries ≡ [])) ⊎ AreFetched m group begin end max entries
+
+-- whether key `k` is at or above `start`
+abbrev pub is_from : Option (List ℕ) → List ℕ → Bool
+is_from None k = true
+is_from (Some start) k = is_le (slice_cmp nat_cmp start k)
+
+-- whether key `k` is below `end`
+abbrev pub is_below : Option (List ℕ) → List ℕ → Bool
+is_below None k = true
+is_below (Some end) k = is_lt (slice_cmp nat_cmp k end)
+
+-- These are the keys of the group from `start` on, below `end`, with their values: each key once, in the order of their
+-- bytes.
+pub record Scans (m : Contents) (group : ℕ) (start end : Option (List ℕ)) (pairs : List (List ℕ × List ℕ))
+    : Type 0 where
+  pub rising : IsStrictlySortedBy (slice_cmp nat_cmp) (keys_of pairs)
+  pub inside : (k : List ℕ) → is_from start k && is_below end k ≡ true
+      → m group (Key k) ≡ option_map Value (lookup (bytes_eq k) pairs)
+  pub outside : (k : List ℕ) → is_from start k && is_below end k ≡ false → lookup (bytes_eq k) pairs ≡ None

@@ -1,0 +1,19 @@
+-- The faults of a run, as those of the file system.
+use Rattle.std.specs.Prelude.{Bool, true, false}
+use Rattle.raft_log_engine.specs.raft_log_fs.specs.declared.handle.Fault.{Fault as DiskFault}
+use Rattle.raft_log_engine.specs.raft_log_fs.specs.declared.handle.Fault.TheVariants as faults
+use Rattle.raft_log_world.specs.declared.event.Fault.{Fault}
+use Rattle.raft_log_world.specs.declared.event.Fault.TheVariants.{Refuse, Stop}
+use Rattle.raft_log_world.specs.declared.event.Answer.{Answer}
+use Rattle.raft_log_world.specs.declared.event.Answer.TheVariants.{Done, Refused}
+
+-- the answer of an arming, if the flag says whether it succeeded
+abbrev pub told_of : Bool → Answer
+told_of true = Done
+told_of false = Refused
+
+-- the fault, as the file system has it
+abbrev pub fault_of : Fault → DiskFault
+fault_of (Refuse call part) = faults.RefuseInPart call part
+fault_of (Stop call true) = faults.StopAfter call
+fault_of (Stop call false) = faults.StopAt call

@@ -4,6 +4,7 @@ use crate::one_file::read_one_file;
 use crate::pipe::{Pipe, is_closed};
 use log::Log;
 use raft_log_fs::FileSystem;
+use raft_log_fs_memory::MemoryFileSystem;
 use raft_log_fs_os::{
     DirectoryFault, DirectoryFileSystem, FileDevice, open_directories, open_directories_for_reading,
 };
@@ -80,22 +81,41 @@ pub fn serve<
     }
 }
 
-/// Opens the directories of a log, or reads the one file of a dump, and runs a task.
+/// Runs a task on the log in these directories, whose paths may end in slashes.
 fn attempt<
     R: Files<File = File> + Threads + Print + Eprint + AllocGlobal + Clone + Sync + Drop,
     Q: Threads + Log + Sync,
 >(rt: &R, quiet: &Q, place: &Place, task: &Task) -> Result<Outcome, Refusal> {
     let task = task.trimmed(rt.alloc())?;
     let place = place.trimmed(rt.alloc())?;
-    let fault = match open(rt, &place, &task) {
-        Ok(mut files) => return run_to_output(rt, quiet, &mut files, &place, &task),
-        Err(fault) => fault,
-    };
-    if is_dump(&task) && is_file(&fault, place.directory.as_str()) {
-        let (mut files, file) = read_one_file(rt, &place)?;
-        return run_to_output(rt, quiet, &mut files, &file, &task);
+    attempt_in(rt, quiet, &place, &task)
+}
+
+/// Opens the directories of a log, or reads the one file of a dump, and runs a task.
+fn attempt_in<
+    R: Files<File = File> + Threads + Print + Eprint + AllocGlobal + Clone + Sync + Drop,
+    Q: Threads + Log + Sync,
+>(rt: &R, quiet: &Q, place: &Place, task: &Task) -> Result<Outcome, Refusal> {
+    match open(rt, place, task) {
+        Ok(mut files) => run_to_output(rt, quiet, &mut files, place, task),
+        Err(fault) => attempt_on_file(rt, quiet, place, task, fault),
     }
-    Err(Refusal::Directory(fault))
+}
+
+/// Reads the one file of a dump, and runs it. Returns the fault for any other task.
+fn attempt_on_file<R: Files<File = File> + Print + AllocGlobal, Q: Threads + Log + Sync>(
+    rt: &R,
+    quiet: &Q,
+    place: &Place,
+    task: &Task,
+    fault: DirectoryFault,
+) -> Result<Outcome, Refusal> {
+    if !is_dump(task) || !is_file(&fault, place.directory.as_str()) {
+        return Err(Refusal::Directory(fault));
+    }
+    let mut files = MemoryFileSystem::new(rt.alloc());
+    let file = read_one_file(rt, place, &mut files)?;
+    run_to_output(rt, quiet, &mut files, &file, task)
 }
 
 /// Runs a task, and writes what it prints to standard output. If that is a pipe that its reader closes, a dump fails at
@@ -130,10 +150,10 @@ fn open<R: Files<File = File> + Threads + Eprint + AllocGlobal + Clone + Sync + 
         Some(spill) => Some(spill.as_str()),
         None => None,
     };
-    match task {
-        Task::Unpad => open_directories(rt, directory, spill),
-        _ => open_directories_for_reading(rt, directory, spill),
+    if matches!(task, Task::Unpad) {
+        return open_directories(rt, directory, spill);
     }
+    open_directories_for_reading(rt, directory, spill)
 }
 
 /// Whether opening a path failed because it isn't a directory.

@@ -9,14 +9,15 @@ mod playing;
 mod storage;
 mod stored;
 
-use log::Log;
 use playing::play;
-use raft_log_engine::{FileSystem, MemoryFileSystem};
-use raft_log_fs_os::{DirectoryFileSystem, FileDevice, make_directory, open_directories};
+use raft_log_engine::MemoryFileSystem;
+use raft_log_fs_os::{
+    DirectoryFault, DirectoryFileSystem, FileDevice, make_directory, open_directories,
+};
 use std::env;
 use std::env::Env;
 use std::fs::File;
-use std::io::{Eprint, Print};
+use std::io::Eprint;
 use std::process::ExitCode;
 use std::rt::Files;
 use std::thread::Threads;
@@ -30,9 +31,9 @@ fn directory<R: Env + AllocGlobal>(rt: &R) -> anyhow::Result<Option<String>> {
 fn files<R: Files<File = File> + Threads + Eprint + AllocGlobal + Clone + Sync + Drop>(
     rt: &R,
     directory: &str,
-) -> anyhow::Result<DirectoryFileSystem<FileDevice<R>>> {
+) -> Result<DirectoryFileSystem<FileDevice<R>>, DirectoryFault> {
     make_directory(rt, directory)?;
-    Ok(open_directories(rt, directory, None)?)
+    open_directories(rt, directory, None)
 }
 
 /// The exit of the program; prints an error.
@@ -46,31 +47,16 @@ fn exit<R: Eprint>(rt: &R, done: anyhow::Result<()>) -> ExitCode {
     }
 }
 
-/// Plays a node's life on a log in memory.
-fn in_memory<R: Threads + Log + Sync + Print + AllocGlobal>(rt: &R) -> anyhow::Result<()> {
-    let files = MemoryFileSystem::new(rt.alloc());
-    play(rt, "raft", files)
-}
-
-/// Plays a node's life on the log in a directory, over these files.
-fn serve<R: Threads + Log + Sync + Print + AllocGlobal, F: FileSystem + Sync + Drop>(
-    rt: &R,
-    directory: &str,
-    files: F,
-) -> anyhow::Result<()> {
-    play(rt, directory, files)
-}
-
 // An open lends its file system to threads. One over real directories is therefore passed on here, where the runtime
 // isn't a parameter.
 fn main(rt: HostRuntime) -> ExitCode {
     let directory = match directory(&rt) {
         Ok(Some(directory)) => directory,
-        Ok(None) => return exit(&rt, in_memory(&rt)),
+        Ok(None) => return exit(&rt, play(&rt, "raft", MemoryFileSystem::new(rt.alloc()))),
         Err(error) => return exit(&rt, Err(error)),
     };
     match files(&rt, directory.as_str()) {
-        Ok(files) => exit(&rt, serve(&rt, directory.as_str(), files)),
-        Err(error) => exit(&rt, Err(error)),
+        Ok(files) => exit(&rt, play(&rt, directory.as_str(), files)),
+        Err(fault) => exit(&rt, Err(fault.into())),
     }
 }

@@ -4,24 +4,9 @@ use crate::storage::{append, base, compact, entry, hard_state, last_index};
 use crate::stored::{Base, HardState};
 use log::Log;
 use raft_log_engine::{Config, Engine, FileSystem, LogEngine, LogQueue, PipeLog};
+use std::alloc::{AllocError, Global};
 use std::io::Print;
 use std::thread::Threads;
-
-/// Opens the log in a directory over these files, with small files, so that few entries fill several.
-fn open<R: Threads + Log + Sync + AllocGlobal, F: FileSystem + Sync + Drop>(
-    rt: &R,
-    directory: &str,
-    files: F,
-) -> anyhow::Result<Engine<F>> {
-    let mut config = Config::default(rt.alloc());
-    config.dir = String::from_str(rt.alloc(), directory)?;
-    config.target_file_size.0 = 256;
-    config.purge_threshold.0 = 512;
-    match Engine::open_with_file_system(rt, rt.alloc(), config, files) {
-        Ok(engine) => Ok(engine),
-        Err(refused) => Err(refused.error.into()),
-    }
-}
 
 /// Prints all that a log has: hard state, base, entries, and Append's files.
 fn show<R: Print + AllocGlobal, P: PipeLog>(
@@ -107,23 +92,67 @@ fn snapshot<R: Log + AllocGlobal, P: PipeLog>(
     Ok(())
 }
 
+/// Which open of the log it is.
+#[derive(Clone, Copy, PartialEq, Eq)]
+enum Open {
+    /// The first one.
+    First,
+    /// The one after the close.
+    Second,
+}
+
+/// What a node does between an open of its log and the close.
+fn live<R: Log + Print + AllocGlobal, P: PipeLog>(
+    rt: &R,
+    engine: &mut LogEngine<P>,
+    which: Open,
+) -> anyhow::Result<()> {
+    if which == Open::Second {
+        return show(rt, engine, "a second open");
+    }
+    show(rt, engine, "an open")?;
+    conflict(rt, engine)?;
+    fill(rt, engine)?;
+    show(rt, engine, "eight entries")?;
+    snapshot(rt, engine)?;
+    show(rt, engine, "a snapshot and a purge")
+}
+
+/// Settings for a log in a directory, with small files, so that few entries fill several.
+fn settings(alloc: Global, directory: &str) -> Result<Config, AllocError> {
+    let mut config = Config::default(alloc);
+    config.dir = String::from_str(alloc, directory)?;
+    config.target_file_size.0 = 256;
+    config.purge_threshold.0 = 512;
+    Ok(config)
+}
+
+/// Opens the log of these settings over these files, lives on it, and closes it. Returns the files.
+fn open_and_live<R: Threads + Log + Sync + Print + AllocGlobal, F: FileSystem + Sync + Drop>(
+    rt: &R,
+    config: Config,
+    files: F,
+    which: Open,
+) -> anyhow::Result<F> {
+    let mut engine = match Engine::open_with_file_system(rt, rt.alloc(), config, files) {
+        Ok(engine) => engine,
+        Err(refused) => return Err(refused.error.into()),
+    };
+    live(rt, &mut engine, which)?;
+    let closed = engine.close(rt);
+    closed.result?;
+    Ok(closed.files)
+}
+
 /// Plays the life of a node on the log in a directory, over these files.
 pub fn play<R: Threads + Log + Sync + Print + AllocGlobal, F: FileSystem + Sync + Drop>(
     rt: &R,
     directory: &str,
     files: F,
 ) -> anyhow::Result<()> {
-    let mut engine = open(rt, directory, files)?;
-    show(rt, &mut engine, "an open")?;
-    conflict(rt, &mut engine)?;
-    fill(rt, &mut engine)?;
-    show(rt, &mut engine, "eight entries")?;
-    snapshot(rt, &mut engine)?;
-    show(rt, &mut engine, "a snapshot and a purge")?;
-    let closed = engine.close(rt);
-    closed.result?;
-    let mut engine = open(rt, directory, closed.files)?;
-    show(rt, &mut engine, "a second open")?;
-    engine.close(rt).result?;
+    let first = settings(rt.alloc(), directory)?;
+    let second = settings(rt.alloc(), directory)?;
+    let left = open_and_live(rt, first, files, Open::First)?;
+    open_and_live(rt, second, left, Open::Second)?;
     Ok(())
 }

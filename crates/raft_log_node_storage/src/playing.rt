@@ -120,8 +120,9 @@ fn live<R: Log + Print + AllocGlobal, P: PipeLog>(
 
 /// Settings for a log in a directory, with small files, so that few entries fill several.
 fn settings(alloc: Global, directory: &str) -> Result<Config, AllocError> {
+    let dir = String::from_str(alloc, directory)?;
     let mut config = Config::default(alloc);
-    config.dir = String::from_str(alloc, directory)?;
+    config.dir = dir;
     config.target_file_size.0 = 256;
     config.purge_threshold.0 = 512;
     Ok(config)

@@ -39,10 +39,16 @@ fn tell<R: Print + AllocGlobal, P: PipeLog>(
     let last = engine.last_index(GROUP)?.unwrap_or(0);
     for index in first..last.saturating_add(1) {
         if let Some(entry) = engine.get_entry::<RawEntries>(GROUP, index)? {
-            let text = String::from_utf8_lossy(rt.alloc(), entry.bytes.as_slice())?;
-            println!(rt; "{index} is kept: {text}")?;
+            print_entry(rt, index, entry.bytes.as_slice())?;
         }
     }
+    Ok(())
+}
+
+/// Prints an entry.
+fn print_entry<R: Print + AllocGlobal>(rt: &R, index: u64, bytes: &[u8]) -> anyhow::Result<()> {
+    let text = String::from_utf8_lossy(rt.alloc(), bytes)?;
+    println!(rt; "{index} is kept: {text}")?;
     Ok(())
 }
 

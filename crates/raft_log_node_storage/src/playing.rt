@@ -3,8 +3,9 @@
 use crate::storage::{append, base, compact, entry, hard_state, last_index};
 use crate::stored::{Base, HardState};
 use log::Log;
-use raft_log_engine::{Config, Engine, FileSystem, LogEngine, LogQueue, PipeLog};
+use raft_log_engine::{Config, Engine, FileSeq, FileSystem, LogEngine, LogQueue, PipeLog};
 use std::alloc::{AllocError, Global};
+use std::io;
 use std::io::Print;
 use std::thread::Threads;
 
@@ -14,19 +15,33 @@ fn show<R: Print + AllocGlobal, P: PipeLog>(
     engine: &mut LogEngine<P>,
     after: &str,
 ) -> anyhow::Result<()> {
-    let HardState { term, vote, commit } = hard_state(engine)?;
+    let state = hard_state(engine)?;
     let base = base(engine)?;
-    let (first, last) = engine.file_span(LogQueue::Append)?;
-    println!(rt;
-        "after {after}: term {term}, vote {vote}, commit {commit}; files {first} to {last}"
-    )?;
-    println!(rt; "  base: {} of term {}", base.index, base.term)?;
-    for index in base.index.saturating_add(1)..last_index(engine)?.saturating_add(1) {
+    let files = engine.file_span(LogQueue::Append)?;
+    let last = last_index(engine)?;
+    print_state(rt, after, state, base, files)?;
+    for index in base.index.saturating_add(1)..last.saturating_add(1) {
         if let Some((term, data)) = entry(rt.alloc(), engine, index)? {
             println!(rt; "  {index} of term {term}: {data}")?;
         }
     }
     Ok(())
+}
+
+/// Prints a hard state, a base, and the first and the last of Append's files.
+fn print_state<R: Print>(
+    rt: &R,
+    after: &str,
+    state: HardState,
+    base: Base,
+    files: (FileSeq, FileSeq),
+) -> io::Result<()> {
+    let HardState { term, vote, commit } = state;
+    let (first, last) = files;
+    println!(rt;
+        "after {after}: term {term}, vote {vote}, commit {commit}; files {first} to {last}"
+    )?;
+    println!(rt; "  base: {} of term {}", base.index, base.term)
 }
 
 /// A leader appends three entries. Then the leader of the next term replaces the last two of them by one.

@@ -15,7 +15,7 @@ use std::alloc::Global;
 use std::thread::Threads;
 
 /// The values of two keys.
-#[derive(Debug, Drop)]
+#[derive(Drop)]
 pub struct TwoValues {
     /// The value of the one.
     pub first: Option<Vec<u8>>,

@@ -27,7 +27,7 @@ impl Crash<MemoryFileSystem> for Remainder {
 }
 
 /// How an engine ends.
-#[derive(Debug, Drop)]
+#[derive(Drop)]
 pub enum Ending<C> {
     /// A crash.
     Crash(C),

@@ -8,7 +8,7 @@ use raft_log_fs_memory::MemoryFileSystem;
 use raft_log_fs_os::{
     DirectoryFault, DirectoryFileSystem, FileDevice, open_directories, open_directories_for_reading,
 };
-use raft_log_operator::{CommandFault, Outcome, Place, Task, run};
+use raft_log_operator::{CommandFault, Outcome, Place, Task, dump, run};
 use std::alloc::AllocError;
 use std::fs::File;
 use std::io;
@@ -98,24 +98,28 @@ fn attempt_in<
 >(rt: &R, quiet: &Q, place: &Place, task: &Task) -> Result<Outcome, Refusal> {
     match open(rt, place, task) {
         Ok(mut files) => run_to_output(rt, quiet, &mut files, place, task),
-        Err(fault) => attempt_on_file(rt, quiet, place, task, fault),
+        Err(fault) => match task {
+            Task::Dump(group) if is_file(&fault, place.directory.as_str()) => {
+                dump_one_file(rt, place, *group)
+            }
+            _ => Err(Refusal::Directory(fault)),
+        },
     }
 }
 
-/// Reads the one file of a dump, and runs it. Returns the fault for any other task.
-fn attempt_on_file<R: Files<File = File> + Print + AllocGlobal, Q: Threads + Log + Sync>(
+/// Dumps the one file at the main path. A closed pipe ends the dump, as in `run_to_output`.
+fn dump_one_file<R: Files<File = File> + Print + AllocGlobal>(
     rt: &R,
-    quiet: &Q,
     place: &Place,
-    task: &Task,
-    fault: DirectoryFault,
+    group: Option<u64>,
 ) -> Result<Outcome, Refusal> {
-    if !is_dump(task) || !is_file(&fault, place.directory.as_str()) {
-        return Err(Refusal::Directory(fault));
-    }
     let mut files = MemoryFileSystem::new(rt.alloc());
     let file = read_one_file(rt, place, &mut files)?;
-    run_to_output(rt, quiet, &mut files, &file, task)
+    let pipe = Pipe::new(io::writer(rt), false);
+    let mut out = BufWriter::new(rt.alloc(), pipe)?;
+    let outcome = dump(rt.alloc(), &files, &file, group, &mut out)?;
+    out.flush()?;
+    Ok(outcome)
 }
 
 /// Runs a task, and writes what it prints to standard output. If that is a pipe that its reader closes, a dump fails at

@@ -108,7 +108,7 @@ fn snapshot<R: Log + AllocGlobal, P: PipeLog>(
 }
 
 /// Which open of the log it is.
-#[derive(Clone, Copy, PartialEq, Eq)]
+#[derive(Clone, Copy)]
 enum Open {
     /// The first one.
     First,
@@ -122,7 +122,7 @@ fn live<R: Log + Print + AllocGlobal, P: PipeLog>(
     engine: &mut LogEngine<P>,
     which: Open,
 ) -> anyhow::Result<()> {
-    if which == Open::Second {
+    if matches!(which, Open::Second) {
         return show(rt, engine, "a second open");
     }
     show(rt, engine, "an open")?;

@@ -21,7 +21,7 @@ use std::io::{ErrorKind, Write};
 use std::thread::Threads;
 
 /// A count and a sum of bytes.
-#[derive(Clone, Copy, Debug, PartialEq, Eq)]
+#[derive(Clone, Copy)]
 struct Amount {
     count: u64,
     bytes: u64,

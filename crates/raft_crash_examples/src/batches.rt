@@ -5,7 +5,7 @@ ghost use Rattle.raft_log_engine.specs.raft_log_engine_core.specs.Reads.{shows_o
 ghost use Rattle.raft_crash_examples.specs.Batches.{LoadsBoth, ReadsBoth, TriesBoth, TriesToWrite, WritesBothOrNeither};
 
 use crate::changing::{KeyChange, add};
-use crate::ending::{Crash, crash};
+use crate::ending::{Crash, lose_power};
 use crate::opening::open;
 use log::Log;
 use raft_log_engine::{
@@ -106,7 +106,7 @@ pub fn read_both<R: Threads + Log + Sync, F: FileSystem + Sync + Drop, C: Crash<
         (option_map (λ bytes. bytes.items) read.1.second)) }
 {
     let (engine, answered) = try_to_write(rt, alloc, config, files, one, other)?;
-    let left = crash(engine, what)?;
+    let left = lose_power(engine, what)?;
     let found = load_both(rt, alloc, again, left, one, other)?;
     Ok((answered, found))
 }

@@ -36,7 +36,10 @@ pub enum Ending<C> {
 }
 
 /// Crashes an engine, and returns what the crash leaves of its file system.
-pub fn crash<F: FileSystem + Sync + Drop, C: Crash<F>>(engine: Engine<F>, what: &C) -> Result<F>
+pub fn lose_power<F: FileSystem + Sync + Drop, C: Crash<F>>(
+    engine: Engine<F>,
+    what: &C,
+) -> Result<F>
     ensures { IfOk result (λ left.
         IsImage (shows_of ⟦<EnginePipes<F> as PipeLog>⟧.shown engine).pipes.disk (F.disk left)) }
 {
@@ -53,7 +56,7 @@ pub fn end<L: Log, F: FileSystem + Sync + Drop, C: Crash<F>>(
         (F.disk files)) }
 {
     match ending {
-        Ending::Crash(what) => crash(engine, what),
+        Ending::Crash(what) => lose_power(engine, what),
         Ending::Close => Ok(engine.close(rt).files),
     }
 }

@@ -4,7 +4,7 @@ ghost use Rattle.std.specs.Prelude.{IfOk, option_map};
 ghost use Rattle.raft_log_engine.specs.raft_log_engine_core.specs.Reads.{shows_of};
 ghost use Rattle.raft_crash_examples.specs.Unsynced.{LoadsAndEnds, PutsUnsynced, StaysAsRead};
 
-use crate::ending::{Crash, Ending, crash, end};
+use crate::ending::{Crash, Ending, end, lose_power};
 use crate::lives::{Life, live_on};
 use crate::opening::open;
 use crate::saving::{load, put};
@@ -73,7 +73,7 @@ pub fn read_unsynced<R: Threads + Log + Sync, F: FileSystem + Sync + Drop, C: Cr
         (option_map (λ bytes. bytes.items) read.1)) }
 {
     let engine = put_unsynced(rt, alloc, config, files, group, key, value)?;
-    let left = crash(engine, what)?;
+    let left = lose_power(engine, what)?;
     let (first, seen) = load_and_end(rt, alloc, look, left, group, key, ending)?;
     let behind = live_on(rt, alloc, seen, lives)?;
     let later = load(rt, alloc, last, behind, group, key)?;

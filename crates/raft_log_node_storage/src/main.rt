@@ -9,6 +9,7 @@ mod playing;
 mod storage;
 mod stored;
 
+use log::Log;
 use playing::play;
 use raft_log_engine::MemoryFileSystem;
 use raft_log_fs_os::{
@@ -17,7 +18,7 @@ use raft_log_fs_os::{
 use std::env;
 use std::env::Env;
 use std::fs::File;
-use std::io::Eprint;
+use std::io::{Eprint, Print};
 use std::process::ExitCode;
 use std::rt::Files;
 use std::thread::Threads;
@@ -47,12 +48,17 @@ fn exit<R: Eprint>(rt: &R, done: anyhow::Result<()>) -> ExitCode {
     }
 }
 
+/// Plays a node's life on a log in memory.
+fn in_memory<R: Threads + Log + Sync + Print + AllocGlobal>(rt: &R) -> anyhow::Result<()> {
+    play(rt, "raft", MemoryFileSystem::new(rt.alloc()))
+}
+
 // An open lends its file system to threads. One over real directories is therefore passed on here, where the runtime
 // isn't a parameter.
 fn main(rt: HostRuntime) -> ExitCode {
     let directory = match directory(&rt) {
         Ok(Some(directory)) => directory,
-        Ok(None) => return exit(&rt, play(&rt, "raft", MemoryFileSystem::new(rt.alloc()))),
+        Ok(None) => return exit(&rt, in_memory(&rt)),
         Err(error) => return exit(&rt, Err(error)),
     };
     match files(&rt, directory.as_str()) {

@@ -2,6 +2,7 @@
 #![tactic(auto)]
 
 pub mod content;
+pub mod in_turn;
 pub mod laws;
 pub mod opening;
 mod passing;
@@ -12,6 +13,7 @@ pub mod replacing;
 pub mod unpadding;
 
 pub use content::unpadded;
+pub use in_turn::open_directory_in_turn;
 pub use opening::{OpenedLog, open_directory};
 pub use placed_file::PlacedFile;
 pub use unpadding::unpad;

@@ -135,7 +135,7 @@ fn read_unpadded<R: Threads + Log + Sync, F: FileSystem + Sync>(
 }
 
 /// Removes the padding from the files of the log that a builder has found, and finds them again.
-fn find_unpadded<R: Log, F: FileSystem>(
+pub(crate) fn find_unpadded<R: Log, F: FileSystem>(
     rt: &R,
     alloc: Global,
     builder: &mut DualPipesBuilder,
@@ -152,7 +152,7 @@ fn find_unpadded<R: Log, F: FileSystem>(
 }
 
 /// Finds the files of the log of these settings.
-fn find<R: Log, F: FileSystem>(
+pub(crate) fn find<R: Log, F: FileSystem>(
     rt: &R,
     alloc: Global,
     config: Config,
@@ -186,7 +186,10 @@ fn begin<R: Log>(rt: &R, alloc: Global, config: Config) -> Result<DualPipesBuild
 }
 
 /// Merges both contexts into tables, that of Append over that of Rewrite.
-fn merge(append: MemTableRecoverContext, rewrite: MemTableRecoverContext) -> Result<MemTables>
+pub(crate) fn merge(
+    append: MemTableRecoverContext,
+    rewrite: MemTableRecoverContext,
+) -> Result<MemTables>
     ensures ok { IfOk result (AreMergedOf append rewrite) }
     ensures err { IfErr result (λ error. error ≡ Memory) }
 {

@@ -2,6 +2,8 @@
 
 ghost use Rattle.std.specs.Prelude.{◌≡◌, ◌≤◌, ◌↔◌, length, IfErr, IfOk, IsTrue, OnErr, OnOk, []};
 
+mod in_turn;
+
 use crate::clearing::clear_old;
 use crate::cutting::cut_files;
 use crate::finishing::{recovered_pipe, unread, wanted_pipe};
@@ -237,7 +239,7 @@ impl DualPipesBuilder {
 
     /// Truncates the damaged files of both queues, Append's first, and syncs them. If it fails, those before the
     /// failed one are truncated.
-    fn cut_both<F: FileSystem, L: Log>(
+    pub(crate) fn cut_both<F: FileSystem, L: Log>(
         &self,
         rt: &L,
         alloc: Global,
@@ -256,6 +258,7 @@ impl DualPipesBuilder {
             rt,
             alloc,
             file_system,
+            &self.config,
             LogQueue::Append,
             &self.append.files,
             append,
@@ -264,6 +267,7 @@ impl DualPipesBuilder {
             rt,
             alloc,
             file_system,
+            &self.config,
             LogQueue::Rewrite,
             &self.rewrite.files,
             rewrite,
@@ -293,11 +297,14 @@ impl DualPipesBuilder {
         ensures same { OnErr result (self.new ≡ self.old) }
         ensures others { OtherQueueIsKept config.queue self.old self.new }
     {
+        let settings = &self.config;
         match config.queue {
-            LogQueue::Append => self.append.recover(rt, alloc, file_system, config, factory),
+            LogQueue::Append => self
+                .append
+                .recover(rt, alloc, file_system, settings, config, factory),
             LogQueue::Rewrite => self
                 .rewrite
-                .recover(rt, alloc, file_system, config, factory),
+                .recover(rt, alloc, file_system, settings, config, factory),
         }
     }
 

@@ -9,7 +9,10 @@ use raft_log_fs::FileSystem;
 use raft_log_record_base::Result;
 use raft_log_recovery_read::{FileEnding, QueueSegments};
 use raft_log_recovery_scan::RecoveryConfig;
-use raft_log_replay::{Factory, ReadSegments, ReplayMachine, ReplayThreads, replay_segments_by};
+use raft_log_replay::{
+    Factory, ReadSegments, ReplayMachine, ReplayThreads, replay_segments_by,
+    replay_segments_in_turn,
+};
 use std::alloc::Global;
 use std::marker::Send;
 use std::thread::{Threads, join};
@@ -45,6 +48,40 @@ pub fn recover_files<F: FileSystem + Sync, M: ReplayMachine + Send, FA: Factory<
         files,
     };
     let answer = replay_segments_by(rt, alloc, threads, &source, factory, config.concurrency);
+    let QueueSegments {
+        alloc: _alloc,
+        file_system: _lent,
+        queue: _queue,
+        mode: _mode,
+        read_block_size: _size,
+        files: _files,
+    } = source;
+    answer
+}
+
+/// Reads the files of a queue as `recover_files` does, but one after the other on the caller's thread.
+///
+/// Fails as `recover_files` does.
+pub(crate) fn recover_files_in_turn<F: FileSystem + Sync, M: ReplayMachine, FA: Factory<M>>(
+    alloc: Global,
+    file_system: &F,
+    config: RecoveryConfig,
+    files: &[File],
+    factory: &FA,
+) -> Result<ReadSegments<M, FileEnding>>
+    ensures ok { IfOk result (λ done. HasReadFiles M.reads config files.now (F.disk file_system.now)
+        done.machine done.endings.items) }
+    ensures err { IfErr result (FilesAreUnread M.declines config files.now (F.disk file_system.now)) }
+{
+    let source = QueueSegments {
+        alloc,
+        file_system,
+        queue: config.queue,
+        mode: config.mode,
+        read_block_size: config.read_block_size as usize,
+        files,
+    };
+    let answer = replay_segments_in_turn(alloc, &source, factory, config.concurrency);
     let QueueSegments {
         alloc: _alloc,
         file_system: _lent,

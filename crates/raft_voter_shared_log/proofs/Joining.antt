@@ -37,7 +37,7 @@ leads v x [] W at joined =
     let X : World = after cut.before (taken_from 0 x.session.place cut.refused cut.requests) in
     ∣ (X, (joined.0.legal W at, joined.0.last, (X, (joined.1 W at, refl), refl))) ∣₁
 leads v x (y ∷ ys) W at joined =
-    ∥∥₁_elim (joined.1.0 (behind W x.session) (joined.0.left W at)) ∥∥₁_prop (λ found.
+    ∥∥₁_elim (joined.1.0 W at) ∥∥₁_prop (λ found.
     ∥∥₁_map (leads v y ys found.0 found.2 joined.2) (λ rest. (
       rest.0,
       (joined.0.legal W at, joined.0.last, (found.0, joined.1.1 W found.0 at found.2, rest.1)),

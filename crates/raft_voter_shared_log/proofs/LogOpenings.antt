@@ -1,7 +1,8 @@
 -- Openings of a log join.
-use Rattle.std.proofs.Common.{◌≡◌, ◌∙◌, inl, inr, ℕ, List, [], ◌∷◌, take, subst, sym}
+use Rattle.std.proofs.Common.{◌≡◌, ◌∙◌, ◌⊎◌, inl, inr, ℕ, List, [], ◌∷◌, take, subst, sym}
 use Rattle.std.proofs.Math.Logic.{∥∥₁_map}
 use Rattle.std.proofs.Math.Seq.{take-nil}
+use Rattle.std.proofs.lemmas.Bool.{false≢true}
 use Rattle.raft_log_model_laws.specs.Groups.{taken}
 use Rattle.raft_log_fs.specs.Disk.{Disk}
 use Rattle.raft_log_fs.specs.Image.{IsImage, IsSound}
@@ -18,7 +19,8 @@ use Rattle.raft_voter.specs.Service.{CutRound, IsOpenAt, MayFollow}
 use Rattle.raft_voter_outline.specs.Kept.{outlines_in}
 use Rattle.raft_voter_durability_laws.specs.Standing.{IsLeftAmong, Keeps}
 use Rattle.raft_voter_log.specs.Opens.{ServesFound}
-use Rattle.raft_voter_log.proofs.Finding.{first_opens_are_fresh}
+use Rattle.raft_voter_log.proofs.ClosedStores.{closed_stores_are_found}
+use Rattle.raft_voter_log.proofs.Finding.{crashed_voters_are_found, first_opens_are_fresh, left_voters_are_found}
 use Rattle.raft_voter_store.specs.Service.{LeavesAt}
 use Rattle.raft_voter_store.specs.Service.LeavesAt.{left as is_left, running}
 use Rattle.raft_voter_store.proofs.Serving.{open_in}
@@ -27,10 +29,10 @@ use Rattle.raft_voter_log.proofs.Homes.{bare_for, one_home, some_append, some_re
 use Rattle.raft_voter_log.proofs.OpenLemmas.{follows_none, opened_lives}
 use Rattle.raft_voter_shared_log.specs.declared.store.LogStore.{LogStore}
 use Rattle.raft_voter_shared_log.specs.GoingOn.{GoesOnBehindACrash, GoesOnInPlace}
-use Rattle.raft_voter_shared_log.specs.Joining.{AreJoined, BeginsFresh, GoesOn, IsFollowedBy, behind}
-use Rattle.raft_voter_shared_log.specs.LogOpenings.{AreLogOpenings, BeginsBare, ComesNext, IsLeftNext, IsShared, LogOpeningsAreExplained, LogSharing, RestsMeaning, SettledStoresMean, log_service, stores_of}
+use Rattle.raft_voter_shared_log.specs.Joining.{AreJoined, BeginsFresh, ContinuesFrom, IsFollowedBy, behind}
+use Rattle.raft_voter_shared_log.specs.LogOpenings.{AreLogOpenings, BeginsBare, ComesNext, IsLeftNext, IsShared, LogOpeningsAreExplained, LogSharing, ReadsClosed, RestsMeaning, SettledStoresMean, home_behind, log_service, stores_of}
 use Rattle.raft_voter_shared_log.specs.Opening.{OpensStore}
-use Rattle.raft_voter_shared_log.proofs.GoingOn.{closed_is_left, closed_stores_go_on}
+use Rattle.raft_voter_shared_log.proofs.GoingOn.{closed_is_left}
 use Rattle.raft_voter_shared_log.proofs.Joining.{joined_openings_are_explained}
 
 module _ {F : Type 0} (disk : F → Disk) (tells : F → List ℕ → ℕ → Type 0) (shows : LogStore F → EngineState) where
@@ -60,11 +62,29 @@ module _ {F : Type 0} (disk : F → Disk) (tells : F → List ℕ → ℕ → Ty
             (subst (λ (f : F). ServesFound disk tells is.opens.0 f W) (sym same) (law is.opens.0 (one_home is.opens.0 next.shared.opened.config is.opens.1 ∙ named)).answered),
       )
 
-  goes_on : (x next : LogSharing F) → IsShared disk tells shows x → IsShared disk tells shows next → ComesNext disk x next → GoesOn (log_service shows) x.shared.settled next.shared.opened
-  goes_on x next is then comes cut was =
-      ∥∥₁_map was (λ at.
-      let (left, crashed, stands) = closed_stores_go_on disk tells x.shared.settled.config (shows x.shared.settled) x.closed cut at is.closes in
-      finds x next then (home_of x.shared.settled.config) comes.named cut left crashed stands comes.sound (comes.spares cut left))
+  -- behind a proper close of a store that runs
+  finds_closed : (x next : LogSharing F) → IsShared disk tells shows next → home_of next.shared.opened.config ≡ home_behind x → IsSound (disk next.found) → ReadsClosed disk shows x next
+      → (cut : CutRound) → LeavesAt (home_behind x) (shows x.shared.settled) cut → (X : World) × MayFollow cut X × IsOpenAt (log_service shows) next.shared.opened X
+  finds_closed x next is named sound reads cut (running W none keeps) =
+      let law = closed_stores_are_found disk tells (home_behind x) (shows x.shared.settled) W (disk x.closed) next.found reads.sound sound keeps reads.closes reads.found in (
+        W,
+        follows_none cut W none,
+        serves next.shared.opened next.found W is.opens (law is.opens.0 (one_home is.opens.0 next.shared.opened.config is.opens.1 ∙ named)).answered,
+      )
+  finds_closed x next is named sound reads cut (is_left failed l) = absurd (false≢true (sym reads.runs ∙ failed))
+
+  goes_on : (x next : LogSharing F) → IsShared disk tells shows x → IsShared disk tells shows next → ComesNext disk shows x next → ContinuesFrom (log_service shows) x.shared next.shared.opened
+  goes_on x next is then comes W at =
+      let cut = behind W x.shared.session in
+      elim comes.reads [
+        | inl closed ↦ ∥∥₁_map (is.settles.left W at) (λ known. finds_closed x next then comes.named comes.sound closed cut known)
+        | inr left ↦
+            ∥∥₁_map (left W at) (λ known.
+            finds x next then (home_behind x) comes.named cut known.0
+            (λ old sound crash. crashed_voters_are_found disk tells (home_behind x) (some_append x.shared.settled.config) (some_rewrite x.shared.settled.config) (disk x.closed) cut known.0 old sound crash)
+            (λ sound chance. left_voters_are_found disk tells (home_behind x) (some_append x.shared.settled.config) (some_rewrite x.shared.settled.config) x.closed cut known.0 sound chance)
+            comes.sound known.1)
+      ]
 
   begins : (xs : List (LogSharing F)) → BeginsBare disk xs → AreLogOpenings disk tells shows xs → BeginsFresh (log_service shows) (stores_of xs)
   begins [] bare are = tt

@@ -35,6 +35,11 @@ abbrev pub GoesOn : {S : Type 0} → Service S → S → S → Type 0
 GoesOn v old new =
     (cut : CutRound) → ∥ v.leaves old cut ∥₁ → ∥ ((X : World) × MayFollow cut X × IsOpenAt v new X) ∥₁
 
+-- Suppose that opening `x` began with the voters of a world. Then store `next` serves voters that are possible after it.
+abbrev pub ContinuesFrom : {S : Type 0} → Service S → Sharing S → S → Type 0
+ContinuesFrom v x next = (W : World) → IsOpenAt v x.opened W
+    → ∥ ((X : World) × MayFollow (behind W x.session) X × IsOpenAt v next X) ∥₁
+
 -- Which voters the next opened store serves. They took the journal's rounds before those in which the store failed. Of
 -- these rounds, as one, they took the requests before the session's cut, without the refused ones.
 abbrev pub ShowsPlace : {S : Type 0} → Service S → Sharing S → S → Type 0
@@ -50,7 +55,7 @@ HasPlace v x = (W : World) → IsOpenAt v x.opened W → x.session.place ≤ len
 -- If there is no next opening, the cut may be any position.
 abbrev pub IsFollowedBy : {S : Type 0} → Service S → Sharing S → List (Sharing S) → Type 0
 IsFollowedBy v x [] = HasPlace v x
-IsFollowedBy v x (y ∷ ys) = GoesOn v x.settled y.opened × ShowsPlace v x y.opened
+IsFollowedBy v x (y ∷ ys) = ContinuesFrom v x y.opened × ShowsPlace v x y.opened
 
 -- each store was settled, and the next opening continues from what it left
 abbrev pub AreJoined : {S : Type 0} → Service S → List (Sharing S) → Type 0

@@ -1,11 +1,12 @@
 -- A log is opened several times, one after another, as a store that threads share.
-use Rattle.std.specs.Prelude.{◌≡◌, ◌⊎◌, ℕ, List, [], ◌∷◌, map}
+use Rattle.std.specs.Prelude.{◌≡◌, ◌⊎◌, ℕ, false, List, [], ◌∷◌, map}
 use Rattle.raft_log_fs.specs.Disk.{Disk}
 use Rattle.raft_log_fs.specs.Image.{IsImage, IsSound}
-use Rattle.raft_voter_durability_laws.specs.raft_log_engine_laws.specs.EngineState.{LogDirectories, LogMap, EngineState, log_in}
+use Rattle.raft_voter_durability_laws.specs.raft_log_engine_laws.specs.EngineState.{LogDirectories, LogMap, EngineState, has_failed, log_in}
 use Rattle.raft_voter_durability_laws.specs.raft_log_engine_laws.specs.raft_log_dual_pipes.specs.OnDisk.{IsDurableAs}
 use Rattle.raft_log_recovery_laws.specs.Bare.{IsBare}
 use Rattle.raft_log_recovery_laws.specs.ByCalls.{home_of}
+use Rattle.raft_log_recovery_laws.specs.Closed.{ClosesProperly, IsThatOrItsImage}
 use Rattle.raft_log_recovery_laws.specs.InPlace.{StandsWithoutChance}
 use Rattle.raft_log_recovery_laws.specs.Left.{IsCrashOf}
 use Rattle.raft_voter.specs.Rounds.{Explains, World}
@@ -50,19 +51,33 @@ abbrev pub IsLeftNext : {F : Type 0} (disk : F → Disk) (home : LogDirectories)
 IsLeftNext disk home cut closed found left = IsCrashOf home left.left.1.lies.state (disk closed) (disk found)
     ⊎ ((found ≡ closed) × StandsWithoutChance home left.left.1.lies.state (disk closed))
 
+-- The store of the opening `x` hadn't failed when it was settled, and its log was closed properly. The files of the next
+-- opening `next` are those, or a crash image of them. There is no premise on CRC collisions.
+pub record ReadsClosed {F : Type 0} (disk : F → Disk) (shows : LogStore F → EngineState) (x next : LogSharing F) : Type 0 where
+  pub runs : has_failed (shows x.shared.settled) ≡ false
+  pub sound : IsSound (shows x.shared.settled).pipes.disk
+  pub closes : ClosesProperly (shows x.shared.settled).pipes (disk x.closed)
+  pub found : IsThatOrItsImage (disk x.closed) (disk next.found)
+
+-- The opening `x` began with the voters of a world. Then its files can be opened, with voters that are possible after it.
+-- The files of the next opening `next` are those, or a crash image of them, and there is no CRC collision in them.
+abbrev pub ReadsLeft : {F : Type 0} → (F → Disk) → (LogStore F → EngineState) → LogSharing F → LogSharing F → Type 0
+ReadsLeft disk shows x next = (W : World) → IsOpenAt (log_service shows) x.shared.opened W
+    → ∥ ((left : IsLeftAmong (home_behind x) (disk x.closed) (MayFollow (behind W x.shared.session)))
+    × IsLeftNext disk (home_behind x) (behind W x.shared.session) x.closed next.found left) ∥₁
+
 -- The next opening `next` has settings that name the same directories as those of `x`. It opens the files that `x`
--- left, or a crash image of them. There is no CRC collision in them, whichever log may be in these files.
-pub record ComesNext {F : Type 0} (disk : F → Disk) (x next : LogSharing F) : Type 0 where
+-- left, or a crash image of them. If the store had failed, or its close wasn't proper, there is no CRC collision in them.
+pub record ComesNext {F : Type 0} (disk : F → Disk) (shows : LogStore F → EngineState) (x next : LogSharing F) : Type 0 where
   pub named : home_of next.shared.opened.config ≡ home_behind x
   pub sound : IsSound (disk next.found)
-  pub spares : (cut : CutRound) (left : IsLeftAmong (home_behind x) (disk x.closed) (MayFollow cut))
-      → IsLeftNext disk (home_behind x) cut x.closed next.found left
+  pub reads : ReadsClosed disk shows x next ⊎ ReadsLeft disk shows x next
 
 -- What follows the opening `x`. The next opening opens what `x` left, and finds voters up to the cut of `x`. If there
 -- is no next opening, the cut may be any position.
 abbrev pub IsFollowedInLog : {F : Type 0} → (F → Disk) → (LogStore F → EngineState) → LogSharing F → List (LogSharing F) → Type 0
 IsFollowedInLog disk shows x [] = HasPlace (log_service shows) x.shared
-IsFollowedInLog disk shows x (y ∷ ys) = ComesNext disk x y × ShowsPlace (log_service shows) x.shared y.shared.opened
+IsFollowedInLog disk shows x (y ∷ ys) = ComesNext disk shows x y × ShowsPlace (log_service shows) x.shared y.shared.opened
 
 -- in each opening the store was opened, settled and closed; the next opening continues from the files that it left
 abbrev pub AreLogOpenings :

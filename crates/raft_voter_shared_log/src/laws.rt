@@ -38,7 +38,9 @@ pub fn disks_go_on<R, S: VoterStorage<R>, F: VoterDisk<R, S>>()
 {}
 
 /// The same on a log, in any file system: voters that never fail explain the journals of its openings, one after
-/// another. The first opening was of directories in which no log began, and there is no CRC collision.
+/// another. The first opening was of directories in which no log began. If a store had failed, or its close wasn't
+/// proper, there is no CRC collision in the files that are opened next. After a proper close of a running store there is
+/// no such premise.
 pub fn log_openings_are_explained<F: FileSystem + Sync>()
     ensures { LogOpeningsAreExplained F.disk F.tells_space
         (λ store. shows_of ⟦<EnginePipes<F, Nobody> as PipeLog>⟧.shown store.store.engine) }

@@ -11,7 +11,7 @@ use raft_log_dual_pipes::{DualPipes, OpenRefused, PipeLog};
 use raft_log_file_listeners::{EventListener, Nobody, PurgeHook, ToldPipes};
 use raft_log_file_settings::Config;
 use raft_log_fs::FileSystem;
-use raft_log_open::{OpenedLog, open_directory};
+use raft_log_open::{OpenedLog, open_directory, open_directory_in_turn};
 use raft_log_purge_policy::Thresholds;
 use raft_log_replay::ReplayThreads;
 use std::alloc::Global;
@@ -156,6 +156,45 @@ impl<F: FileSystem + Sync, E: EventListener> LogEngine<
     {
         let thresholds = Thresholds::of(&config);
         match open_directory(rt, alloc, threads, config, file_system) {
+            Ok(
+                OpenedLog {
+                    pipes,
+                    tables,
+                    written,
+                },
+            ) => {
+                let told = ToldPipes::new(pipes, listener);
+                let hooked = ToldPipes::new(told, PurgeHook::new(alloc));
+                Ok(LogEngine::new(alloc, thresholds, hooked, tables, written))
+            }
+            Err(refused) => Err(refused),
+        }
+    }
+
+    /// Opens the log as `open_with` does, but reads it on the caller's thread. So it needs no threads, and a library
+    /// that a C program calls can open a log.
+    ///
+    /// Fails as `open_with` does.
+    pub fn open_in_turn<R: Log>(
+        rt: &R,
+        alloc: Global,
+        config: Config,
+        file_system: F,
+        listener: E,
+    ) -> Result<Self, OpenRefused<F>>
+        ensures ok { IfOk result (λ engine. OpensDirectory F.disk F.tells_space config file_system
+            (⟦<ToldPipes<ToldPipes<DualPipes<F>, E>, PurgeHook> as PipeLog>⟧.shown engine.pipes)
+            engine.tables) }
+        ensures none { IfOk result (λ engine. engine.cache.place ≡ None) }
+        ensures purges { IfOk result (λ engine. IsPurgedBy config engine.thresholds engine.counts.rounds) }
+        ensures brought { IfOk result (λ engine. CountsBrought config (F.disk file_system) engine.counts) }
+        ensures err { IfErr result (λ refused. FailsToOpenDirectory F.disk F.tells_space config refused.error
+            file_system refused.file_system) }
+        ensures memory { IfErr result (λ refused. refused.error ≡ errors.Memory
+            → (F.disk file_system).stopped ≡ false) }
+    {
+        let thresholds = Thresholds::of(&config);
+        match open_directory_in_turn(rt, alloc, config, file_system) {
             Ok(
                 OpenedLog {
                     pipes,

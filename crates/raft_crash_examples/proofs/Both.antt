@@ -18,20 +18,18 @@ use Rattle.raft_log_engine.specs.raft_log_record_batches.specs.Places.{entry_byt
 use Rattle.raft_log_engine.specs.raft_log_fs.specs.Disk.{Disk}
 use Rattle.raft_log_engine.specs.raft_log_fs.specs.Image.{IsImage, IsSound}
 use Rattle.raft_log_engine.specs.raft_log_file_settings.specs.declared.config.Config.{Config}
-use Rattle.raft_log_engine.specs.raft_log_memtables.specs.declared.mem_tables.MemTables.{MemTables}
-use Rattle.raft_log_engine.specs.raft_log_block_cache.specs.declared.block_cache.BlockCache.{BlockCache}
-use Rattle.raft_log_engine.specs.raft_log_dual_pipes.specs.Pipes.{LogPipes, LogRecordValue}
-use Rattle.raft_log_engine.specs.raft_log_engine_laws.specs.EngineState.{LogDirectories, LogMap, EngineState, has_failed, said_of, shows}
-use Rattle.raft_log_engine.specs.raft_log_open.specs.Opening.{OpensDirectory}
+use Rattle.raft_log_engine.specs.raft_log_dual_pipes.specs.Pipes.{LogRecordValue}
+use Rattle.raft_log_engine.specs.raft_log_engine_laws.specs.EngineState.{LogDirectories, LogMap, EngineState, has_failed, said_of}
 use Rattle.raft_log_engine.specs.raft_log_engine_laws.specs.Holding.{EndsAt, Represents, IsRecoverableAs}
 use Rattle.raft_log_engine.specs.raft_log_engine_laws.specs.Reading.{StandsUnder}
 use Rattle.raft_log_engine.specs.raft_log_engine_laws.specs.Writing.{Leaves, NotWritten, WritesBytes}
 use Rattle.raft_log_recovery_laws.specs.Bare.{IsBare}
 use Rattle.raft_log_recovery_laws.specs.ByCalls.{home_of}
 use Rattle.raft_crash_examples.specs.declared.changing.KeyChange.{KeyChange}
-use Rattle.raft_crash_examples.specs.Batches.{AreBoth, IsNeither, LoadsBoth, MayHave, TriesToWrite, WritesBothOrNeither, said_by_both}
+use Rattle.raft_crash_examples.specs.Batches.{AreBoth, IsNeither, LoadsBoth, MayHave, ReadsBoth, TriesBoth, TriesToWrite, WritesBothOrNeither, said_by_both}
 use Rattle.raft_crash_examples.specs.Changing.{AddsChange, item_of, word_of}
 use Rattle.raft_crash_examples.specs.Keys.{value_behind}
+use Rattle.raft_crash_examples.specs.Opening.{Opens}
 use Rattle.raft_crash_examples.specs.Standing.{CrashesWithoutChance, RunsOrIsLeft}
 use Rattle.raft_crash_examples.proofs.Between.{alive, nothing_yet, opened}
 use Rattle.raft_crash_examples.proofs.Between.LiesAs.{rests}
@@ -39,6 +37,7 @@ use Rattle.raft_crash_examples.proofs.Between.StandsAs.{lies}
 use Rattle.raft_crash_examples.proofs.Kept.{no_tail, with_or_without}
 use Rattle.raft_crash_examples.proofs.Named.{some_append, some_rewrite}
 use Rattle.raft_crash_examples.proofs.Rested.{rested}
+use Rattle.raft_crash_examples.proofs.Saved.{loads_of}
 use Rattle.raft_crash_examples.proofs.Valued.{behind, one_value}
 use Rattle.raft_crash_examples.proofs.Written.{item_said, users_item}
 
@@ -143,16 +142,28 @@ module _ (one other : KeyChange) (first second : Option (List ℕ)) where
     one_value nothing_stands other.group other.key.items second None (subst (λ (n : LogMap). StandsUnder n other.group other.key.items second) is also) refl,
   )
 
--- A log was opened, and the batch written, answered or refused.
-pub tries_to_write : {F : Type 0} (disk : F → Disk) (tells : F → List ℕ → ℕ → Type 0) (config : Config) (one other : KeyChange) (old : F) (answered : Bool) (t : EngineState) (pipes : LogPipes) (tables : MemTables) (cache : BlockCache) (none half b : Batch) (r : Result ℕ Error)
-    → OpensDirectory disk tells config old pipes tables → cache.place ≡ None → none ≡ empty_batch 0 0 → AddsChange one none half → AddsChange other half b → IfOk r (λ len. WritesBytes b true len (shows pipes tables cache) t)
-    → IfErr r (λ error. NotWritten b error (shows pipes tables cache) t) → ((error : Error) → r ≡ Err error → answered ≡ true → ⊥) → TriesToWrite disk tells config one other old answered t
-tries_to_write disk tells config one other old answered t pipes tables cache none half b r opens kept empty first second ok err refused = record {
-  pipes = pipes;
-  tables = tables;
-  opens = opens;
-  tries = λ home m fresh.
-      may_have answered home (shows pipes tables cache) t m b (said_by_both one other) (both_said one other none half b empty first second) (some_items one other none half b empty first second) (fresh cache kept) r ok err refused;
+-- The batch was written, answered or refused.
+pub tries_both : (one other : KeyChange) (answered : Bool) (s t : EngineState) (none half b : Batch) (r : Result ℕ Error) → none ≡ empty_batch 0 0 → AddsChange one none half → AddsChange other half b
+    → IfOk r (λ len. WritesBytes b true len s t) → IfErr r (λ error. NotWritten b error s t) → ((error : Error) → r ≡ Err error → answered ≡ true → ⊥) → TriesBoth one other answered s t
+tries_both one other answered s t none half b r empty first second ok err refused home m holds =
+    may_have answered home s t m b (said_by_both one other) (both_said one other none half b empty first second) (some_items one other none half b empty first second) holds r ok err refused
+
+-- A log was opened, and the batch written.
+pub tries_to_write : {F : Type 0} (disk : F → Disk) (tells : F → List ℕ → ℕ → Type 0) (config : Config) (one other : KeyChange) (old : F) (answered : Bool) (e t : EngineState)
+    → Opens disk tells config old e → TriesBoth one other answered e t → TriesToWrite disk tells config one other old answered t
+tries_to_write disk tells config one other old answered e t opens tries = record {
+  pipes = opens.pipes;
+  tables = opens.tables;
+  opens = opens.opens;
+  tries = λ home m fresh. tries home m (opens.holds home m fresh);
+}
+
+-- A log was opened, and both keys were read.
+pub loads_both : {F : Type 0} (disk : F → Disk) (tells : F → List ℕ → ℕ → Type 0) (config : Config) (one other : KeyChange) (old : F) (e : EngineState) (first second : Option (List ℕ))
+    → Opens disk tells config old e → ReadsBoth e one other first second → LoadsBoth disk tells config one other old first second
+loads_both disk tells config one other old e first second opens reads = record {
+  of_one = loads_of disk tells config one.group one.key.items old e first opens reads.0;
+  of_other = loads_of disk tells config other.group other.key.items old e second opens reads.1;
 }
 
 module _ {F : Type 0} (disk : F → Disk) (tells : F → List ℕ → ℕ → Type 0) (sound : (system : F) → IsSound (disk system)) (config : Config) (one other : KeyChange) (again : Config) (old left : F) (answered : Bool) (engine : EngineState)

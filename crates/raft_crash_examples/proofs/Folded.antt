@@ -7,11 +7,7 @@ use Rattle.raft_log_engine.specs.raft_log_model_laws.specs.Groups.{taken}
 use Rattle.raft_log_engine.specs.raft_log_fs.specs.Disk.{Disk}
 use Rattle.raft_log_engine.specs.raft_log_fs.specs.Image.{IsSound}
 use Rattle.raft_log_engine.specs.raft_log_file_settings.specs.declared.config.Config.{Config}
-use Rattle.raft_log_engine.specs.raft_log_memtables.specs.declared.mem_tables.MemTables.{MemTables}
-use Rattle.raft_log_engine.specs.raft_log_block_cache.specs.declared.block_cache.BlockCache.{BlockCache}
-use Rattle.raft_log_engine.specs.raft_log_dual_pipes.specs.Pipes.{LogPipes}
-use Rattle.raft_log_engine.specs.raft_log_engine_laws.specs.EngineState.{LogDirectories, LogMap, EngineState, shows}
-use Rattle.raft_log_engine.specs.raft_log_open.specs.Opening.{OpensDirectory}
+use Rattle.raft_log_engine.specs.raft_log_engine_laws.specs.EngineState.{LogDirectories, LogMap, EngineState}
 use Rattle.raft_log_recovery_laws.specs.ByCalls.{home_of}
 use Rattle.raft_crash_examples.specs.declared.changing.KeyChange.{KeyChange}
 use Rattle.raft_crash_examples.specs.declared.lives.Life.{Life}
@@ -19,19 +15,20 @@ use Rattle.raft_crash_examples.specs.Changing.{ChangesKeys, said_by}
 use Rattle.raft_crash_examples.specs.Ending.{Ends, EndsWithoutChance}
 use Rattle.raft_crash_examples.specs.Keys.{value_behind}
 use Rattle.raft_crash_examples.specs.Lives.{AllLiveIn, LivesOn, LivesOnce, LivesWithoutChance, OpensAndChanges, ReadsTheFold, changes_of}
+use Rattle.raft_crash_examples.specs.Opening.{Opens}
 use Rattle.raft_crash_examples.specs.Saving.{Loads}
 use Rattle.raft_crash_examples.proofs.Between.{LiesAs, StandsAs, ended, nothing_yet, opened}
 use Rattle.raft_crash_examples.proofs.Between.StandsAs.{lies}
 use Rattle.raft_crash_examples.proofs.Valued.{behind, one_value}
 
 -- a log was opened, and its keys were changed
-pub opens_and_changes : {F : Type 0} (disk : F → Disk) (tells : F → List ℕ → ℕ → Type 0) (config : Config) (cs : List KeyChange) (old : F) (engine : EngineState) (pipes : LogPipes) (tables : MemTables) (cache : BlockCache)
-    → OpensDirectory disk tells config old pipes tables → cache.place ≡ None → ChangesKeys cs (shows pipes tables cache) engine → OpensAndChanges disk tells config cs old engine
-opens_and_changes disk tells config cs old engine pipes tables cache opens none changes = record {
-  pipes = pipes;
-  tables = tables;
-  opens = opens;
-  changed = λ home m fresh. changes home m (fresh cache none);
+pub opens_and_changes : {F : Type 0} (disk : F → Disk) (tells : F → List ℕ → ℕ → Type 0) (config : Config) (cs : List KeyChange) (old : F) (e engine : EngineState)
+    → Opens disk tells config old e → ChangesKeys cs e engine → OpensAndChanges disk tells config cs old engine
+opens_and_changes disk tells config cs old e engine opens changes = record {
+  pipes = opens.pipes;
+  tables = opens.tables;
+  opens = opens.opens;
+  changed = λ home m fresh. changes home m (opens.holds home m fresh);
 }
 
 -- so it lived once

@@ -6,12 +6,9 @@ use Rattle.raft_log_engine.specs.raft_log_model_laws.specs.Groups.{taken}
 use Rattle.raft_log_engine.specs.raft_log_fs.specs.Disk.{Disk}
 use Rattle.raft_log_engine.specs.raft_log_fs.specs.Image.{IsImage, IsSound}
 use Rattle.raft_log_engine.specs.raft_log_file_settings.specs.declared.config.Config.{Config}
-use Rattle.raft_log_engine.specs.raft_log_memtables.specs.declared.mem_tables.MemTables.{MemTables}
-use Rattle.raft_log_engine.specs.raft_log_block_cache.specs.declared.block_cache.BlockCache.{BlockCache}
-use Rattle.raft_log_engine.specs.raft_log_dual_pipes.specs.Pipes.{LogPipes, LogRecordValue}
-use Rattle.raft_log_engine.specs.raft_log_engine_laws.specs.EngineState.{LogMap, EngineState, shows}
+use Rattle.raft_log_engine.specs.raft_log_dual_pipes.specs.Pipes.{LogRecordValue}
+use Rattle.raft_log_engine.specs.raft_log_engine_laws.specs.EngineState.{LogMap, EngineState}
 use Rattle.raft_log_engine.specs.raft_log_engine_laws.specs.Reading.{ReadsValue, StandsUnder}
-use Rattle.raft_log_engine.specs.raft_log_open.specs.Opening.{OpensDirectory}
 use Rattle.raft_log_recovery_laws.specs.Bare.{IsBare}
 use Rattle.raft_log_recovery_laws.specs.ByCalls.{home_of}
 use Rattle.raft_log_recovery_laws.specs.Running.{LeavesNoChance}
@@ -22,6 +19,7 @@ use Rattle.raft_crash_examples.specs.Changing.{said_by}
 use Rattle.raft_crash_examples.specs.Ending.{Ends, EndsWithoutChance}
 use Rattle.raft_crash_examples.specs.Keys.{value_behind}
 use Rattle.raft_crash_examples.specs.Lives.{AllLiveIn, LivesOn, LivesWithoutChance, changes_of}
+use Rattle.raft_crash_examples.specs.Opening.{Opens}
 use Rattle.raft_crash_examples.specs.Saving.{Loads, put_of}
 use Rattle.raft_crash_examples.specs.Unsynced.{LoadsAndEnds, PutsUnsynced, StaysAsRead}
 use Rattle.raft_crash_examples.proofs.Between.{ended, nothing_yet, opened}
@@ -59,15 +57,15 @@ value_or_none g k v m found (inr some) told =
     inr (one_value (taken nothing_stands (put_of g k v ∷ [])) g k found (Some v) (subst (λ (n : LogMap). StandsUnder n g k found) some told) (stands nothing_stands g k v))
 
 -- opened, read and ended
-pub loads_and_ends : {F C : Type 0} (disk : F → Disk) (tells : F → List ℕ → ℕ → Type 0) (config : Config) (g : ℕ) (k : List ℕ) (ending : Ending C) (old new : F) (found : Option (List ℕ)) (pipes : LogPipes) (tables : MemTables) (cache : BlockCache)
-    → OpensDirectory disk tells config old pipes tables → cache.place ≡ None → ReadsValue (shows pipes tables cache) g k found → Ends ending (shows pipes tables cache) (disk new) → LoadsAndEnds disk tells config g k ending old found new
-loads_and_ends disk tells config g k ending old new found pipes tables cache opens none reads ends = record {
-  pipes = pipes;
-  tables = tables;
-  opens = opens;
-  engine = shows pipes tables cache;
-  holds = λ home m fresh. fresh cache none;
-  told = λ home m fresh. reads.exact home m [] (fresh cache none);
+pub loads_and_ends : {F C : Type 0} (disk : F → Disk) (tells : F → List ℕ → ℕ → Type 0) (config : Config) (g : ℕ) (k : List ℕ) (ending : Ending C) (old new : F) (e : EngineState) (found : Option (List ℕ))
+    → Opens disk tells config old e → ReadsValue e g k found → Ends ending e (disk new) → LoadsAndEnds disk tells config g k ending old found new
+loads_and_ends disk tells config g k ending old new e found opens reads ends = record {
+  pipes = opens.pipes;
+  tables = opens.tables;
+  opens = opens.opens;
+  engine = e;
+  holds = opens.holds;
+  told = λ home m fresh. reads.exact home m [] (opens.holds home m fresh);
   ends = ends;
 }
 

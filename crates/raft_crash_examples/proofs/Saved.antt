@@ -19,16 +19,13 @@ use Rattle.raft_log_engine.specs.raft_log_fs.specs.Disk.{Disk}
 use Rattle.raft_log_engine.specs.raft_log_record_batches.specs.Batch.{Batch, Puts, empty_batch}
 use Rattle.raft_log_engine.specs.raft_log_record_batches.specs.Places.{entry_bytes}
 use Rattle.raft_log_engine.specs.raft_log_file_settings.specs.declared.config.Config.{Config}
-use Rattle.raft_log_engine.specs.raft_log_memtables.specs.declared.mem_tables.MemTables.{MemTables}
-use Rattle.raft_log_engine.specs.raft_log_block_cache.specs.declared.block_cache.BlockCache.{BlockCache}
-use Rattle.raft_log_engine.specs.raft_log_dual_pipes.specs.Pipes.{LogPipes, LogRecordValue}
-use Rattle.raft_log_engine.specs.raft_log_engine_laws.specs.EngineState.{LogDirectories, LogMap, EngineState, said_of, shows}
+use Rattle.raft_log_engine.specs.raft_log_dual_pipes.specs.Pipes.{LogRecordValue}
+use Rattle.raft_log_engine.specs.raft_log_engine_laws.specs.EngineState.{LogMap, EngineState, said_of}
 use Rattle.raft_log_engine.specs.raft_log_engine_laws.specs.Holding.{EndsAt, Represents}
 use Rattle.raft_log_engine.specs.raft_log_engine_laws.specs.Reading.{ReadsValue, StandsUnder}
-use Rattle.raft_log_engine.specs.raft_log_engine_laws.specs.Writing.{Writes, WritesBytes}
-use Rattle.raft_log_engine.specs.raft_log_open.specs.Opening.{OpensDirectory}
-use Rattle.raft_log_recovery_laws.specs.Opened.{HoldsFresh}
-use Rattle.raft_crash_examples.specs.Saving.{Loads, Saves, put_of}
+use Rattle.raft_log_engine.specs.raft_log_engine_laws.specs.Writing.{WritesBytes}
+use Rattle.raft_crash_examples.specs.Opening.{Opens}
+use Rattle.raft_crash_examples.specs.Saving.{Loads, PutsKey, Saves, put_of}
 use Rattle.raft_crash_examples.specs.Unsynced.{PutsUnsynced}
 
 -- a key that a batch took isn't the log's own
@@ -75,41 +72,29 @@ only_put old new g k v empty puts =
 some_items : (b : Batch) (g : ℕ) (k v : List ℕ) → b.items ≡ put_item g k v ∷ [] → b.items ≡ [] → ⊥
 some_items b g k v some none = let clash : put_item g k v ∷ [] ≡ [] = sym some ∙ none in let never : ⊥ = cc in never
 
-module _ {F : Type 0} (disk : F → Disk) (tells : F → List ℕ → ℕ → Type 0) (config : Config) (g : ℕ) (k v : List ℕ) (old : F) where
-  saved_in : (pipes : LogPipes) (tables : MemTables) (cache : BlockCache) (b : Batch) (t : EngineState) → cache.place ≡ None → is_internal k ≡ false → b.items ≡ put_item g k v ∷ [] → Writes b true (shows pipes tables cache) t
-      → (home : LogDirectories) (m : LogMap) → HoldsFresh home pipes tables m → Represents home t (taken m (put_of g k v ∷ [])) []
-  saved_in pipes tables cache b t none own items writes home m fresh =
-      let says_it : said_of b ≡ put_of g k v = ap (λ l. unwrap_or (record_of (entry_bytes b.entries) l) (Plain [])) items ∙ put_said (entry_bytes b.entries) g k v own in
-      subst (λ (r : LogRecordValue). Represents home t (taken m (r ∷ [])) []) says_it (writes.synced refl home m [] (fresh cache none))
+module _ (g : ℕ) (k v : List ℕ) where
+  put_by : (b : Batch) → is_internal k ≡ false → b.items ≡ put_item g k v ∷ [] → said_of b ≡ put_of g k v
+  put_by b own items = ap (λ l. unwrap_or (record_of (entry_bytes b.entries) l) (Plain [])) items ∙ put_said (entry_bytes b.entries) g k v own
 
-  -- opened, and written
-  pub saves_in : (pipes : LogPipes) (tables : MemTables) (cache : BlockCache) (b : Batch) (len : ℕ) (t : EngineState) → OpensDirectory disk tells config old pipes tables → cache.place ≡ None → is_internal k ≡ false
-      → b.items ≡ put_item g k v ∷ [] → WritesBytes b true len (shows pipes tables cache) t → Saves disk tells config g k v old t
-  saves_in pipes tables cache b len t opens none own items wrote = elim wrote [
+  -- a batch that puts it was written
+  pub puts_key : (sync : Bool) (b : Batch) (len : ℕ) (s t : EngineState) → is_internal k ≡ false → b.items ≡ put_item g k v ∷ [] → WritesBytes b sync len s t → PutsKey g k v sync s t
+  puts_key sync b len s t own items wrote = elim wrote [
     | inl nothing ↦ absurd (some_items b g k v items nothing.0)
-    | inr some ↦ record { pipes = pipes; tables = tables; opens = opens; saved = saved_in pipes tables cache b t none own items some.1 }
+    | inr some ↦ record {
+      holds = λ home m h. subst (λ (r : LogRecordValue). EndsAt home t m (r ∷ [])) (put_by b own items) (some.1.holds home m [] h);
+      synced = λ is home m h. subst (λ (r : LogRecordValue). Represents home t (taken m (r ∷ [])) []) (put_by b own items) (some.1.synced is home m [] h);
+    }
   ]
 
+module _ {F : Type 0} (disk : F → Disk) (tells : F → List ℕ → ℕ → Type 0) (config : Config) (g : ℕ) (k : List ℕ) (old : F) where
+  -- opened, and written
+  pub saves_in : (v : List ℕ) (e t : EngineState) → Opens disk tells config old e → PutsKey g k v true e t → Saves disk tells config g k v old t
+  saves_in v e t opens puts = record { pipes = opens.pipes; tables = opens.tables; opens = opens.opens; saved = λ home m fresh. puts.synced refl home m (opens.holds home m fresh) }
+
   -- opened, and written without a sync
-  pub puts_in : (pipes : LogPipes) (tables : MemTables) (cache : BlockCache) (b : Batch) (len : ℕ) (t : EngineState) → OpensDirectory disk tells config old pipes tables → cache.place ≡ None → is_internal k ≡ false
-      → b.items ≡ put_item g k v ∷ [] → WritesBytes b false len (shows pipes tables cache) t → PutsUnsynced disk tells config g k v old t
-  puts_in pipes tables cache b len t opens none own items wrote =
-      let says_it : said_of b ≡ put_of g k v = ap (λ l. unwrap_or (record_of (entry_bytes b.entries) l) (Plain [])) items ∙ put_said (entry_bytes b.entries) g k v own in elim wrote [
-        | inl nothing ↦ absurd (some_items b g k v items nothing.0)
-        | inr some ↦ record {
-          pipes = pipes;
-          tables = tables;
-          opens = opens;
-          put = λ home m fresh. subst (λ (r : LogRecordValue). EndsAt home t m (r ∷ [])) says_it (some.1.holds home m [] (fresh cache none));
-        }
-      ]
+  pub puts_in : (v : List ℕ) (e t : EngineState) → Opens disk tells config old e → PutsKey g k v false e t → PutsUnsynced disk tells config g k v old t
+  puts_in v e t opens puts = record { pipes = opens.pipes; tables = opens.tables; opens = opens.opens; put = λ home m fresh. puts.holds home m (opens.holds home m fresh) }
 
   -- opened, and read
-  pub loads_of : (pipes : LogPipes) (tables : MemTables) (cache : BlockCache) (found : Option (List ℕ)) → OpensDirectory disk tells config old pipes tables → cache.place ≡ None → ReadsValue (shows pipes tables cache) g k found
-      → Loads disk tells config g k old found
-  loads_of pipes tables cache found opens none reads = record { pipes = pipes; tables = tables; opens = opens; told = λ home m fresh. reads.exact home m [] (fresh cache none) }
-
-  -- opened, and read under these bytes
-  pub loads_under : (read : List ℕ) (pipes : LogPipes) (tables : MemTables) (cache : BlockCache) (found : Option (List ℕ)) → read ≡ k → OpensDirectory disk tells config old pipes tables → cache.place ≡ None → ReadsValue (shows pipes tables cache) g read found
-      → Loads disk tells config g k old found
-  loads_under read pipes tables cache found same opens none reads = loads_of pipes tables cache found opens none (subst (λ (x : List ℕ). ReadsValue (shows pipes tables cache) g x found) same reads)
+  pub loads_of : (e : EngineState) (found : Option (List ℕ)) → Opens disk tells config old e → ReadsValue e g k found → Loads disk tells config g k old found
+  loads_of e found opens reads = record { pipes = opens.pipes; tables = opens.tables; opens = opens.opens; told = λ home m fresh. reads.exact home m [] (opens.holds home m fresh) }

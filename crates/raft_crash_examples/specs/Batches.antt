@@ -9,6 +9,8 @@ use Rattle.raft_log_engine.specs.raft_log_file_settings.specs.declared.config.Co
 use Rattle.raft_log_engine.specs.raft_log_memtables.specs.declared.mem_tables.MemTables.{MemTables}
 use Rattle.raft_log_engine.specs.raft_log_dual_pipes.specs.Pipes.{LogPipes, LogRecordValue}
 use Rattle.raft_log_engine.specs.raft_log_engine_laws.specs.EngineState.{LogDirectories, LogMap, EngineState}
+use Rattle.raft_log_engine.specs.raft_log_engine_laws.specs.Holding.{Represents}
+use Rattle.raft_log_engine.specs.raft_log_engine_laws.specs.Reading.{ReadsValue}
 use Rattle.raft_log_engine.specs.raft_log_open.specs.Opening.{OpensDirectory}
 use Rattle.raft_log_recovery_laws.specs.Bare.{IsBare}
 use Rattle.raft_log_recovery_laws.specs.ByCalls.{home_of}
@@ -32,6 +34,17 @@ pub record MayHave (answered : Bool) (home : LogDirectories) (e : EngineState) (
   pub whole : (done ++ rest ≡ []) ⊎ (done ++ rest ≡ batch ∷ [])
   pub has : answered ≡ true → done ≡ batch ∷ []
   pub runs : RunsOrIsLeft home e (taken m done) rest
+
+-- Both changes were written in one batch with a sync. The write succeeded if `answered` is true, and failed otherwise.
+-- If the log had the contents `m`, with nothing pending, it now is as `MayHave` says.
+abbrev pub TriesBoth : KeyChange → KeyChange → Bool → EngineState → EngineState → Type 0
+TriesBoth one other answered s t = (home : LogDirectories) (m : LogMap) → Represents home s m []
+    → MayHave answered home t m (said_by_both one other)
+
+-- `first` and `second` are what an engine reads at the keys of the two changes
+abbrev pub ReadsBoth : EngineState → KeyChange → KeyChange → Option (List ℕ) → Option (List ℕ) → Type 0
+ReadsBoth e one other first second = ReadsValue e one.group one.key.items first
+    × ReadsValue e other.group other.key.items second
 
 -- The log of these settings was opened, and both changes were written in one batch with a sync. The write succeeded if
 -- `answered` is true, and failed otherwise. The log then is as `MayHave` says, whatever its contents were.

@@ -7,6 +7,7 @@ pub mod Keys
 pub mod Lives
 pub mod Purging
 pub mod Reopening
+pub mod Opening
 pub mod Saving
 pub mod Serving
 pub mod Standing

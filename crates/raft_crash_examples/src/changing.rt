@@ -10,7 +10,7 @@ use raft_log_engine::{LogBatch, LogEngine, PipeLog, Result};
 use std::alloc::Global;
 
 /// A change of a group's key: it gets a value, or is deleted if there is none.
-#[derive(Debug, Drop)]
+#[derive(Drop)]
 pub struct KeyChange {
     /// The group.
     pub group: u64,

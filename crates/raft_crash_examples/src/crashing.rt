@@ -3,6 +3,7 @@
 ghost use Rattle.std.specs.Prelude.{IfOk, option_map};
 ghost use Rattle.raft_crash_examples.specs.Crashing.{SavesAcrossACrash};
 
+use crate::ending::lose_power;
 use crate::saving::{load, save};
 use log::Log;
 use raft_log_engine::{Config, FileSystem, MemoryFileSystem, Remainder, Result};
@@ -27,6 +28,6 @@ pub fn save_across_a_crash<R: Threads + Log + Sync>(
 {
     let files = MemoryFileSystem::new(alloc);
     let engine = save(rt, alloc, config, files, group, key, value)?;
-    let left = engine.file_system().remainder(what)?;
+    let left = lose_power(engine, what)?;
     load(rt, alloc, again, left, group, key)
 }

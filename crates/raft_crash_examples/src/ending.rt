@@ -2,6 +2,7 @@
 
 ghost use Rattle.std.specs.Prelude.{IfOk};
 ghost use Rattle.raft_log_engine.specs.raft_log_engine_core.specs.Reads.{shows_of};
+ghost use Rattle.raft_log_engine.specs.raft_log_fs.specs.Image.{IsImage};
 ghost use Rattle.raft_crash_examples.specs.Ending.{Ends};
 
 use log::Log;
@@ -26,12 +27,23 @@ impl Crash<MemoryFileSystem> for Remainder {
 }
 
 /// How an engine ends.
-#[derive(Debug, Drop)]
+#[derive(Drop)]
 pub enum Ending<C> {
     /// A crash.
     Crash(C),
     /// The log is closed.
     Close,
+}
+
+/// Crashes an engine, and returns what the crash leaves of its file system.
+pub fn lose_power<F: FileSystem + Sync + Drop, C: Crash<F>>(
+    engine: Engine<F>,
+    what: &C,
+) -> Result<F>
+    ensures { IfOk result (λ left.
+        IsImage (shows_of ⟦<EnginePipes<F> as PipeLog>⟧.shown engine).pipes.disk (F.disk left)) }
+{
+    what.leave(engine.file_system())
 }
 
 /// Ends an engine, and returns the file system that the next open finds.
@@ -44,7 +56,7 @@ pub fn end<L: Log, F: FileSystem + Sync + Drop, C: Crash<F>>(
         (F.disk files)) }
 {
     match ending {
-        Ending::Crash(crash) => crash.leave(engine.file_system()),
+        Ending::Crash(what) => lose_power(engine, what),
         Ending::Close => Ok(engine.close(rt).files),
     }
 }

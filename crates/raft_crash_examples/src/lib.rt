@@ -8,6 +8,7 @@ pub mod crashing;
 pub mod ending;
 pub mod laws;
 pub mod lives;
+pub mod opening;
 pub mod purging;
 pub mod reopening;
 pub mod saving;

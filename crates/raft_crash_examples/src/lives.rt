@@ -7,6 +7,7 @@ ghost use Rattle.raft_crash_examples.specs.Lives.{LivesOn, LivesOnce, OpensAndCh
 
 use crate::changing::{KeyChange, write_changes};
 use crate::ending::{Crash, Ending, end};
+use crate::opening::open;
 use crate::saving::load;
 use log::Log;
 use raft_log_engine::{Config, Engine, EnginePipes, FileSystem, PipeLog, Result};
@@ -43,10 +44,7 @@ pub fn change_keys<R: Threads + Log + Sync, F: FileSystem + Sync + Drop>(
     ensures ok { IfOk result (λ engine. OpensAndChanges F.disk F.tells_space config changes.now files
         (shows_of ⟦<EnginePipes<F> as PipeLog>⟧.shown engine)) }
 {
-    let mut engine = match Engine::open_with_file_system(rt, alloc, config, files) {
-        Ok(engine) => engine,
-        Err(refused) => return Err(refused.error),
-    };
+    let mut engine = open(rt, alloc, config, files)?;
     write_changes(rt, alloc, &mut engine, changes)?;
     Ok(engine)
 }

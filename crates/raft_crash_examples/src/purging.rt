@@ -5,7 +5,7 @@ ghost use Rattle.raft_log_engine.specs.raft_log_engine_core.specs.Reads.{shows_o
 ghost use Rattle.raft_crash_examples.specs.Purging.{KeepsTheMap, ReadsBehindPurges};
 
 use crate::changing::KeyChange;
-use crate::ending::Crash;
+use crate::ending::{Crash, lose_power};
 use crate::lives::change_keys;
 use crate::saving::load;
 use log::Log;
@@ -14,7 +14,7 @@ use std::alloc::Global;
 use std::thread::Threads;
 
 /// A purge of a log, one for each call of an engine.
-#[derive(Clone, Copy, Debug, PartialEq, Eq)]
+#[derive(Clone, Copy)]
 pub enum Purge {
     /// Files that are past the thresholds of the settings.
     Expired,
@@ -66,6 +66,6 @@ pub fn read_behind_purges<R: Threads + Log + Sync, F: FileSystem + Sync + Drop, 
 {
     let mut engine = change_keys(rt, alloc, config, files, changes)?;
     purge_all(rt, &mut engine, purges);
-    let left = what.leave(engine.file_system())?;
+    let left = lose_power(engine, what)?;
     load(rt, alloc, again, left, group, key)
 }

@@ -9,7 +9,7 @@ use std::alloc::Global;
 use std::thread::Threads;
 
 /// Why two rounds weren't served.
-#[derive(Clone, Copy, Debug, PartialEq, Eq)]
+#[derive(Clone, Copy)]
 pub enum NotServed {
     /// Opening the store failed, or a round of it was cut off.
     Cut(Cause),

@@ -4,11 +4,12 @@ ghost use Rattle.std.specs.Prelude.{IfOk, option_map};
 ghost use Rattle.raft_log_engine.specs.raft_log_engine_core.specs.Reads.{shows_of};
 ghost use Rattle.raft_crash_examples.specs.Unsynced.{LoadsAndEnds, PutsUnsynced, StaysAsRead};
 
-use crate::ending::{Crash, Ending, end};
+use crate::ending::{Crash, Ending, end, lose_power};
 use crate::lives::{Life, live_on};
-use crate::saving::load;
+use crate::opening::open;
+use crate::saving::{load, put};
 use log::Log;
-use raft_log_engine::{Config, Engine, EnginePipes, FileSystem, LogBatch, PipeLog, Result};
+use raft_log_engine::{Config, Engine, EnginePipes, FileSystem, PipeLog, Result};
 use std::alloc::Global;
 use std::thread::Threads;
 
@@ -25,13 +26,8 @@ pub fn put_unsynced<R: Threads + Log + Sync, F: FileSystem + Sync + Drop>(
     ensures ok { IfOk result (λ engine. PutsUnsynced F.disk F.tells_space config group key.now value.now files
         (shows_of ⟦<EnginePipes<F> as PipeLog>⟧.shown engine)) }
 {
-    let mut engine = match Engine::open_with_file_system(rt, alloc, config, files) {
-        Ok(engine) => engine,
-        Err(refused) => return Err(refused.error),
-    };
-    let mut batch = LogBatch::default(alloc)?;
-    batch.put(alloc, group, key, value)?;
-    engine.write(rt, &mut batch, false)?;
+    let mut engine = open(rt, alloc, config, files)?;
+    put(rt, alloc, &mut engine, group, key, value, false)?;
     Ok(engine)
 }
 
@@ -49,10 +45,7 @@ pub fn load_and_end<R: Threads + Log + Sync, F: FileSystem + Sync + Drop, C: Cra
     ensures ok { IfOk result (λ read. LoadsAndEnds F.disk F.tells_space config group key.now ending.now files
         (option_map (λ bytes. bytes.items) read.0) read.1) }
 {
-    let engine = match Engine::open_with_file_system(rt, alloc, config, files) {
-        Ok(engine) => engine,
-        Err(refused) => return Err(refused.error),
-    };
+    let engine = open(rt, alloc, config, files)?;
     let found = engine.get(group, key)?;
     let left = end(rt, engine, ending)?;
     Ok((found, left))
@@ -80,7 +73,7 @@ pub fn read_unsynced<R: Threads + Log + Sync, F: FileSystem + Sync + Drop, C: Cr
         (option_map (λ bytes. bytes.items) read.1)) }
 {
     let engine = put_unsynced(rt, alloc, config, files, group, key, value)?;
-    let left = what.leave(engine.file_system())?;
+    let left = lose_power(engine, what)?;
     let (first, seen) = load_and_end(rt, alloc, look, left, group, key, ending)?;
     let behind = live_on(rt, alloc, seen, lives)?;
     let later = load(rt, alloc, last, behind, group, key)?;

@@ -9,8 +9,10 @@ mod appending;
 use anyhow::bail;
 use appending::{GROUP, append};
 use log::Log;
-use raft_log_engine::{Config, Engine, FileSystem};
-use raft_log_fs_os::{DirectoryFileSystem, FileDevice, make_directory, open_directories};
+use raft_log_engine::{Config, Engine, FileSystem, LogEngine, PipeLog};
+use raft_log_fs_os::{
+    DirectoryFault, DirectoryFileSystem, FileDevice, make_directory, open_directories,
+};
 use raft_log_record_items::RawEntries;
 use std::env;
 use std::env::Env;
@@ -29,39 +31,54 @@ fn directory<R: Env + AllocGlobal>(rt: &R) -> anyhow::Result<String> {
 }
 
 /// Prints each entry of a log.
-fn tell<R: Print + AllocGlobal, F: FileSystem>(
+fn tell<R: Print + AllocGlobal, P: PipeLog>(
     rt: &R,
-    engine: &mut Engine<F>,
+    engine: &mut LogEngine<P>,
 ) -> anyhow::Result<()> {
     let first = engine.first_index(GROUP)?.unwrap_or(1);
     let last = engine.last_index(GROUP)?.unwrap_or(0);
     for index in first..last.saturating_add(1) {
         if let Some(entry) = engine.get_entry::<RawEntries>(GROUP, index)? {
-            let text = String::from_utf8_lossy(rt.alloc(), entry.bytes.as_slice())?;
-            println!(rt; "{index} is kept: {text}")?;
+            print_entry(rt, index, entry.bytes.as_slice())?;
         }
     }
     Ok(())
 }
 
-/// Opens the log in a directory over these files, prints its entries, and appends each line that is read.
+/// Prints an entry.
+fn print_entry<R: Print + AllocGlobal>(rt: &R, index: u64, bytes: &[u8]) -> anyhow::Result<()> {
+    let text = String::from_utf8_lossy(rt.alloc(), bytes)?;
+    println!(rt; "{index} is kept: {text}")?;
+    Ok(())
+}
+
+/// Prints the entries of a log, and appends each line that is read.
+fn keep<R: Log + Input + Print + AllocGlobal, P: PipeLog>(
+    rt: &R,
+    engine: &mut LogEngine<P>,
+) -> anyhow::Result<()> {
+    tell(rt, engine)?;
+    for line in rt.lines(rt.alloc()) {
+        let line = line?;
+        let index = append(rt, rt.alloc(), engine, line.as_bytes())?;
+        println!(rt; "{index} is kept")?;
+    }
+    Ok(())
+}
+
+/// Opens the log in a directory over these files, keeps the lines that are read, and closes it.
 fn serve<R: Threads + Log + Sync + Input + Print + AllocGlobal, F: FileSystem + Sync + Drop>(
     rt: &R,
-    directory: &str,
+    directory: String,
     files: F,
 ) -> anyhow::Result<()> {
     let mut config = Config::default(rt.alloc());
-    config.dir = String::from_str(rt.alloc(), directory)?;
+    config.dir = directory;
     let mut engine = match Engine::open_with_file_system(rt, rt.alloc(), config, files) {
         Ok(engine) => engine,
         Err(refused) => return Err(refused.error.into()),
     };
-    tell(rt, &mut engine)?;
-    for line in rt.lines(rt.alloc()) {
-        let line = line?;
-        let index = append(rt, rt.alloc(), &mut engine, line.as_bytes())?;
-        println!(rt; "{index} is kept")?;
-    }
+    keep(rt, &mut engine)?;
     engine.close(rt).result?;
     Ok(())
 }
@@ -70,9 +87,9 @@ fn serve<R: Threads + Log + Sync + Input + Print + AllocGlobal, F: FileSystem + 
 fn files<R: Files<File = File> + Threads + Eprint + AllocGlobal + Clone + Sync + Drop>(
     rt: &R,
     directory: &str,
-) -> anyhow::Result<DirectoryFileSystem<FileDevice<R>>> {
+) -> Result<DirectoryFileSystem<FileDevice<R>>, DirectoryFault> {
     make_directory(rt, directory)?;
-    Ok(open_directories(rt, directory, None)?)
+    open_directories(rt, directory, None)
 }
 
 /// The exit of the program; prints an error.
@@ -94,7 +111,7 @@ fn main(rt: HostRuntime) -> ExitCode {
         Err(error) => return exit(&rt, Err(error)),
     };
     match files(&rt, directory.as_str()) {
-        Ok(files) => exit(&rt, serve(&rt, directory.as_str(), files)),
-        Err(error) => exit(&rt, Err(error)),
+        Ok(files) => exit(&rt, serve(&rt, directory, files)),
+        Err(fault) => exit(&rt, Err(fault.into())),
     }
 }

@@ -8,27 +8,26 @@ use std::io::ErrorKind;
 use std::rt::Files;
 use std::{fs, io};
 
-/// A file system in memory with the one log file whose path is the main one, and the place of this file in it. No other
-/// file of its directory is read, so the file may be a copy anywhere. The directory is locked while the file is read:
-/// no other program writes the log meanwhile.
+/// Copies the one log file whose path is the main one into a file system in memory, and returns its place there. No
+/// other file of its directory is read, so the file may be a copy anywhere. The directory is locked while the file is
+/// read: no other program writes the log meanwhile.
 pub fn read_one_file<R: Files<File = File> + AllocGlobal>(
     rt: &R,
     place: &Place,
-) -> Result<(MemoryFileSystem, Place), DirectoryFault> {
+    copy: &mut MemoryFileSystem,
+) -> Result<Place, DirectoryFault> {
     let (home, path) = place.file_in(rt.alloc())?;
     let _lock = match lock(rt, home.as_str()) {
         Ok(lock) => lock,
         Err(error) => return Err(fault_of(home, error)),
     };
-    let files = match copy_of(rt, home.as_str(), path.as_str()) {
-        Ok(files) => files,
-        Err(error) => return Err(fault_of(path, error)),
-    };
-    let file = Place {
-        directory: path,
-        spill_directory: None,
-    };
-    Ok((files, file))
+    match copy_file(rt, home.as_str(), path.as_str(), copy) {
+        Ok(()) => Ok(Place {
+            directory: path,
+            spill_directory: None,
+        }),
+        Err(error) => Err(fault_of(path, error)),
+    }
 }
 
 /// Locks a directory until the handle is dropped. Readers share the lock.
@@ -38,18 +37,18 @@ fn lock<R: Files<File = File>>(rt: &R, directory: &str) -> io::Result<File> {
     Ok(opened)
 }
 
-/// A file system in memory with this directory and a copy of this file.
-fn copy_of<R: Files<File = File> + AllocGlobal>(
+/// Copies a file into its directory in memory, which is created.
+fn copy_file<R: Files<File = File> + AllocGlobal>(
     rt: &R,
     directory: &str,
     path: &str,
-) -> io::Result<MemoryFileSystem> {
+    copy: &mut MemoryFileSystem,
+) -> io::Result<()> {
     let bytes = fs::read(rt, path)?;
-    let mut copy = MemoryFileSystem::new(rt.alloc());
     copy.create_dir(directory)?;
     let file = copy.create(path)?;
     copy.write_at(file, 0, bytes.as_slice())?;
-    Ok(copy)
+    Ok(())
 }
 
 /// The fault for an error of locking a directory or reading a file.

@@ -4,10 +4,11 @@ use crate::one_file::read_one_file;
 use crate::pipe::{Pipe, is_closed};
 use log::Log;
 use raft_log_fs::FileSystem;
+use raft_log_fs_memory::MemoryFileSystem;
 use raft_log_fs_os::{
     DirectoryFault, DirectoryFileSystem, FileDevice, open_directories, open_directories_for_reading,
 };
-use raft_log_operator::{CommandFault, Outcome, Place, Task, run};
+use raft_log_operator::{CommandFault, Outcome, Place, Task, dump, run};
 use std::alloc::AllocError;
 use std::fs::File;
 use std::io;
@@ -80,22 +81,45 @@ pub fn serve<
     }
 }
 
-/// Opens the directories of a log, or reads the one file of a dump, and runs a task.
+/// Runs a task on the log in these directories, whose paths may end in slashes.
 fn attempt<
     R: Files<File = File> + Threads + Print + Eprint + AllocGlobal + Clone + Sync + Drop,
     Q: Threads + Log + Sync,
 >(rt: &R, quiet: &Q, place: &Place, task: &Task) -> Result<Outcome, Refusal> {
     let task = task.trimmed(rt.alloc())?;
     let place = place.trimmed(rt.alloc())?;
-    let fault = match open(rt, &place, &task) {
-        Ok(mut files) => return run_to_output(rt, quiet, &mut files, &place, &task),
-        Err(fault) => fault,
-    };
-    if is_dump(&task) && is_file(&fault, place.directory.as_str()) {
-        let (mut files, file) = read_one_file(rt, &place)?;
-        return run_to_output(rt, quiet, &mut files, &file, &task);
+    attempt_in(rt, quiet, &place, &task)
+}
+
+/// Opens the directories of a log, or reads the one file of a dump, and runs a task.
+fn attempt_in<
+    R: Files<File = File> + Threads + Print + Eprint + AllocGlobal + Clone + Sync + Drop,
+    Q: Threads + Log + Sync,
+>(rt: &R, quiet: &Q, place: &Place, task: &Task) -> Result<Outcome, Refusal> {
+    match open(rt, place, task) {
+        Ok(mut files) => run_to_output(rt, quiet, &mut files, place, task),
+        Err(fault) => match task {
+            Task::Dump(group) if is_file(&fault, place.directory.as_str()) => {
+                dump_one_file(rt, place, *group)
+            }
+            _ => Err(Refusal::Directory(fault)),
+        },
     }
-    Err(Refusal::Directory(fault))
+}
+
+/// Dumps the one file at the main path. A closed pipe ends the dump, as in `run_to_output`.
+fn dump_one_file<R: Files<File = File> + Print + AllocGlobal>(
+    rt: &R,
+    place: &Place,
+    group: Option<u64>,
+) -> Result<Outcome, Refusal> {
+    let mut files = MemoryFileSystem::new(rt.alloc());
+    let file = read_one_file(rt, place, &mut files)?;
+    let pipe = Pipe::new(io::writer(rt), false);
+    let mut out = BufWriter::new(rt.alloc(), pipe)?;
+    let outcome = dump(rt.alloc(), &files, &file, group, &mut out)?;
+    out.flush()?;
+    Ok(outcome)
 }
 
 /// Runs a task, and writes what it prints to standard output. If that is a pipe that its reader closes, a dump fails at
@@ -130,10 +154,10 @@ fn open<R: Files<File = File> + Threads + Eprint + AllocGlobal + Clone + Sync + 
         Some(spill) => Some(spill.as_str()),
         None => None,
     };
-    match task {
-        Task::Unpad => open_directories(rt, directory, spill),
-        _ => open_directories_for_reading(rt, directory, spill),
+    if matches!(task, Task::Unpad) {
+        return open_directories(rt, directory, spill);
     }
+    open_directories_for_reading(rt, directory, spill)
 }
 
 /// Whether opening a path failed because it isn't a directory.

@@ -3,7 +3,7 @@ ghost use Rattle.raft_log_fs_state.specs.declared.storage.Storage.{Storage};
 
 use super::growing::{grow, write_pieces};
 use super::locked_directory::LockedDirectory;
-use super::open_file::{OpenFile, report, warn_of_space};
+use super::open_file::{OpenFile, reported, warn_of_space};
 use super::record::Record;
 use super::reserve::{create_from_reserve, extend_from_reserve, fill_beside};
 use raft_log_fs_state::Storage;
@@ -103,7 +103,7 @@ impl<R: Files<File = File> + Eprint + AllocGlobal + Drop> Device for FileDevice<
         };
         let made = create_from_reserve(&self.rt, &mut self.directories, path);
         let opened = OpenFile {
-            file: made.map_err(|error| report(&self.rt, path, "create it", error))?,
+            file: reported(&self.rt, path, "create it", made)?,
             path: named,
         };
         let Ok(_) = self.files.insert(file, opened) else {
@@ -115,35 +115,32 @@ impl<R: Files<File = File> + Eprint + AllocGlobal + Drop> Device for FileDevice<
     }
 
     fn delete(&mut self, path: &str) -> Result<(), ErrorKind> {
-        fs::remove_file(&self.rt, path).map_err(|error| report(
-            &self.rt,
-            path,
-            "delete it",
-            error,
-        ))?;
+        let deleted = fs::remove_file(&self.rt, path);
+        reported(&self.rt, path, "delete it", deleted)?;
         fill_beside(&self.rt, &mut self.directories, path, &self.zeros);
         self.record.note(&[DELETED, 0, 0], path.as_bytes());
         Ok(())
     }
 
     fn rename(&mut self, from: &str, to: &str) -> Result<(), ErrorKind> {
-        fs::rename(&self.rt, from, to).map_err(|error| report(&self.rt, from, "rename it", error))?;
+        let renamed = fs::rename(&self.rt, from, to);
+        reported(&self.rt, from, "rename it", renamed)?;
         rename_open(self.rt.alloc(), &mut self.files, from, to);
         self.record.note_rename(from.as_bytes(), to.as_bytes());
         Ok(())
     }
 
     fn create_dir(&mut self, path: &str) -> Result<(), ErrorKind> {
-        fs::create_dir(&self.rt, path).map_err(|error| report(&self.rt, path, "create it", error))?;
+        let made = fs::create_dir(&self.rt, path);
+        reported(&self.rt, path, "create it", made)?;
         self.record.note(&[MADE_DIRECTORY, 0, 0], path.as_bytes());
         Ok(())
     }
 
     fn sync_directory(&mut self, path: &str) -> Result<(), ErrorKind> {
         let named = if path.is_empty() { "." } else { path };
-        sync_named(&self.rt, self.directories.as_slice(), named).map_err(|error| report(
-            &self.rt, named, "sync it", error,
-        ))?;
+        let synced = sync_named(&self.rt, self.directories.as_slice(), named);
+        reported(&self.rt, named, "sync it", synced)?;
         self.record.note(&[SYNCED_DIRECTORY, 0, 0], path.as_bytes());
         Ok(())
     }
@@ -152,12 +149,8 @@ impl<R: Files<File = File> + Eprint + AllocGlobal + Drop> Device for FileDevice<
         let Some(opened) = self.files.get(&file) else {
             return Err(ErrorKind::NotFound);
         };
-        write_pieces(&opened.file, offset, bytes).map_err(|error| report(
-            &self.rt,
-            opened.path.as_str(),
-            "write",
-            error,
-        ))?;
+        let written = write_pieces(&opened.file, offset, bytes);
+        reported(&self.rt, opened.path.as_str(), "write", written)?;
         self.record
             .note(&[WRITTEN, file as u64, offset as u64], bytes);
         Ok(())
@@ -169,7 +162,7 @@ impl<R: Files<File = File> + Eprint + AllocGlobal + Drop> Device for FileDevice<
         };
         let path = opened.path.as_str();
         let tried = extend_from_reserve(&self.rt, &mut self.directories, opened, offset, bytes);
-        let attempt = tried.map_err(|error| report(&self.rt, path, "write", error))?;
+        let attempt = reported(&self.rt, path, "write", tried)?;
         warn_of_space(&self.rt, path, &attempt, &mut self.is_full);
         let kind = match attempt {
             Attempt::Made => WRITTEN,
@@ -183,12 +176,8 @@ impl<R: Files<File = File> + Eprint + AllocGlobal + Drop> Device for FileDevice<
         let Some(opened) = self.files.get(&file) else {
             return Err(ErrorKind::NotFound);
         };
-        shorten(&opened.file, size as u64).map_err(|error| report(
-            &self.rt,
-            opened.path.as_str(),
-            "truncate it",
-            error,
-        ))?;
+        let shortened = shorten(&opened.file, size as u64);
+        reported(&self.rt, opened.path.as_str(), "truncate it", shortened)?;
         self.record
             .note(&[SHORTENED, file as u64, size as u64], &[]);
         Ok(())
@@ -199,9 +188,8 @@ impl<R: Files<File = File> + Eprint + AllocGlobal + Drop> Device for FileDevice<
             return Err(ErrorKind::NotFound);
         };
         let path = opened.path.as_str();
-        let attempt = grow(&opened.file, &self.zeros, size).map_err(|error| report(
-            &self.rt, path, "grow it", error,
-        ))?;
+        let grown = grow(&opened.file, &self.zeros, size);
+        let attempt = reported(&self.rt, path, "grow it", grown)?;
         warn_of_space(&self.rt, path, &attempt, &mut self.is_full);
         let kind = match attempt {
             Attempt::Made => GROWN,
@@ -215,12 +203,8 @@ impl<R: Files<File = File> + Eprint + AllocGlobal + Drop> Device for FileDevice<
         let Some(opened) = self.files.get(&file) else {
             return Err(ErrorKind::NotFound);
         };
-        write_pieces(&opened.file, offset, bytes).map_err(|error| report(
-            &self.rt,
-            opened.path.as_str(),
-            "write",
-            error,
-        ))?;
+        let written = write_pieces(&opened.file, offset, bytes);
+        reported(&self.rt, opened.path.as_str(), "write", written)?;
         self.record
             .note(&[WRITTEN_BACK, file as u64, offset as u64], bytes);
         Ok(())
@@ -230,12 +214,8 @@ impl<R: Files<File = File> + Eprint + AllocGlobal + Drop> Device for FileDevice<
         let Some(opened) = self.files.get(&file) else {
             return Err(ErrorKind::NotFound);
         };
-        opened.file.sync_data().map_err(|error| report(
-            &self.rt,
-            opened.path.as_str(),
-            "sync it",
-            error,
-        ))?;
+        let synced = opened.file.sync_data();
+        reported(&self.rt, opened.path.as_str(), "sync it", synced)?;
         self.record.note(&[SYNCED, file as u64, 0], &[]);
         Ok(())
     }

@@ -31,9 +31,10 @@ pub(crate) fn extend(opened: &File, offset: usize, bytes: &[u8]) -> io::Result<A
     let (front, tail) = bytes.split_at(inside);
     let written = write_tail(opened, offset.wrapping_add(inside), tail);
     match keep_growth(opened, length, written)? {
-        Attempt::Made => write_pieces(opened, offset, front).map(|_| Attempt::Made),
-        Attempt::Undone(kind) => Ok(Attempt::Undone(kind)),
+        Attempt::Made => write_pieces(opened, offset, front)?,
+        Attempt::Undone(kind) => return Ok(Attempt::Undone(kind)),
     }
+    Ok(Attempt::Made)
 }
 
 /// Writes bytes after a file's end, and syncs them if they are longer than a piece.

@@ -1,5 +1,5 @@
 //! Loads the files in directories.
-ghost use Rattle.std.specs.Prelude.{◌≡◌, None};
+ghost use Rattle.std.specs.Prelude.{◌≡◌, ◌≤◌, None};
 ghost use Rattle.raft_log_fs_state.specs.Held.{held_of};
 ghost use Rattle.raft_log_fs_state.specs.Storage.{IsStorageSound, IsWhole-prop};
 ghost use Rattle.raft_log_fs_os.specs.Loading.{AllRest, AllRest-prop, FillsFile};
@@ -170,8 +170,15 @@ fn content_of(alloc: Global, access: Access, opened: &File) -> io::Result<Vec<u8
     let mut content = Vec::with_capacity(alloc, size)?;
     for start in (0..size).step_by(PIECE) {
         let end = size.min(start.saturating_add(PIECE));
-        content.resize(end, 0)?;
-        opened.read_exact_at(&mut content[start..end], start as u64)?;
+        read_piece(opened, &mut content, start, end)?;
     }
     Ok(content)
+}
+
+/// Reads a file's bytes between two offsets into the same place of a buffer, which then ends there.
+fn read_piece(opened: &File, content: &mut Vec<u8>, start: usize, end: usize) -> io::Result<()>
+    requires { start ≤ end }
+{
+    content.resize(end, 0)?;
+    opened.read_exact_at(&mut content[start..end], start as u64)
 }

@@ -27,11 +27,10 @@ pub(crate) fn list_files<R: Files<File = File> + AllocGlobal + Clone>(
     rt: &R,
     directory: &str,
 ) -> Result<Vec<ListedFile>, DirectoryFault> {
-    let entries = fs::read_dir(rt, directory).map_err(|error| DirectoryFault::of_files(
-        rt.alloc(),
-        directory,
-        error,
-    ))?;
+    let entries = match fs::read_dir(rt, directory) {
+        Ok(entries) => entries,
+        Err(error) => return Err(DirectoryFault::of_files(rt.alloc(), directory, error)),
+    };
     let mut found = Vec::new(rt.alloc());
     for entry in entries {
         if let Some(file) = listed(rt, directory, entry)? {
@@ -76,10 +75,21 @@ fn is_log_name(name: &str) -> bool {
 
 /// The greatest number of a queue's files; none if the queue has no file.
 pub(crate) fn last_number(files: &[ListedFile], queue: LogQueue) -> Option<FileSeq> {
-    files
-        .iter()
-        .filter_map(|file| file.id)
-        .filter(|id| id.queue == queue)
-        .map(|id| id.seq)
-        .max()
+    let mut last = None;
+    for file in files {
+        if let Some(id) = file.id {
+            if id.queue == queue {
+                last = Some(greater(last, id.seq));
+            }
+        }
+    }
+    last
+}
+
+/// The greater of a number and the greatest before it, if there is one.
+fn greater(last: Option<FileSeq>, seq: FileSeq) -> FileSeq {
+    match last {
+        Some(last) => last.max(seq),
+        None => seq,
+    }
 }

@@ -14,9 +14,22 @@ pub(crate) struct OpenFile {
 
 /// Returns the kind of a failed call's error. Prints the error with the path and the task to standard error, as the
 /// kind alone names no file.
-pub(crate) fn report<R: Eprint>(rt: &R, path: &str, task: &str, error: io::Error) -> ErrorKind {
+fn report<R: Eprint>(rt: &R, path: &str, task: &str, error: io::Error) -> ErrorKind {
     let _printed = eprintln!(rt; "{path}: can't {task}: {error}").is_ok();
     error.kind()
+}
+
+/// A call's value, or the kind of its error, which is printed as by `report`.
+pub(crate) fn reported<R: Eprint, T>(
+    rt: &R,
+    path: &str,
+    task: &str,
+    done: io::Result<T>,
+) -> Result<T, ErrorKind> {
+    match done {
+        Ok(value) => Ok(value),
+        Err(error) => Err(report(rt, path, task, error)),
+    }
 }
 
 /// Notes whether an attempt to make a file longer found no space. Prints a warning with the directory and the path to
@@ -25,9 +38,10 @@ pub(crate) fn warn_of_space<R: Eprint>(rt: &R, path: &str, attempt: &Attempt, is
     let was_full = *is_full;
     *is_full = matches!(attempt, Attempt::Undone(_));
     if *is_full && !was_full {
-        let directory = Path::new(path)
-            .parent()
-            .map_or(".", |parent| parent.as_str());
+        let directory = match Path::new(path).parent() {
+            Some(parent) => parent.as_str(),
+            None => ".",
+        };
         let _printed = eprintln!(rt;
             "no space left in {directory}: {path} keeps its length"
         ).is_ok();

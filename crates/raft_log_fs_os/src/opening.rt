@@ -100,11 +100,10 @@ pub fn make_directory<R: Files<File = File> + AllocGlobal>(
     rt: &R,
     directory: &str,
 ) -> Result<(), DirectoryFault> {
-    make_durable(rt, directory).map_err(|error| DirectoryFault::of_directory(
-        rt.alloc(),
-        directory,
-        error,
-    ))
+    match make_durable(rt, directory) {
+        Ok(()) => Ok(()),
+        Err(error) => Err(DirectoryFault::of_directory(rt.alloc(), directory, error)),
+    }
 }
 
 /// Makes a directory if nothing has the path, and syncs its parent directory.
@@ -145,16 +144,14 @@ fn lock<R: Files<File = File> + AllocGlobal>(
     directory: &str,
 ) -> Result<(), DirectoryFault> {
     let alloc = rt.alloc();
-    let mut locked = found.add_directory(rt, directory).map_err(
-        |error| DirectoryFault::of_directory(alloc, directory, error),
-    )?;
     let path = format!(in alloc; "{directory}/LOCK")?;
-    locked.lock_file(rt, path.as_str(), found.access).map_err(|error| DirectoryFault::of_lock(
-        alloc,
-        directory,
-        path.as_str(),
-        error,
-    ))?;
+    let mut locked = match found.add_directory(rt, directory) {
+        Ok(locked) => locked,
+        Err(error) => return Err(DirectoryFault::of_directory(alloc, directory, error)),
+    };
+    if let Err(error) = locked.lock_file(rt, path.as_str(), found.access) {
+        return Err(DirectoryFault::of_lock(alloc, directory, path.as_str(), error));
+    }
     found.directories.push(locked)?;
     Ok(())
 }
@@ -182,10 +179,10 @@ fn open_files<R: Files<File = File> + AllocGlobal>(
     let mut opened = Vec::with_capacity(rt.alloc(), listed.len())?;
     for file in listed {
         let path = file.path.as_str();
-        let file = found
-            .open(rt, path)
-            .map_err(|error| DirectoryFault::of_files(rt.alloc(), path, error))?;
-        opened.push(file)?;
+        match found.open(rt, path) {
+            Ok(file) => opened.push(file)?,
+            Err(error) => return Err(DirectoryFault::of_files(rt.alloc(), path, error)),
+        }
     }
     Ok(opened)
 }

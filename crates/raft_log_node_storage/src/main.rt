@@ -11,8 +11,10 @@ mod stored;
 
 use log::Log;
 use playing::play;
-use raft_log_engine::{FileSystem, MemoryFileSystem};
-use raft_log_fs_os::{DirectoryFileSystem, FileDevice, make_directory, open_directories};
+use raft_log_engine::MemoryFileSystem;
+use raft_log_fs_os::{
+    DirectoryFault, DirectoryFileSystem, FileDevice, make_directory, open_directories,
+};
 use std::env;
 use std::env::Env;
 use std::fs::File;
@@ -30,9 +32,9 @@ fn directory<R: Env + AllocGlobal>(rt: &R) -> anyhow::Result<Option<String>> {
 fn files<R: Files<File = File> + Threads + Eprint + AllocGlobal + Clone + Sync + Drop>(
     rt: &R,
     directory: &str,
-) -> anyhow::Result<DirectoryFileSystem<FileDevice<R>>> {
+) -> Result<DirectoryFileSystem<FileDevice<R>>, DirectoryFault> {
     make_directory(rt, directory)?;
-    Ok(open_directories(rt, directory, None)?)
+    open_directories(rt, directory, None)
 }
 
 /// The exit of the program; prints an error.
@@ -48,17 +50,7 @@ fn exit<R: Eprint>(rt: &R, done: anyhow::Result<()>) -> ExitCode {
 
 /// Plays a node's life on a log in memory.
 fn in_memory<R: Threads + Log + Sync + Print + AllocGlobal>(rt: &R) -> anyhow::Result<()> {
-    let files = MemoryFileSystem::new(rt.alloc());
-    play(rt, "raft", files)
-}
-
-/// Plays a node's life on the log in a directory, over these files.
-fn serve<R: Threads + Log + Sync + Print + AllocGlobal, F: FileSystem + Sync + Drop>(
-    rt: &R,
-    directory: &str,
-    files: F,
-) -> anyhow::Result<()> {
-    play(rt, directory, files)
+    play(rt, "raft", MemoryFileSystem::new(rt.alloc()))
 }
 
 // An open lends its file system to threads. One over real directories is therefore passed on here, where the runtime
@@ -70,7 +62,7 @@ fn main(rt: HostRuntime) -> ExitCode {
         Err(error) => return exit(&rt, Err(error)),
     };
     match files(&rt, directory.as_str()) {
-        Ok(files) => exit(&rt, serve(&rt, directory.as_str(), files)),
-        Err(error) => exit(&rt, Err(error)),
+        Ok(files) => exit(&rt, play(&rt, directory.as_str(), files)),
+        Err(fault) => exit(&rt, Err(fault.into())),
     }
 }

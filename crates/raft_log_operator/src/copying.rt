@@ -8,19 +8,19 @@ use std::io::ErrorKind;
 /// How many bytes are copied at a time.
 const PIECE: usize = 1 << 20;
 
-/// A file system in memory with a log's directories and all their files, synced. Calls on it don't touch the log. Fails
-/// if a directory isn't listed, if a file isn't opened or read, and if memory runs out.
-pub fn copy_of<F: FileSystem>(
+/// Copies a log's directories and all their files, synced, into a file system in memory. Calls on it don't touch the
+/// log. Fails if a directory isn't listed, if a file isn't opened or read, and if memory runs out.
+pub fn copy_log<F: FileSystem>(
     alloc: Global,
     files: &F,
     place: &Place,
-) -> Result<MemoryFileSystem, CommandFault> {
-    let mut copy = MemoryFileSystem::new(alloc);
-    copy_directory(alloc, files, place.directory.as_str(), &mut copy)?;
-    if let Some(spill) = &place.spill_directory {
-        copy_directory(alloc, files, spill.as_str(), &mut copy)?;
+    copy: &mut MemoryFileSystem,
+) -> Result<(), CommandFault> {
+    copy_directory(alloc, files, place.directory.as_str(), copy)?;
+    match &place.spill_directory {
+        Some(spill) => copy_directory(alloc, files, spill.as_str(), copy),
+        None => Ok(()),
     }
-    Ok(copy)
 }
 
 /// Copies a directory with its files.

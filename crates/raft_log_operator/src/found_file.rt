@@ -7,7 +7,7 @@ use std::alloc::Global;
 use std::io::ErrorKind;
 
 /// A log file in one of a log's directories.
-#[derive(Debug, Drop)]
+#[derive(Drop)]
 pub struct FoundFile {
     /// The file's queue and its number.
     pub id: FileId,

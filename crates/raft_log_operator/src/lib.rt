@@ -20,6 +20,7 @@ pub mod text;
 mod unpadding;
 
 pub use command::{Command, Task, USAGE, Unread};
+pub use dumping::dump;
 pub use fault::{CommandFault, Outcome};
 pub use place::Place;
 pub use running::run;

@@ -11,12 +11,14 @@ use std::alloc::{AllocError, Global};
 pub fn kept_settings(alloc: Global, place: &Place) -> Result<Config, AllocError>
     ensures { IfOk result (λ config. settings_of config ≡ kept_settings place.now) }
 {
-    let mut config = Config::default(alloc);
-    config.dir = String::from_str(alloc, place.directory.as_str())?;
-    config.spill_dir = match &place.spill_directory {
+    let dir = String::from_str(alloc, place.directory.as_str())?;
+    let spill_dir = match &place.spill_directory {
         Some(spill) => Some(String::from_str(alloc, spill.as_str())?),
         None => None,
     };
+    let mut config = Config::default(alloc);
+    config.dir = dir;
+    config.spill_dir = spill_dir;
     config.enable_log_recycle = false;
     Ok(config)
 }

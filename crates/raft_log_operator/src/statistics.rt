@@ -2,7 +2,7 @@
 ghost use Rattle.std.specs.Prelude.{◌≡◌, IfOk};
 ghost use Rattle.raft_log_operator.specs.Sound.{HasIntactFiles};
 
-use crate::copying::copy_of;
+use crate::copying::copy_log;
 use crate::fault::{CommandFault, Outcome};
 use crate::found_file::{FoundFile, find_files};
 use crate::inspection::{inspect, write_files};
@@ -11,16 +11,17 @@ use crate::settings::kept_settings;
 use crate::text::queue_word;
 use log::Log;
 use raft_log_engine::{
-    Engine, Error, FileSystem, LogItem, LogItemContent, LogItemReader, LogQueue, MemoryFileSystem,
-    Permission,
+    Engine, Error, FileSystem, LogEngine, LogItem, LogItemContent, LogItemReader, LogQueue,
+    MemoryFileSystem, Permission, PipeLog,
 };
 use raft_log_record_items::RawEntries;
 use std::alloc::Global;
+use std::io;
 use std::io::{ErrorKind, Write};
 use std::thread::Threads;
 
 /// A count and a sum of bytes.
-#[derive(Clone, Copy, Debug, PartialEq, Eq)]
+#[derive(Clone, Copy)]
 struct Amount {
     count: u64,
     bytes: u64,
@@ -48,7 +49,7 @@ impl Amount {
 /// The groups are those of an engine that is opened, with the usual settings, over a copy in memory. If opening it
 /// fails, a line says why, and then only the bytes of all files are written. The log isn't touched.
 ///
-/// Fails as `inspect` and `copy_of` do, if the engine doesn't read an entry, and if writing the output fails.
+/// Fails as `inspect` and `copy_log` do, if the engine doesn't read an entry, and if writing the output fails.
 pub fn stat<R: Threads + Log + Sync, F: FileSystem, W: Write>(
     rt: &R,
     alloc: Global,
@@ -68,6 +69,15 @@ pub fn stat<R: Threads + Log + Sync, F: FileSystem, W: Write>(
     Ok(Outcome::Faulty)
 }
 
+/// How many bytes a log's files have.
+#[derive(Clone, Copy)]
+struct Held {
+    /// All bytes.
+    all: u64,
+    /// The bytes of entries, keys and values, live or not.
+    items: u64,
+}
+
 /// Writes the numbers. Returns `Faulty` if opening an engine over the copy fails.
 fn tell_all<R: Threads + Log + Sync, F: FileSystem, W: Write>(
     rt: &R,
@@ -76,19 +86,41 @@ fn tell_all<R: Threads + Log + Sync, F: FileSystem, W: Write>(
     place: &Place,
     out: &mut W,
 ) -> Result<Outcome, CommandFault> {
-    let found = find_files(alloc, files, place)?;
-    let copy = copy_of(alloc, files, place)?;
-    let held = bytes_held(alloc, &copy, found.as_slice())?;
-    let append = tell_queue(alloc, &copy, found.as_slice(), LogQueue::Append, out)?;
-    let rewrite = tell_queue(alloc, &copy, found.as_slice(), LogQueue::Rewrite, out)?;
-    let all = append.saturating_add(rewrite);
     let config = kept_settings(alloc, place)?;
-    let mut engine = match Engine::open_with_file_system(rt, alloc, config, copy) {
-        Ok(engine) => engine,
-        Err(refused) => return tell_refusal(&refused.error, all, out),
-    };
-    let live = tell_groups(&mut engine, out)?;
-    let garbage = held.saturating_sub(live);
+    let mut copy = MemoryFileSystem::new(alloc);
+    let held = tell_copied(alloc, files, place, &mut copy, out)?;
+    match Engine::open_with_file_system(rt, alloc, config, copy) {
+        Ok(mut engine) => tell_live(&mut engine, held, out),
+        Err(refused) => tell_refusal(&refused.error, held.all, out),
+    }
+}
+
+/// Copies a log into memory, and writes the files of each queue. Returns how many bytes they have.
+fn tell_copied<F: FileSystem, W: Write>(
+    alloc: Global,
+    files: &F,
+    place: &Place,
+    copy: &mut MemoryFileSystem,
+    out: &mut W,
+) -> Result<Held, CommandFault> {
+    let found = find_files(alloc, files, place)?;
+    copy_log(alloc, files, place, copy)?;
+    let items = bytes_held(alloc, copy, found.as_slice())?;
+    let append = tell_queue(alloc, copy, found.as_slice(), LogQueue::Append, out)?;
+    let rewrite = tell_queue(alloc, copy, found.as_slice(), LogQueue::Rewrite, out)?;
+    let all = append.saturating_add(rewrite);
+    Ok(Held { all, items })
+}
+
+/// Writes what each group of an engine has, and how many of all bytes are live.
+fn tell_live<P: PipeLog, W: Write>(
+    engine: &mut LogEngine<P>,
+    held: Held,
+    out: &mut W,
+) -> Result<Outcome, CommandFault> {
+    let live = tell_groups(engine, out)?;
+    let garbage = held.items.saturating_sub(live);
+    let all = held.all;
     writeln!(out, "{all} bytes of files: {live} live, {garbage} garbage")?;
     Ok(Outcome::Sound)
 }
@@ -111,8 +143,19 @@ fn tell_queue<W: Write>(
     queue: LogQueue,
     out: &mut W,
 ) -> Result<u64, CommandFault> {
+    let size = size_of_queue(alloc, files, found, queue)?;
+    write_queue(queue, span_in(found, queue), size, out)?;
+    Ok(size.bytes)
+}
+
+/// The files of a queue.
+fn size_of_queue(
+    alloc: Global,
+    files: &MemoryFileSystem,
+    found: &[FoundFile],
+    queue: LogQueue,
+) -> Result<Amount, CommandFault> {
     let mut size = Amount::none();
-    let mut span = None;
     for file in found {
         if file.id.queue == queue {
             let path = file.path.as_str();
@@ -120,20 +163,42 @@ fn tell_queue<W: Write>(
                 Ok(bytes) => size.add(bytes),
                 Err(kind) => return Err(CommandFault::at(alloc, path, Error::Io(kind))),
             }
-            let first = span.map_or(file.id.seq, |span: (u64, u64)| span.0);
-            span = Some((first, file.id.seq));
         }
     }
+    Ok(size)
+}
+
+/// The numbers of the first and the last file of a queue, if it has files.
+fn span_in(found: &[FoundFile], queue: LogQueue) -> Option<(u64, u64)> {
+    let mut span = None;
+    for file in found {
+        let seq = file.id.seq;
+        if file.id.queue == queue {
+            span = match span {
+                Some((first, _)) => Some((first, seq)),
+                None => Some((seq, seq)),
+            };
+        }
+    }
+    span
+}
+
+/// Writes the line for a queue.
+fn write_queue<W: Write>(
+    queue: LogQueue,
+    span: Option<(u64, u64)>,
+    size: Amount,
+    out: &mut W,
+) -> io::Result<()> {
     let word = queue_word(queue);
     let Amount { count, bytes } = size;
     match span {
         Some((first, last)) => writeln!(
             out,
             "{word}: files {first} to {last}: {count} files, {bytes} bytes"
-        )?,
-        None => writeln!(out, "{word}: no files")?,
+        ),
+        None => writeln!(out, "{word}: no files"),
     }
-    Ok(bytes)
 }
 
 /// How many bytes the file with this path has.
@@ -185,8 +250,8 @@ fn bytes_of(item: &LogItem) -> u64 {
 }
 
 /// Writes what each group of an engine has, and returns how many bytes all of them have.
-fn tell_groups<W: Write>(
-    engine: &mut Engine<MemoryFileSystem>,
+fn tell_groups<P: PipeLog, W: Write>(
+    engine: &mut LogEngine<P>,
     out: &mut W,
 ) -> Result<u64, CommandFault> {
     let mut live = 0u64;
@@ -198,60 +263,71 @@ fn tell_groups<W: Write>(
 }
 
 /// Writes what a group has, and returns how many bytes that is.
-fn tell_group<W: Write>(
-    engine: &mut Engine<MemoryFileSystem>,
+fn tell_group<P: PipeLog, W: Write>(
+    engine: &mut LogEngine<P>,
     group: u64,
     out: &mut W,
 ) -> Result<u64, CommandFault> {
-    write!(out, "group {group}: ")?;
-    let entries = match (engine.first_index(group)?, engine.last_index(group)?) {
-        (Some(first), Some(last)) => {
-            let Amount { count, bytes } = entries_of(engine, group, first, last)?;
-            write!(
-                out,
-                "entries {first} to {last}: {count} entries, {bytes} bytes"
-            )?;
-            bytes
-        }
-        _ => {
-            write!(out, "no entries")?;
-            0
-        }
-    };
-    let Amount { count, bytes } = keys_of(engine, group)?;
-    writeln!(out, "; {count} keys, {bytes} bytes")?;
-    Ok(entries.saturating_add(bytes))
+    let span = span_of(engine, group)?;
+    let entries = entries_of(engine, group, span)?;
+    let keys = keys_of(engine, group)?;
+    write_group(group, span, entries, keys, out)?;
+    Ok(entries.bytes.saturating_add(keys.bytes))
 }
 
-/// Counts the entries of a group from one index to another, except those whose bytes are damaged.
-fn entries_of(
-    engine: &mut Engine<MemoryFileSystem>,
+/// The first and the last index of a group, if it has entries.
+fn span_of<P: PipeLog>(engine: &LogEngine<P>, group: u64) -> Result<Option<(u64, u64)>, Error> {
+    match (engine.first_index(group)?, engine.last_index(group)?) {
+        (Some(first), Some(last)) => Ok(Some((first, last))),
+        _ => Ok(None),
+    }
+}
+
+/// Writes the line for a group.
+fn write_group<W: Write>(
     group: u64,
-    first: u64,
-    last: u64,
-) -> Result<Amount, CommandFault> {
+    span: Option<(u64, u64)>,
+    entries: Amount,
+    keys: Amount,
+    out: &mut W,
+) -> io::Result<()> {
+    match span {
+        Some((first, last)) => {
+            let Amount { count, bytes } = entries;
+            write!(
+                out,
+                "group {group}: entries {first} to {last}: {count} entries, {bytes} bytes"
+            )?;
+        }
+        None => write!(out, "group {group}: no entries")?,
+    }
+    let Amount { count, bytes } = keys;
+    writeln!(out, "; {count} keys, {bytes} bytes")
+}
+
+/// Counts the entries of a group from its first index to its last, except those whose bytes are damaged.
+fn entries_of<P: PipeLog>(
+    engine: &mut LogEngine<P>,
+    group: u64,
+    span: Option<(u64, u64)>,
+) -> Result<Amount, Error> {
     let mut entries = Amount::none();
+    let Some((first, last)) = span else {
+        return Ok(entries);
+    };
     for index in first..last.saturating_add(1) {
         match engine.get_entry::<RawEntries>(group, index) {
             Ok(Some(entry)) => entries.add(entry.bytes.len()),
             Ok(None) => {}
-            Err(error) => {
-                if !is_damage(&error) {
-                    return Err(CommandFault::Log(error));
-                }
-            }
+            Err(Error::Corruption(_)) => {}
+            Err(error) => return Err(error),
         }
     }
     Ok(entries)
 }
 
-/// Whether a call failed because the bytes of an entry are damaged.
-fn is_damage(error: &Error) -> bool {
-    matches!(error, Error::Corruption(_))
-}
-
 /// Counts the keys of a group, with their values.
-fn keys_of(engine: &Engine<MemoryFileSystem>, group: u64) -> Result<Amount, CommandFault> {
+fn keys_of<P: PipeLog>(engine: &LogEngine<P>, group: u64) -> Result<Amount, Error> {
     let mut keys = Amount::none();
     for (key, value) in engine.pairs_within(group, None, None)? {
         keys.add(key.len().saturating_add(value.len()));

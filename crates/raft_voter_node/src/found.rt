@@ -3,7 +3,7 @@ use raft_log_engine::{Config, FileSystem, Permission};
 use std::alloc::Global;
 
 /// How many files are in directories, and how many bytes they have.
-#[derive(Clone, Copy, Debug, PartialEq, Eq)]
+#[derive(Clone, Copy)]
 pub struct Found {
     /// How many files there are.
     pub files: u64,

@@ -1,10 +1,10 @@
 //! An open store of voters in a node.
-use crate::found::found_by;
+use crate::found::{Found, found_by};
 use crate::rounds::serve_round;
 use log::{Log, info};
-use raft_log_engine::{Closed, Config, FileSystem, LogQueue, Nobody, Result};
+use raft_log_engine::{Closed, Config, FileSeq, FileSystem, LogQueue, Nobody, PipeLog, Result};
 use raft_voter::{Request, RoundService, Voter};
-use raft_voter_store::VoterStore;
+use raft_voter_store::{LogVoterStore, VoterStore};
 use raft_voter_world::Event;
 use std::alloc::Global;
 use std::io;
@@ -35,21 +35,14 @@ impl<F: FileSystem + Sync + Drop> Node<F> {
             Ok(store) => store,
             Err(refused) => return Err(refused.cause.into()),
         };
-        let append = store.file_span(LogQueue::Append)?;
-        let rewrite = store.file_span(LogQueue::Rewrite)?;
         let millis = millis_since(rt, start);
-        let voters = store.voters()?;
-        info!(
-            rt;
-            "found {} files of {} bytes and {} groups, opened in {millis} ms: append files {} to {}, rewrite files {} to {}",
-            found.files, found.bytes, voters.len(), append.0, append.1, rewrite.0, rewrite.1
-        );
+        let lines = standing(rt, alloc, &mut store, found, millis)?;
         let node = Node {
             alloc,
             store,
             rounds: 0,
         };
-        Ok((node, voter_lines(alloc, voters)?))
+        Ok((node, lines))
     }
 
     /// Does what an event of a session requests, and returns its lines.
@@ -60,27 +53,10 @@ impl<F: FileSystem + Sync + Drop> Node<F> {
                 self.rounds = number.saturating_add(1);
                 Ok(serve_round(rt, self.alloc, &mut self.store, number, requests)?)
             }
-            Event::Maintain => {
-                let purged = self.store.maintain(rt);
-                self.purged(purged.map(|_groups| ()))
-            }
-            Event::RewriteAppend => {
-                let purged = self.store.must_rewrite_append_queue(rt, None, None);
-                self.purged(purged)
-            }
-            Event::RewriteRewrite => {
-                let purged = self.store.must_rewrite_rewrite_queue(rt);
-                self.purged(purged)
-            }
-            _ => Ok(String::from_str(self.alloc, "not here\n")?),
-        }
-    }
-
-    /// The line for a purge.
-    fn purged(&self, purged: Result<()>) -> anyhow::Result<String> {
-        match purged {
-            Ok(()) => Ok(String::from_str(self.alloc, "purged\n")?),
-            Err(error) => Ok(format!(in self.alloc; "purge failed: {error}\n")?),
+            event => match purge(rt, &mut self.store, &event) {
+                Some(purged) => purge_line(self.alloc, purged),
+                None => Ok(String::from_str(self.alloc, "not here\n")?),
+            },
         }
     }
 
@@ -92,6 +68,62 @@ impl<F: FileSystem + Sync + Drop> Node<F> {
     /// Closes the store, as `VoterStore::close` does.
     pub fn close<R: Log>(self, rt: &R) -> Closed<F> {
         self.store.close(rt)
+    }
+}
+
+/// Logs what an open found, and returns a line for each stored voter.
+fn standing<R: Log, P: PipeLog>(
+    rt: &R,
+    alloc: Global,
+    store: &mut LogVoterStore<P>,
+    found: Found,
+    millis: u128,
+) -> anyhow::Result<String> {
+    let append = store.file_span(LogQueue::Append)?;
+    let rewrite = store.file_span(LogQueue::Rewrite)?;
+    let voters = store.voters()?;
+    log_opening(rt, found, voters.len(), millis, append, rewrite);
+    voter_lines(alloc, voters)
+}
+
+/// Logs what an open found, how long it took, and which files the log has now.
+fn log_opening<R: Log>(
+    rt: &R,
+    found: Found,
+    groups: usize,
+    millis: u128,
+    append: (FileSeq, FileSeq),
+    rewrite: (FileSeq, FileSeq),
+) {
+    info!(
+        rt;
+        "found {} files of {} bytes and {groups} groups, opened in {millis} ms: append files {} to {}, rewrite files {} to {}",
+        found.files, found.bytes, append.0, append.1, rewrite.0, rewrite.1
+    );
+}
+
+/// Does the purge that an event requests. Returns its result, or `None` if the event requests none.
+fn purge<R: Log, P: PipeLog>(
+    rt: &R,
+    store: &mut LogVoterStore<P>,
+    event: &Event,
+) -> Option<Result<()>> {
+    match event {
+        Event::Maintain => match store.maintain(rt) {
+            Ok(_groups) => Some(Ok(())),
+            Err(error) => Some(Err(error)),
+        },
+        Event::RewriteAppend => Some(store.must_rewrite_append_queue(rt, None, None)),
+        Event::RewriteRewrite => Some(store.must_rewrite_rewrite_queue(rt)),
+        _ => None,
+    }
+}
+
+/// The line for a purge.
+fn purge_line(alloc: Global, purged: Result<()>) -> anyhow::Result<String> {
+    match purged {
+        Ok(()) => Ok(String::from_str(alloc, "purged\n")?),
+        Err(error) => Ok(format!(in alloc; "purge failed: {error}\n")?),
     }
 }
 

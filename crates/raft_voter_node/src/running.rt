@@ -3,7 +3,7 @@ use crate::asking::{Asked, read_asked};
 use crate::node::Node;
 use anyhow::bail;
 use log::Log;
-use raft_log_engine::{Config, FileSystem};
+use raft_log_engine::{Config, FileSystem, Result};
 use std::alloc::Global;
 use std::io::{BufRead, Write};
 use std::thread::Threads;
@@ -21,7 +21,22 @@ pub fn run<R: Threads + Log + Sync + Clock, F: FileSystem + Sync + Drop, I: BufR
     output: &mut W,
 ) -> anyhow::Result<F> {
     let (mut node, standing) = Node::open(rt, alloc, config, files)?;
-    tell(output, standing.as_str())?;
+    serve(rt, alloc, &mut node, standing.as_str(), input, output)?;
+    let closed = node.close(rt);
+    check_closed(&closed.result)?;
+    Ok(closed.files)
+}
+
+/// Serves requests until the input ends, after it has written the stored voters.
+fn serve<R: Log, F: FileSystem + Sync + Drop, I: BufRead, W: Write>(
+    rt: &R,
+    alloc: Global,
+    node: &mut Node<F>,
+    standing: &str,
+    input: &mut I,
+    output: &mut W,
+) -> anyhow::Result<()> {
+    tell(output, standing)?;
     tell(output, "ready\n")?;
     for _ in 0..u64::MAX {
         match read_asked(alloc, input)? {
@@ -30,17 +45,21 @@ pub fn run<R: Threads + Log + Sync + Clock, F: FileSystem + Sync + Drop, I: BufR
                 tell(output, lines.as_str())?;
             }
             Asked::Unreadable => tell(output, "unreadable\n")?,
-            Asked::End => break,
+            Asked::End => return Ok(()),
         }
         if node.has_failed() {
             bail!("the log failed");
         }
     }
-    let closed = node.close(rt);
-    if let Err(error) = &closed.result {
-        bail!("the log was not closed cleanly: {error}");
+    Ok(())
+}
+
+/// Fails if a log wasn't closed cleanly.
+fn check_closed(closed: &Result<()>) -> anyhow::Result<()> {
+    match closed {
+        Ok(()) => Ok(()),
+        Err(error) => bail!("the log was not closed cleanly: {error}"),
     }
-    Ok(closed.files)
 }
 
 /// Writes lines, and flushes them.

@@ -40,22 +40,38 @@ pub fn start<
         + Clone
         + Drop,
 >(rt: &R) -> u8 {
+    exit_status(attempt(rt))
+}
+
+/// Does what the arguments request.
+fn attempt<
+    R: Env
+        + Input
+        + Print
+        + Eprint
+        + Threads
+        + Log
+        + Sync
+        + Files<File = File>
+        + AllocGlobal
+        + Clone
+        + Drop,
+>(rt: &R) -> io::Result<u8> {
+    let alloc = rt.alloc();
     let mut reader = rt.reader();
     let mut writer = io::writer(rt);
-    let ended = match Arguments::read(rt) {
-        Ok(Arguments::Nothing) => program(rt, false, rt.alloc(), &mut reader, &mut writer),
-        Ok(Arguments::Help) => print_usage(&mut writer),
-        Ok(Arguments::Load(directory)) => { load(rt, rt.alloc(), directory.as_str(), &mut writer) }
-        Ok(Arguments::Save(directory)) => {
-            save(rt, rt.alloc(), directory.as_str(), &mut reader, &mut writer)
+    match Arguments::read(rt)? {
+        Arguments::Nothing => program(rt, false, alloc, &mut reader, &mut writer),
+        Arguments::Help => print_usage(&mut writer),
+        Arguments::Load(directory) => load(rt, alloc, directory.as_str(), &mut writer),
+        Arguments::Save(directory) => {
+            save(rt, alloc, directory.as_str(), &mut reader, &mut writer)
         }
-        Ok(Arguments::Others) => {
+        Arguments::Others => {
             let _told = rt.eprint(USAGE).is_ok();
-            program(rt, true, rt.alloc(), &mut reader, &mut writer)
+            program(rt, true, alloc, &mut reader, &mut writer)
         }
-        Err(short) => Err(io::Error::from(short)),
-    };
-    exit_status(ended)
+    }
 }
 
 /// Writes the usage, with status 0.

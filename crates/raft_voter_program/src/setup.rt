@@ -53,8 +53,9 @@ fn config_of(alloc: Global, settings: &Option<String>) -> Result<Config, NoFiles
 pub(crate) fn usual_config(alloc: Global) -> Result<Config, AllocError>
     ensures { IfOk result (λ config. settings_of config ≡ usual_settings) }
 {
+    let dir = String::from_str(alloc, USUAL_DIRECTORY)?;
     let mut config = Config::default(alloc);
-    config.dir = String::from_str(alloc, USUAL_DIRECTORY)?;
+    config.dir = dir;
     Ok(config)
 }
 

@@ -5,5 +5,5 @@ use Rattle.raft_log_fs_os.proofs.Sharing.{device_sync, kinds_sync}
 use Rattle.raft_log_node_storage.proofs.main.Goals as goal
 
 -- the file system over real directories may be lent to threads
-pub serve-requires-sync-F : goal.serve-requires-sync-F
-serve-requires-sync-F g c κs = search (device_sync, kinds_sync, sendable, crosses, maps_cross) depth 40 fits 4000
+pub play-requires-sync-F : goal.play-requires-sync-F
+play-requires-sync-F g c κs = search (device_sync, kinds_sync, sendable, crosses, maps_cross) depth 40 fits 4000

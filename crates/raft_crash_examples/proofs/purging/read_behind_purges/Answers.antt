@@ -1,16 +1,12 @@
-use Rattle.std.proofs.Common.{subst}
 use Rattle.std.proofs.lemmas.Result.{IfOk-weaker}
-use Rattle.raft_log_engine.specs.raft_log_fs.specs.Image.{IsImage}
 use Rattle.raft_crash_examples.proofs.Purged.{reads_behind_purges}
 use Rattle.raft_crash_examples.proofs.purging.read_behind_purges.Goals as goal
 
 pub returns : goal.returns
 returns g c =
     let sound = (g.met.F.FileSystem g.world.𝓛 g.world.𝓜 g.world.𝓡 ((λ s x. x), (λ x. x), (λ x. x), λ x. x)).sound in
-    let D = g.F.FileSystem.disk in
-    let image = subst (λ (files : g.row.F.Denot). IsImage (D files) (D c.in_ok-left.left)) c.file_system.ensures c.in_ok-left.ensures in
     record {
-      ok = IfOk-weaker _ _ _ (λ found loads. reads_behind_purges D g.F.FileSystem.tells_space sound c.args.config c.args.changes.now c.args.again c.args.group c.args.key.now c.args.files c.in_ok-left.left _ _ _
-          c.in_ok-engine.ensures.ok c.purge_all.ensures image loads)
+      ok = IfOk-weaker _ _ _ (λ found loads. reads_behind_purges g.F.FileSystem.disk g.F.FileSystem.tells_space sound c.args.config c.args.changes.now c.args.again c.args.group c.args.key.now c.args.files c.in_ok-left.left _ _ _
+          c.in_ok-engine.ensures.ok c.purge_all.ensures c.in_ok-left.ensures loads)
           c.load.ensures.ok;
     }

@@ -1,4 +1,3 @@
-use Rattle.std.proofs.Common.{[]}
 use Rattle.std.proofs.lemmas.Result.{IfOk-weaker}
 use Rattle.raft_crash_examples.proofs.Saved.{loads_of}
 use Rattle.raft_crash_examples.proofs.saving.load.Goals as goal
@@ -6,6 +5,5 @@ use Rattle.raft_crash_examples.proofs.saving.load.Goals as goal
 pub returns : goal.returns
 returns g c =
     record {
-      ok = IfOk-weaker _ _ _ (λ value reads. loads_of g.F.FileSystem.disk g.F.FileSystem.tells_space c.args.config c.args.group c.args.key.now [] c.args.files _ c.in-Ok.engine.tables c.in-Ok.engine.cache _ c.in-Ok.ensures.ok c.in-Ok.ensures.none reads)
-          c.get.ensures.ok;
+      ok = IfOk-weaker _ _ _ (λ value reads. loads_of g.F.FileSystem.disk g.F.FileSystem.tells_space c.args.config c.args.group c.args.key.now c.args.files _ _ c.in_ok-engine.ensures.ok reads) c.get.ensures.ok;
     }

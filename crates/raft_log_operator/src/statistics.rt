@@ -319,11 +319,19 @@ fn entries_of<P: PipeLog>(
         match engine.get_entry::<RawEntries>(group, index) {
             Ok(Some(entry)) => entries.add(entry.bytes.len()),
             Ok(None) => {}
-            Err(Error::Corruption(_)) => {}
-            Err(error) => return Err(error),
+            Err(error) => {
+                if !is_damage(&error) {
+                    return Err(error);
+                }
+            }
         }
     }
     Ok(entries)
+}
+
+/// Whether a call failed because the bytes of an entry are damaged.
+fn is_damage(error: &Error) -> bool {
+    matches!(error, Error::Corruption(_))
 }
 
 /// Counts the keys of a group, with their values.

@@ -210,12 +210,13 @@ def is_block(block):
 
 @dataclass
 class FileRead:
-    """What a file reads as: its version and alignment, its records, where the last one ends (or its header; none where it has none), and what is wrong behind."""
+    """What a file reads as: its version and alignment, its records, where the last one ends (or its header; none where it has none), and what is wrong behind. Or a foreign record follows."""
     version: int = 1
     alignment: int = 0
     records: list = field(default_factory=list)
     end: int = None
     fault: Fault = None
+    is_foreign: bool = False
 
 
 def place_of_record(bytes_, at, alignment):
@@ -225,6 +226,17 @@ def place_of_record(bytes_, at, alignment):
     if padding == 0 or left < padding or left < 16 or is_header(bytes_[at:at + 16]):
         return at
     return at + padding if bytes_[at] == 0 and bytes_[at + padding - 1] == 0 else at
+
+
+def is_foreign(bytes_, at, signature):
+    """Whether the record at a place is whole by its length and its footer's checksum, but its compression isn't 0."""
+    if len(bytes_) - at < 16 or not bytes_[at + 7]:
+        return False
+    length, footer = int.from_bytes(bytes_[at:at + 7], "big"), int.from_bytes(bytes_[at + 8:at + 16], "big")
+    if not 16 <= footer <= length <= len(bytes_) - at or length - footer < 5:
+        return False
+    tail = bytes_[at + footer:at + length]
+    return zlib.crc32(tail[:-4]) ^ (signature % (1 << 32)) == int.from_bytes(tail[-4:], "little")
 
 
 def read_file(bytes_, number, is_last):
@@ -254,6 +266,8 @@ def read_file(bytes_, number, is_last):
         record = read.records.pop()
         read.end = read.records[-1].end if read.records else (69 if read.version == 2 else 61)
         read.fault = corrupt("Entry block checksum mismatch")
+    read.is_foreign = is_foreign(bytes_, place_of_record(bytes_, read.end, read.alignment), signature)
     if is_last and read.alignment and not read.records:
-        return FileRead(fault=corrupt("log file header has an alignment, and no record after it"))
+        fault = corrupt("log file header has an alignment, and no record after it")
+        return FileRead(fault=fault, is_foreign=read.is_foreign)
     return read

@@ -226,6 +226,8 @@ class Meaning:
             for number, path in kept[begin:begin + size]:
                 is_last = (number, path) == kept[-1]
                 read = read_file(self.files[path], number, is_last)
+                if read.is_foreign:
+                    raise Refused("corruption")
                 if read.fault and not is_tolerated(self.settings.mode, is_last):
                     raise Refused(read.fault.kind)
                 for record in read.records:

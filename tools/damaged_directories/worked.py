@@ -72,6 +72,11 @@ def rows():
     long = b"\xff" * 7 + b"\0" + b"\0" + b"\xff" * 7
     assert means(log((1, SEVEN_IN_ONE + long))) == seven and means(log((1, SEVEN_IN_ONE + long)), "absolute") == "corruption"
     assert means({**log((1, b""), (2, b"x")), **log((2, spell_record([("clean", 1)], b"", 2)), directory="s")}, spill="s") == {}
+    foreign = SEVEN_IN_ONE[:7] + b"\x01" + SEVEN_IN_ONE[8:]
+    for mode in ("absolute", "tail", "any"):
+        assert means(log((1, SEVEN_IN_ONE + foreign + SEVEN_IN_ONE)), mode) == "corruption"
+        assert means(log((1, foreign), (2, b"")), mode) == "corruption"
+    assert means(log((1, SEVEN_IN_ONE + foreign[:-1]))) == seven
     aligned = spell_header(2, 128) + bytes(128 - 69) + SEVEN_IN_ONE
     assert means({"d/0000000000000001.raftlog": aligned}) == "invalid-argument"
     signed = {"d/+000000000000001.raftlog": spell_header(2) + SEVEN_IN_ONE}

@@ -258,6 +258,7 @@ impl DualPipesBuilder {
             rt,
             alloc,
             file_system,
+            &self.config,
             LogQueue::Append,
             &self.append.files,
             append,
@@ -266,6 +267,7 @@ impl DualPipesBuilder {
             rt,
             alloc,
             file_system,
+            &self.config,
             LogQueue::Rewrite,
             &self.rewrite.files,
             rewrite,
@@ -295,11 +297,14 @@ impl DualPipesBuilder {
         ensures same { OnErr result (self.new ≡ self.old) }
         ensures others { OtherQueueIsKept config.queue self.old self.new }
     {
+        let settings = &self.config;
         match config.queue {
-            LogQueue::Append => self.append.recover(rt, alloc, file_system, config, factory),
+            LogQueue::Append => self
+                .append
+                .recover(rt, alloc, file_system, settings, config, factory),
             LogQueue::Rewrite => self
                 .rewrite
-                .recover(rt, alloc, file_system, config, factory),
+                .recover(rt, alloc, file_system, settings, config, factory),
         }
     }
 

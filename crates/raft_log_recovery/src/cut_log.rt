@@ -2,9 +2,11 @@
 
 ghost use Rattle.std.specs.Prelude.{◌≤◌, length};
 
+use crate::paths::paths;
 use log::{Log, info, warn};
-use raft_log_active_file::File;
+use raft_log_active_file::{File, LogLayout, PipeFormat};
 use raft_log_file_format::LogFileFormat;
+use raft_log_file_settings::Config;
 use raft_log_fs::FileSystem;
 use raft_log_record_base::{FileId, LogFileContext, LogQueue, Result};
 use raft_log_record_frames::{decode_frame, decode_header};
@@ -24,31 +26,37 @@ pub(crate) fn log_cut<F: FileSystem, L: Log>(
     rt: &L,
     alloc: Global,
     file_system: &F,
+    settings: &Config,
     queue: LogQueue,
     file: File,
     ending: FileEnding,
 ) {
-    let (seq, name) = (file.seq, name_of(queue));
+    let name = name_of(queue);
     let end = ending.end.unwrap_or(0);
     let size = file_system.file_size(file.handle).unwrap_or(end);
     let lost = size.saturating_sub(end);
+    let Ok(path) = path_in(alloc, settings, queue, file) else {
+        let seq = file.seq;
+        warn!(rt; "{name} file {seq}: {lost} bytes after {end} are truncated");
+        return;
+    };
     if has_only_zeros(file_system, file, end, size) {
-        info!(rt; "{name} file {seq}: {lost} zeros after {end} bytes are truncated");
+        info!(rt; "{name} file {path}: {lost} zeros after {end} bytes are truncated");
         return;
     }
     let Ok(tail) = read_tail(alloc, file_system, file, end, lost.min(SEARCHED)) else {
-        warn!(rt; "{name} file {seq}: {lost} bytes after {end} are truncated");
+        warn!(rt; "{name} file {path}: {lost} bytes after {end} are truncated");
         return;
     };
     let Ok(cause) = cause_of(alloc, ending, tail.as_slice(), lost) else {
-        warn!(rt; "{name} file {seq}: {lost} bytes after {end} are truncated");
+        warn!(rt; "{name} file {path}: {lost} bytes after {end} are truncated");
         return;
     };
-    let id = FileId::new(queue, seq);
+    let id = FileId::new(queue, file.seq);
     if ending.end.is_none() || holds_record(alloc, tail.as_slice(), id, ending) {
-        warn!(rt; "{name} file {seq}: {lost} bytes after {end} are truncated: {cause}");
+        warn!(rt; "{name} file {path}: {lost} bytes after {end} are truncated: {cause}");
     } else {
-        info!(rt; "{name} file {seq}: {lost} bytes after {end} are truncated: {cause}");
+        info!(rt; "{name} file {path}: {lost} bytes after {end} are truncated: {cause}");
     }
 }
 
@@ -58,6 +66,12 @@ fn name_of(queue: LogQueue) -> &'static str {
         LogQueue::Append => "append",
         LogQueue::Rewrite => "rewrite",
     }
+}
+
+/// The path of a queue's file in the directories of these settings.
+fn path_in(alloc: Global, settings: &Config, queue: LogQueue, file: File) -> Result<String> {
+    let layout = LogLayout::new(queue, paths(alloc, settings)?);
+    layout.file_path(alloc, &file)
 }
 
 /// Whether a file of this size has only zeros from an offset on. If they can't be read, the answer is no.

@@ -6,6 +6,7 @@ ghost use Rattle.raft_log_recovery.specs.Cutting.{CutsEach, CutsOne, FailsToCutE
 use crate::cut_log::log_cut;
 use log::Log;
 use raft_log_active_file::File;
+use raft_log_file_settings::Config;
 use raft_log_fs::FileSystem;
 use raft_log_record_base::LogQueue;
 use raft_log_recovery_read::FileEnding;
@@ -18,6 +19,7 @@ pub fn cut_files<F: FileSystem, L: Log>(
     rt: &L,
     alloc: Global,
     file_system: &mut F,
+    settings: &Config,
     queue: LogQueue,
     files: &[File],
     endings: &[FileEnding],
@@ -29,7 +31,15 @@ pub fn cut_files<F: FileSystem, L: Log>(
         (F.disk file_system.old) (F.disk file_system.new)) }
 {
     for index in 0..endings.len() {
-        cut_file(rt, alloc, file_system, queue, files[index], endings[index])?;
+        cut_file(
+            rt,
+            alloc,
+            file_system,
+            settings,
+            queue,
+            files[index],
+            endings[index],
+        )?;
     }
     Ok(())
 }
@@ -39,6 +49,7 @@ fn cut_file<F: FileSystem, L: Log>(
     rt: &L,
     alloc: Global,
     file_system: &mut F,
+    settings: &Config,
     queue: LogQueue,
     file: File,
     ending: FileEnding,
@@ -52,7 +63,7 @@ fn cut_file<F: FileSystem, L: Log>(
         return Ok(());
     }
     let end = ending.end.unwrap_or(0);
-    log_cut(rt, alloc, file_system, queue, file, ending);
+    log_cut(rt, alloc, file_system, settings, queue, file, ending);
     file_system.truncate(file.handle, end)?;
     file_system.sync(file.handle)
 }

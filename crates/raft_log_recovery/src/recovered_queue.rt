@@ -8,6 +8,7 @@ use crate::reading::recover_files;
 use crate::unaligned::{aligned, have_no_padding};
 use log::Log;
 use raft_log_active_file::File;
+use raft_log_file_settings::Config;
 use raft_log_fs::FileSystem;
 use raft_log_record_base::Result;
 use raft_log_recovery_read::FileEnding;
@@ -47,7 +48,7 @@ impl RecoveredQueue {
     }
 
     /// Reads the files by workers into a machine. Then truncates the damaged ones, each after its last good record,
-    /// and syncs them, in order.
+    /// and syncs them, in order. The log says what is truncated, with paths of the directories in `settings`.
     ///
     /// Truncates nothing unless all could be read and none has an alignment. Fails:
     /// - with `Io` if a read fails, which is never taken for damage
@@ -66,6 +67,7 @@ impl RecoveredQueue {
         rt: &R,
         alloc: Global,
         file_system: &mut F,
+        settings: &Config,
         config: RecoveryConfig,
         factory: &FA,
     ) -> Result<M>
@@ -91,6 +93,7 @@ impl RecoveredQueue {
             rt,
             alloc,
             file_system,
+            settings,
             config.queue,
             &self.files,
             &read.endings,

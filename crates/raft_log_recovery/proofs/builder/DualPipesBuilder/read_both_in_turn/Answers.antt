@@ -5,7 +5,7 @@ use Rattle.raft_log_recovery_scan.specs.declared.recovery_config.RecoveryConfig.
 use Rattle.raft_log_recovery.specs.ForReading.QueuesAreUnread.{append, rewrite}
 use Rattle.raft_log_recovery.specs.Reading.{HasReadFiles, FilesAreUnread}
 use Rattle.raft_log_recovery.specs.Recovering.{append_config, append_files, rewrite_config, rewrite_files}
-use Rattle.raft_log_recovery.proofs.builder.in_turn.DualPipesBuilder.read_both_in_turn.Goals as goal
+use Rattle.raft_log_recovery.proofs.builder.DualPipesBuilder.read_both_in_turn.Goals as goal
 
 pub returns-in_err-append-clause-err : goal.returns-in_err-append-clause-err
 returns-in_err-append-clause-err g c =

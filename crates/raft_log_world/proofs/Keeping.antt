@@ -4,9 +4,9 @@ use Rattle.std.proofs.Math.Path.{fun_ext}
 use Rattle.raft_log_model_laws.specs.Groups.{taken}
 use Rattle.raft_log_model_laws.proofs.Steps.{taken_append}
 use Rattle.raft_log_world.specs.declared.event.Answer.{Answer}
-use Rattle.raft_log_world.specs.declared.event.Answer.TheVariants.{Done, Found, Entries, Keys, Refused, Failed, Idle}
+use Rattle.raft_log_world.specs.declared.event.Answer.TheVariants.{Done, Found, At, Entries, Keys, Refused, Failed, Idle}
 use Rattle.raft_log_world.specs.declared.event.Call.{Call}
-use Rattle.raft_log_world.specs.declared.event.Call.TheVariants.{Write, Sync, Get, GetEntry, Fetch, Scan, Compact, Purge}
+use Rattle.raft_log_world.specs.declared.event.Call.TheVariants.{Write, Sync, Get, GetEntry, FirstIndex, LastIndex, Fetch, Scan, Compact, Purge}
 use Rattle.raft_log_world.specs.declared.event.Event.{Event}
 use Rattle.raft_log_world.specs.declared.event.Event.TheVariants.{Open, Serve, Close, Crash, Arm}
 use Rattle.raft_log_world.specs.Explained.{Explains}
@@ -130,6 +130,8 @@ served C says m pending (Get group key) (Found value) next is = stays m pending 
 served C says m pending (Get group key) Refused next is = stays m pending [] next is
 served C says m pending (GetEntry group index) (Found value) next is = stays m pending [] next is.1
 served C says m pending (GetEntry group index) Refused next is = stays m pending [] next is
+served C says m pending (FirstIndex group) (At index) next is = stays m pending [] next is.1
+served C says m pending (LastIndex group) (At index) next is = stays m pending [] next is.1
 served C says m pending (Fetch group begin end max) (Entries entries) next is = stays m pending [] next is.1
 served C says m pending (Fetch group begin end max) Refused next is = stays m pending [] next is
 served C says m pending (Scan group start end) (Keys pairs) next is = stays m pending [] next is.1

@@ -1,4 +1,4 @@
-//! Questions of a user of a log, each answered by a law. A law is the contract of an empty function.
+//! Questions of a user of a log, and the laws that answer them. A law is the contract of an empty function.
 ghost use Rattle.raft_log_world.specs.Questions.{BatchesAreWhole, FailedWritesLeaveNoTrace, PurgesKeepContents, SyncedBatchesAreKept};
 
 /// Is a synced batch ever lost? No. Once a write with a sync, a sync, a purge or a close succeeds, all batches before it

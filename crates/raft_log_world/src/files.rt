@@ -17,8 +17,8 @@ pub trait LogFiles<R, S, B, C>: Sized {
     /// Which log of the model the files or an engine are, what a batch says, and what is asked of chance.
     ghost log: { LogOf S Self B C };
 
-    /// Opens the log with this many workers, at least one, which may be threads of the runtime. If it fails, returns the
-    /// files, and the log may be opened again.
+    /// Opens the log with this many workers, at least one, which may be threads of the runtime. If it fails, returns
+    /// the files, and the log may be opened again.
     fn open<T: Threads + Sync>(self, rt: &T, alloc: Global, workers: u64) -> Result<S, Self>
         requires { IsSync T.row }
         ensures ok { IfOk result (λ engine.
@@ -44,6 +44,16 @@ pub trait LogFiles<R, S, B, C>: Sized {
     /// Reads the entry of a group at an index. Returns its bytes, or how the read failed.
     fn get_entry(engine: &mut S, group: u64, index: u64) -> Answer
         ensures { Follows log (Storage.Open engine.old) (Event.Serve (Call.GetEntry group index)) result
+            (Storage.Open engine.new) };
+
+    /// Reads the first index at which a group has an entry. Returns it, or none if the group has no entry.
+    fn first_index(engine: &mut S, group: u64) -> Answer
+        ensures { Follows log (Storage.Open engine.old) (Event.Serve (Call.FirstIndex group)) result
+            (Storage.Open engine.new) };
+
+    /// Reads the last index at which a group has an entry. Returns it, or none if the group has no entry.
+    fn last_index(engine: &mut S, group: u64) -> Answer
+        ensures { Follows log (Storage.Open engine.old) (Event.Serve (Call.LastIndex group)) result
             (Storage.Open engine.new) };
 
     /// Reads the entries of a group from an index on, below another one, up to a greatest size in bytes. Returns them,

@@ -28,8 +28,7 @@ BOXES = [
     (718, 142, 346, 180, "#ffffff", "Programs on a log", "over an engine, in memory or in a directory", "raft_log_",
      [("ctl", "dump, check, stat, fork, unpad"), ("operator", "its library"),
       ("ten_lines", "saves a key, and reads it"), ("append_lines", "keeps lines of input"),
-      ("node_storage", "a Raft node's storage"), ("world", "plays events: run_log"),
-      ("world_engine", "the engine in that world")], ""),
+      ("node_storage", "a Raft node's storage"), ("world_engine", "the engine in world's runs")], ""),
     (16, 330, 180, 434, "#ece6f8", "Voter", "the receiver of Raft", "raft_",
      ["voter", "voter_outline", "voter_messages", "voter_plain", "voter_group_laws"], "Voter::step, judge, one_vote_per_term,"
      " terms_never_fall, matched_entries_stand, repeat_is_idempotent, group_isolation"),
@@ -52,7 +51,7 @@ BOXES = [
      ["fs_os", "fs_traced", "directory_copies"], "DirectoryFileSystem"),
     (16, 772, 180, 118, "#f3f0fa", "Lists", "seen as their elements", "", ["raft_lists"], "Items"),
     (204, 772, 216, 118, "#fdf5d7", "Meaning", "no file, no byte", "raft_log_",
-     ["model_laws", "machine_laws"], "IsAt"),
+     ["model_laws", "machine_laws", "world"], "IsAt, run_log, ModelLog"),
     (428, 772, 262, 118, "#e5f5e0", "Records", "bytes of batches", "raft_log_",
      ["record_checksum", "record_base", "record_items", "record_frames", "record_batches", "records"],
      "records_are_read_back"),

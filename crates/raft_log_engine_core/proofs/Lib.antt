@@ -4,3 +4,5 @@ mod Hearing
 mod Entries
 mod Pieces
 mod Scans
+mod ModelCalls
+mod ModelReads

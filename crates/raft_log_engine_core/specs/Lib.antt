@@ -1,6 +1,7 @@
 pub mod Compacting
 pub mod Hearing
 pub mod Messages
+pub mod ModelCalls
 pub mod Purging
 pub mod Reads
 pub mod Room

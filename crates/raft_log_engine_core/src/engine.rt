@@ -45,6 +45,7 @@ impl<P: PipeLog> LogEngine<P> {
     ghost use Rattle.raft_log_record_base.specs.declared.pipe_log.LogQueue.TheVariants.{Append, Rewrite};
     ghost use Rattle.raft_log_memtable.specs.Stats.{added, no_entries};
     ghost use Rattle.raft_log_engine_core.specs.Hearing.{HearsBatch, HearsRecord, HearsRefused};
+    ghost use Rattle.raft_log_engine_core.specs.ModelCalls.{ClosesModel, FollowsModel, ModelSyncs, ModelWrites};
     ghost use Rattle.raft_log_engine_core.specs.Reads.{shows_of};
     ghost use Rattle.raft_log_engine_core.specs.Room.{IsMadeIfTried, IsMadeUnlessFailed, KeepsLittle, PutFails, StaysWritable};
     ghost use Rattle.raft_log_engine_core.specs.Touching.{LeavesFiles, LeavesRecord, StaysPurged, WritesFiles, WritesRecord};
@@ -92,6 +93,7 @@ impl<P: PipeLog> LogEngine<P> {
 
     /// Makes all batches durable. If it fails, the error is `Failed`, and so is that of every later read or write.
     pub fn sync<L: Log>(&mut self, rt: &L) -> Result<()>
+        ensures model { FollowsModel ModelSyncs result (shows_of P.shown self.old) (shows_of P.shown self.new) }
         ensures ok { OnOk result (SyncsAppend (shows_of P.shown self.old) (shows_of P.shown self.new)) }
         ensures err { IfErr result (λ error.
             NotSynced error (shows_of P.shown self.old) (shows_of P.shown self.new)) }
@@ -128,6 +130,8 @@ impl<P: PipeLog> LogEngine<P> {
     /// even one whose sync failed, the engine's own hook pins the files that it pinned before. The exception is a file
     /// that the hook couldn't list (`laws::batches_hold_nothing_back`).
     pub fn write<L: Log>(&mut self, rt: &L, batch: &mut LogBatch, sync: bool) -> Result<usize>
+        ensures model { FollowsModel (ModelWrites batch.old sync) result
+            (shows_of P.shown self.old) (shows_of P.shown self.new) }
         ensures ok { IfOk result (λ len. WritesBytes batch.old sync len
             (shows_of P.shown self.old) (shows_of P.shown self.new)) }
         ensures err { IfErr result (λ error. NotWritten batch.old error
@@ -223,6 +227,7 @@ impl<P: PipeLog> LogEngine<P> {
     /// both queues failed. Batches since the last sync may not be durable then. It fails with `Failed` if the engine
     /// had failed before; then it touches nothing. A naming that fails is only logged.
     pub fn close<L: Log>(self, rt: &L) -> Closed<P::Files>
+        ensures model { ClosesModel result.result (shows_of P.shown self) (P.disk_of result.files) }
         ensures held { is_failed (P.shown self.pipes) ≡ false
             → ClosesLog (P.shown self.pipes) (P.disk_of result.files) }
         ensures settled { OnOk result.result

@@ -8,6 +8,7 @@ ghost use Rattle.raft_log_memtables.specs.Tables.{shown_of};
 ghost use Rattle.raft_log_dual_pipes.specs.Telling.{Hears, files_begun};
 ghost use Rattle.raft_log_engine_core.specs.Compacting.{entries_below, CompactsTo, FailsToCompact, SaysCompact};
 ghost use Rattle.raft_log_engine_core.specs.Hearing.{HearsCompact};
+ghost use Rattle.raft_log_engine_core.specs.ModelCalls.{FollowsModel, ModelCompacts};
 ghost use Rattle.raft_log_engine_core.specs.Reads.{shows_of};
 ghost use Rattle.raft_log_engine_core.specs.Touching.{StaysPurged};
 
@@ -27,6 +28,8 @@ impl<P: PipeLog> LogEngine<P> {
     /// Fails with `Failed` if the engine has failed, with `Memory` before anything is done, or with the errors of
     /// `write`.
     pub fn compact_to<L: Log>(&mut self, rt: &L, raft_group_id: u64, index: u64) -> Result<u64>
+        ensures model { FollowsModel (ModelCompacts raft_group_id index) result
+            (shows_of P.shown self.old) (shows_of P.shown self.new) }
         ensures ok { IfOk result (λ count. CompactsTo raft_group_id index count
             (shows_of P.shown self.old) (shows_of P.shown self.new)) }
         ensures err { IfErr result (λ error. FailsToCompact raft_group_id index error

@@ -6,7 +6,8 @@ ghost use Rattle.raft_log_memtable.specs.Reads.{entry_at};
 ghost use Rattle.raft_log_memtable.specs.Table.{shown};
 ghost use Rattle.raft_log_memtables.specs.Tables.{shown_of};
 ghost use Rattle.raft_log_block_cache.specs.Blocks.{AddsEntries, AreUnread};
-ghost use Rattle.raft_log_purge.specs.raft_log_engine_laws.specs.Fetching.{FailsToFetch, FailsToTell, FetchesTo, HadFailed, TellsEntry};
+ghost use Rattle.raft_log_purge.specs.raft_log_engine_laws.specs.Fetching.{FailsToFetch, FailsToTell, FetchesTo, HadFailed, IsEntryTold, TellsEntry};
+ghost use Rattle.raft_log_engine_core.specs.ModelCalls.{FetchesMessages, FollowsModel, ModelReads};
 ghost use Rattle.raft_log_engine_core.specs.Reads.{AreNext, HasFirst, IsToldAs, Runs, entries_on, shows_of, Lives};
 ghost use Rattle.raft_log_engine_core.specs.Touching.{StaysPurged};
 
@@ -34,6 +35,8 @@ impl<P: PipeLog> LogEngine<P> {
         raft_group_id: u64,
         log_idx: u64,
     ) -> Result<Option<M::Entry>>
+        ensures model { FollowsModel (ModelReads (λ m. IsEntryTold M.Entry.reading m raft_group_id log_idx))
+            result (shows_of P.shown self.old) (shows_of P.shown self.new) }
         ensures ok { IfOk result (TellsEntry M.Entry.reading raft_group_id log_idx
             (shows_of P.shown self.old)
             (shows_of P.shown self.new)) }
@@ -77,6 +80,8 @@ impl<P: PipeLog> LogEngine<P> {
         max_size: Option<usize>,
         vec: &mut Vec<M::Entry>,
     ) -> Result<usize>
+        ensures model { FollowsModel (ModelReads (FetchesMessages M.Entry.reading raft_group_id begin end max_size
+            vec.old.items vec.new.items)) result (shows_of P.shown self.old) (shows_of P.shown self.new) }
         ensures ok { IfOk result (FetchesTo M.Entry.reading raft_group_id begin end max_size
             (shows_of P.shown self.old)
             (shows_of P.shown self.new) vec.old.items vec.new.items) }

@@ -9,6 +9,7 @@ ghost use Rattle.raft_log_purge.specs.Append.{RewritesAppend};
 ghost use Rattle.raft_log_purge.specs.Counted.{CountsAndResets, PurgesAndCounts};
 ghost use Rattle.raft_log_purge.specs.Counting.{CountsTwice};
 ghost use Rattle.raft_log_purge.specs.ExpiredFiles.{SyncsAndRewrites};
+ghost use Rattle.raft_log_engine_core.specs.ModelCalls.{FollowsModel, ModelPurges};
 ghost use Rattle.raft_log_engine_core.specs.Purging.{
   MayCountStanding,
   StopsCounting,
@@ -44,6 +45,7 @@ impl<P: PipeLog> LogEngine<P> {
     /// copies, and the deletions. The map is unchanged then, no round is counted, and the old copies of groups that
     /// were written to Rewrite again count as garbage.
     pub fn purge_expired_files<L: Log>(&mut self, rt: &L) -> Result<Vec<u64>>
+        ensures model { FollowsModel ModelPurges result (shows_of P.shown self.old) (shows_of P.shown self.new) }
         ensures ok { IfOk result (λ groups. PurgesAndCounts (PipesHoldBack P.shown P.holds_back Append)
             self.old.thresholds self.old.tables self.new.tables self.old.counts self.new.counts groups.items
             (shows_of P.shown self.old) (shows_of P.shown self.new)) }
@@ -75,6 +77,7 @@ impl<P: PipeLog> LogEngine<P> {
     /// Fails with `Failed` if the engine has failed, or with the errors of a sync, a rotation, the writes, and the
     /// deletions. The map is unchanged then, and the old copies of groups that were written again count as garbage.
     pub fn must_rewrite_rewrite_queue<L: Log>(&mut self, rt: &L) -> Result<()>
+        ensures model { FollowsModel ModelPurges result (shows_of P.shown self.old) (shows_of P.shown self.new) }
         ensures ok { OnOk result (SyncsAndRewrites self.new.tables
             (shows_of P.shown self.old) (shows_of P.shown self.new)) }
         ensures lived { OnOk result (Lives (shows_of P.shown self.old)) }
@@ -115,6 +118,7 @@ impl<P: PipeLog> LogEngine<P> {
         watermark: Option<FileSeq>,
         exit_after_step: Option<u64>,
     ) -> Result<()>
+        ensures model { FollowsModel ModelPurges result (shows_of P.shown self.old) (shows_of P.shown self.new) }
         ensures ok { OnOk result (RewritesAppend watermark exit_after_step self.new.tables
             (shows_of P.shown self.old) (shows_of P.shown self.new)) }
         ensures lived { OnOk result (Lives (shows_of P.shown self.old)) }
@@ -147,6 +151,7 @@ impl<P: PipeLog> LogEngine<P> {
     /// Fails with `Failed` if the engine has failed, or with the errors of a sync, the tombstones, a rotation, and
     /// the deletions: the map is unchanged.
     pub fn must_purge_all_stale<L: Log>(&mut self, rt: &L) -> Result<()>
+        ensures model { FollowsModel ModelPurges result (shows_of P.shown self.old) (shows_of P.shown self.new) }
         ensures ok { OnOk result (PurgesAllStale self.new.tables
             (shows_of P.shown self.old) (shows_of P.shown self.new)) }
         ensures lived { OnOk result (Lives (shows_of P.shown self.old)) }

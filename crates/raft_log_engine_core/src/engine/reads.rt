@@ -7,6 +7,7 @@ ghost use Rattle.raft_log_memtable.specs.Table.{shown};
 ghost use Rattle.raft_log_memtables.specs.Tables.{counts};
 ghost use Rattle.raft_log_memtables.specs.Walking.{ListsGroups};
 ghost use Rattle.raft_log_purge.specs.raft_log_engine_laws.specs.Reading.{ReadsFirst, ReadsLast, ReadsValue};
+ghost use Rattle.raft_log_engine_core.specs.ModelCalls.{FollowsModel, IsValueOf, ModelReads};
 ghost use Rattle.raft_log_engine_core.specs.Reads.{shows_of, IsFailed, IsUncopied, Lives, NoneCounts};
 
 use super::LogEngine;
@@ -48,6 +49,8 @@ impl<P: PipeLog> LogEngine<P> {
 
     /// A copy of the value of a group's key, if it has one. Fails with `Failed` if the engine has failed, or `Memory`.
     pub fn get(&self, raft_group_id: u64, key: &[u8]) -> Result<Option<Vec<u8>>>
+        ensures model { FollowsModel (ModelReads (IsValueOf raft_group_id key.now)) result
+            (shows_of P.shown self.now) (shows_of P.shown self.now) }
         ensures ok { IfOk result (λ value. ReadsValue (shows_of P.shown self.now) raft_group_id key.now
             (option_map (λ bytes. bytes.items) value)) }
         ensures lived { OnOk result (Lives (shows_of P.shown self.now)) }

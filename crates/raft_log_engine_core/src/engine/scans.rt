@@ -4,6 +4,7 @@ ghost use Rattle.std.specs.Fn.{CalledAtTwo};
 ghost use Rattle.std.specs.Prelude.{◌≡◌, ◌↔◌, option_copied, IfErr, IfOk, IsTrue, OnOk};
 ghost use Rattle.raft_log_record_base.specs.declared.errors.Error.TheVariants as errors;
 ghost use Rattle.raft_log_purge.specs.raft_log_engine_laws.specs.Reading.{ReadsKeys};
+ghost use Rattle.raft_log_engine_core.specs.ModelCalls.{ArePairsOf, FollowsModel, ModelReads, ScansInModel};
 ghost use Rattle.raft_log_engine_core.specs.Messages.{CalledAtKey, IsNoMessage, ScansMessages, VisitsMessages};
 ghost use Rattle.raft_log_engine_core.specs.Reads.{shows_of, IsFailed, IsUncopied, Lives, ScansKeys};
 
@@ -29,6 +30,9 @@ impl<P: PipeLog> LogEngine<P> {
         callback: C,
     ) -> Result<()>
         requires { C.IsAlwaysCallable callback }
+        ensures model { FollowsModel (ModelReads (ScansInModel (CalledAtTwo C.FnMut) callback raft_group_id
+            (option_copied start_key.entry) (option_copied end_key.entry) reverse))
+            result (shows_of P.shown self.now) (shows_of P.shown self.now) }
         ensures ok { OnOk result (ScansKeys (CalledAtTwo C.FnMut) callback (shows_of P.shown self.now)
             raft_group_id (option_copied start_key.entry) (option_copied end_key.entry) reverse) }
         ensures lived { OnOk result (Lives (shows_of P.shown self.now)) }
@@ -88,6 +92,9 @@ impl<P: PipeLog> LogEngine<P> {
         start_key: Option<&[u8]>,
         end_key: Option<&[u8]>,
     ) -> Result<Vec<(Bytes, Bytes)>>
+        ensures model { FollowsModel (ModelReads (ArePairsOf raft_group_id
+            (option_copied start_key.entry) (option_copied end_key.entry)))
+            result (shows_of P.shown self.now) (shows_of P.shown self.now) }
         ensures ok { IfOk result (λ pairs. ReadsKeys (shows_of P.shown self.now) raft_group_id
             (option_copied start_key.entry) (option_copied end_key.entry) pairs.items) }
         ensures lived { OnOk result (Lives (shows_of P.shown self.now)) }

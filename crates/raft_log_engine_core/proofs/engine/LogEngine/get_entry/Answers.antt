@@ -4,6 +4,8 @@ use Rattle.raft_log_memtables.specs.Tables.{shown_of}
 use Rattle.raft_log_dual_pipes.specs.Pipes.{is_failed}
 use Rattle.raft_log_purge.specs.raft_log_engine_laws.specs.EngineState.{shows}
 use Rattle.raft_log_engine_core.proofs.Entries.{fails_to_tell, runs_as, tells_none, tells_one, told_as}
+use Rattle.raft_log_engine_core.proofs.ModelCalls.{had_failed}
+use Rattle.raft_log_engine_core.proofs.ModelReads.{entry_not_told, entry_told}
 use Rattle.raft_log_engine_core.proofs.engine.LogEngine.get_entry.Goals as goal
 
 pub returns-in-None-clause-ok : goal.returns-in-None-clause-ok
@@ -41,3 +43,15 @@ returns-in-Err-clause-err g c =
 
 pub returns-in-Err-clause-memory : goal.returns-in-Err-clause-memory
 returns-in-Err-clause-memory g c = runs_as (g.P.PipeLog.shown c.args.self.now.pipes).disk.stopped c.in-Err.error c.unread.result c.unread.ensures
+
+pub returns-then-is_failed-clause-model : goal.returns-then-is_failed-clause-model
+returns-then-is_failed-clause-model g c = had_failed _ _ (sym c.is_failed.ensures ∙ c.if-is_failed.true)
+
+pub returns-in-None-clause-model : goal.returns-in-None-clause-model
+returns-in-None-clause-model g c = entry_told g.M.Entry.Message.reading _ _ c.args.raft_group_id c.args.log_idx None (returns-in-None-clause-ok g c)
+
+pub returns-in-Ok-clause-model : goal.returns-in-Ok-clause-model
+returns-in-Ok-clause-model g c = entry_told g.M.Entry.Message.reading _ _ c.args.raft_group_id c.args.log_idx (Some c.in-Ok.message) (returns-in-Ok-clause-ok g c)
+
+pub returns-in-Err-clause-model : goal.returns-in-Err-clause-model
+returns-in-Err-clause-model g c = entry_not_told g.M.Entry.Message.reading _ _ c.args.raft_group_id c.args.log_idx c.unread.result (returns-in-Err-clause-err g c)

@@ -8,7 +8,8 @@ use Rattle.raft_log_machine_laws.specs.Calls.Which.{InAppend}
 use Rattle.raft_log_dual_pipes.specs.LastFile.{last_of}
 use Rattle.raft_log_dual_pipes.proofs.Telling.{hears_none}
 use Rattle.raft_log_engine_core.proofs.Hearing.{heard_not_synced, heard_synced, heard_unsynced}
-use Rattle.raft_log_engine_core.proofs.Put.{none_unsynced, none_unsynced_files, put_synced, put_synced_files, put_unsynced, put_unsynced_files, unsynced_made}
+use Rattle.raft_log_engine_core.proofs.Put.{not_written as put_not_written, none_unsynced, none_unsynced_files, put_synced, put_synced_files, put_unsynced, put_unsynced_files, unsynced_made}
+use Rattle.raft_log_engine_core.proofs.ModelCalls.{had_failed, not_written, written}
 use Rattle.raft_log_engine_core.proofs.engine.LogEngine.write.Goals as goal
 
 pub returns-in-Err-clause-err : goal.returns-in-Err-clause-err
@@ -137,3 +138,43 @@ returns-in-Err-sync-clause-told_less g c =
 
 pub returns-in-Err-put-clause-told_less : goal.returns-in-Err-put-clause-told_less
 returns-in-Err-put-clause-told_less g c = inl (c.in-Err-put.ensures.left, c.in-Err-put.ensures.told_less)
+
+pub returns-then-is_failed-clause-model : goal.returns-then-is_failed-clause-model
+returns-then-is_failed-clause-model g c = had_failed _ _ (sym c.is_failed.ensures ∙ c.if-is_failed.true)
+
+pub returns-then-not-sync-clause-model : goal.returns-then-not-sync-clause-model
+returns-then-not-sync-clause-model g c =
+    let s = shows (g.P.PipeLog.shown c.args.self.now.pipes) c.args.self.now.tables c.args.self.now.cache in
+    let lives = sym c.is_failed.ensures ∙ c.if-is_failed.false in
+    written c.args.batch.now c.args.sync s s lives 0
+    (subst (λ k. WritesBytes c.args.batch.now k 0 s s) (sym c.if-not-sync.true) (inl (c.if-is_empty.ensures.0 refl, refl, (refl, lives))))
+
+pub returns-in-Ok-clause-model : goal.returns-in-Ok-clause-model
+returns-in-Ok-clause-model g c =
+    let s = shows (g.P.PipeLog.shown c.args.self.now.pipes) c.args.self.now.tables c.args.self.now.cache in
+    let t = shows (g.P.PipeLog.shown c.sync.new.self.pipes) c.sync.new.self.tables c.sync.new.self.cache in
+    let asked : c.args.sync ≡ true = grind (arith, c.if-not-sync.false) in
+    written c.args.batch.now c.args.sync s t (sym c.is_failed.ensures ∙ c.if-is_failed.false) 0
+    (subst (λ k. WritesBytes c.args.batch.now k 0 s t) (sym asked) (inl (c.if-is_empty.ensures.0 refl, refl, c.in-Ok.ensures.ok)))
+
+pub returns-in-Err-clause-model : goal.returns-in-Err-clause-model
+returns-in-Err-clause-model g c = not_written c.args.batch.now c.args.sync _ _ (sym c.is_failed.ensures ∙ c.if-is_failed.false) c.in-Err.error (returns-in-Err-clause-err g c)
+
+pub returns-then-not-sync-2-clause-model : goal.returns-then-not-sync-2-clause-model
+returns-then-not-sync-2-clause-model g c =
+    let s = shows (g.P.PipeLog.shown c.args.self.now.pipes) c.args.self.now.tables c.args.self.now.cache in
+    let t = shows (g.P.PipeLog.shown c.put.new.self.pipes) c.put.new.self.tables c.put.new.self.cache in
+    written c.args.batch.now c.args.sync s t (sym c.is_failed.ensures ∙ c.if-is_failed.false) c.in-Ok-put.len
+    (subst (λ k. WritesBytes c.args.batch.now k c.in-Ok-put.len s t) (sym c.if-not-sync-2.true) (inr c.in-Ok-put.ensures.ok))
+
+pub returns-in-Ok-sync-clause-model : goal.returns-in-Ok-sync-clause-model
+returns-in-Ok-sync-clause-model g c = written c.args.batch.now c.args.sync _ _ (sym c.is_failed.ensures ∙ c.if-is_failed.false) c.in-Ok-put.len (returns-in-Ok-sync-clause-ok g c)
+
+pub returns-in-Err-sync-clause-model : goal.returns-in-Err-sync-clause-model
+returns-in-Err-sync-clause-model g c = not_written c.args.batch.now c.args.sync _ _ (sym c.is_failed.ensures ∙ c.if-is_failed.false) c.in-Err-sync.error (returns-in-Err-sync-clause-err g c)
+
+pub returns-in-Err-put-clause-model : goal.returns-in-Err-put-clause-model
+returns-in-Err-put-clause-model g c =
+    let s = shows (g.P.PipeLog.shown c.args.self.now.pipes) c.args.self.now.tables c.args.self.now.cache in
+    let t = shows (g.P.PipeLog.shown c.put.new.self.pipes) c.put.new.self.tables c.put.new.self.cache in
+    not_written c.args.batch.now c.args.sync s t (sym c.is_failed.ensures ∙ c.if-is_failed.false) c.in-Err-put.error (put_not_written c.args.batch.now c.in-Err-put.error s t c.in-Err-put.ensures.err)

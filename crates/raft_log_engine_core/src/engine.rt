@@ -127,8 +127,8 @@ impl<P: PipeLog> LogEngine<P> {
     ///
     /// Listeners hear of each file that Append rotated to. If the batch is written, they hear of its record's place in
     /// Append's active file, and then that it was applied to the tables. They hear nothing of the sync. After a write,
-    /// even one whose sync failed, the engine's own hook pins the files that it pinned before. The exception is a file
-    /// that the hook couldn't list (`laws::batches_hold_nothing_back`).
+    /// even one whose sync failed, the engine's own hook pins the files that it pinned before, unless there was a file
+    /// that it couldn't list (`laws::batches_hold_nothing_back`).
     pub fn write<L: Log>(&mut self, rt: &L, batch: &mut LogBatch, sync: bool) -> Result<usize>
         ensures model { FollowsModel (ModelWrites batch.old sync) result
             (shows_of P.shown self.old) (shows_of P.shown self.new) }

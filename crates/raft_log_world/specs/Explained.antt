@@ -21,7 +21,7 @@ Goes l at log known (m ∷ ms) =
     → (next : ModelLog) × Answers l.says log m.event m.answer next
     × ((still : Stands l m.now next) × Goes l m.now next still ms)
 
--- If the files are known to be a log of the model, it goes on from there through all moments of a run.
+-- If the first files of a run are known to represent a model log, it goes on from there through all moments of the run.
 abbrev pub AllGoOn : {S F B C : Type 0} → LogOf S F B C → Type 0
 AllGoOn {S} {F} {B} {C} l =
     (files : F) (events : List (Event B C)) (report : LogReport S F) (run : IsLogRun l files events report)

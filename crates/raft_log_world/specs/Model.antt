@@ -1,5 +1,5 @@
--- The model log: a log that never crashes, as its callers see it. It says which answers an event may have, and what the
--- log is afterwards. A crash of the machine only loses the last few batches that aren't synced yet.
+-- The model log: a log as its callers see it. It says which answers an event may have, and what the log is afterwards.
+-- A crash of the machine loses at most its last batches that aren't synced yet.
 use Rattle.std.specs.Prelude.{◌≡◌, ◌⊎◌, ◌≤◌, ℕ, Bool, true, false, List, [], ◌∷◌, ◌++◌, length, take, option_map}
 use Rattle.raft_log_model_laws.specs.Item.{Record, items_of}
 use Rattle.raft_log_model_laws.specs.Item.Item.{Compact as CompactItem}
@@ -119,7 +119,7 @@ IsIdle opened (Arm fault) = ⊥
 -- - After an open the engine runs. What was pending is durable, or its last few batches are lost. If the open fails,
 --   the log is as before, or as the open would have found it.
 -- - A close that succeeds makes all batches durable. One that fails leaves them pending.
--- - A crash loses the last few pending batches, and nothing else.
+-- - A crash may lose the last few pending batches, and nothing else.
 -- - An engine that has failed fails each call, and a close, and changes nothing.
 -- - A fault that is armed changes nothing. Later events may fail.
 abbrev pub Answers : {B C : Type 0} → (B → BatchRecord) → ModelLog → Event B C → Answer → ModelLog → Type 0

@@ -56,7 +56,7 @@ abbrev pub RefusesLogPurge : Purge → Cause → EngineState → EngineState →
 RefusesLogPurge purge cause s t =
     (error : Error) × (cause ≡ purge_cause (has_failed s) error) × StopsPurgeAs purge s t error
 
--- file system `new` has armed `fault`, after the faults that `old` had armed
+-- file system `new` has the armed faults of `old`, and `fault` after them
 abbrev pub IsArmed : Fault → MemoryFileSystem → MemoryFileSystem → Type 0
 IsArmed fault old new = armed new ≡ armed_with (fault_of fault) (armed old)
 

@@ -6,7 +6,7 @@ use raft_log_fs::FileSystem;
 
 /// A crash of a running engine leaves no CRC collision if it leaves one of these of each active file:
 /// - a prefix of what was written there, with a torn tail; or
-/// - whole records, and after them bytes that begin no record of that file.
+/// - whole records, and after them bytes that don't begin with a record of that file.
 ///
 /// A file that is used again has such bytes at each place where one of its old records begins (`raft_log_dual_pipes`).
 /// This isn't proved for places within an old record.

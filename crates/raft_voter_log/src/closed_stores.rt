@@ -28,9 +28,12 @@ pub fn closed_stores_are_found<F: FileSystem>()
     ensures { ClosedStoresAreFound F.disk F.tells_space }
 {}
 
-/// Runs over a log in which stores are opened, serve, are purged, are closed, and crash while they run or are closed, and
-/// in which closed logs are copied. If no file call fails in the closes, and each crash leaves in the active files no more than what was written there, and zeros, there
-/// is no CRC collision. Each open serves voters, none loses them, and voters that never fail explain the rounds.
+/// Runs from files without a log. In them stores are opened, serve, are purged, are closed, and crash while they run or
+/// are closed; faults are armed, and closed logs are copied. A store that crashes or closes hasn't failed, and no file
+/// call fails in a close. Only a close that ends the run may be any. A crash of an open store only loses writes
+/// (`OnlyLoses`).
+///
+/// Then each opened store serves voters, no open loses them, and voters that never fail explain the rounds.
 pub fn closed_runs_ask_nothing<R: Log>()
     ensures { ClosedRunsAskNothing ⟦<LogVoters as RoundService<R>>⟧.service
         ⟦<LogVoters as VoterStorage<R>>⟧.upkeep ⟦<LogFiles as VoterDisk<R, LogVoters>>⟧.disk

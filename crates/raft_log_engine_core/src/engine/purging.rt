@@ -33,10 +33,11 @@ impl<P: PipeLog> LogEngine<P> {
     /// - syncs Append;
     /// - compacts Rewrite if enough of it is garbage;
     /// - writes Append's owed tombstones, and rewrites the groups that the rules pick;
-    /// - deletes files, except those that a listener pins.
+    /// - deletes files, but none of Append that a listener pins.
     ///
-    /// Returns the groups that should be compacted, in ascending order. A group that was returned in nine purges in a
-    /// row is rewritten. The map is unchanged, and nothing is pending.
+    /// Returns the groups that should be compacted, in ascending order. If nine purges in a row asked for a group by
+    /// the rules for Append, and the next one asks again, that one rewrites it. The map is unchanged, and nothing is
+    /// pending.
     ///
     /// If a queue is past its threshold, what is live in Rewrite is counted before and after, which takes time for each
     /// group: what was written there and is no longer live is garbage. Otherwise this only syncs Append.
@@ -72,7 +73,7 @@ impl<P: PipeLog> LogEngine<P> {
     }
 
     /// Compacts Rewrite, whatever its size is: syncs Append, writes what is live in Rewrite there again, and deletes
-    /// its old files. The map is unchanged, and nothing is pending.
+    /// its old files, pinned or not. The map is unchanged, and nothing is pending.
     ///
     /// Fails with `Failed` if the engine has failed, or with the errors of a sync, a rotation, the writes, and the
     /// deletions. The map is unchanged then, and the old copies of groups that were written again count as garbage.
@@ -102,7 +103,7 @@ impl<P: PipeLog> LogEngine<P> {
         )
     }
 
-    /// Rewrites Append up to a file, the watermark: at most the last file, which is also the default.
+    /// Rewrites Append up to a file, the watermark: at most the last file, which is also the default. Ignores pins.
     /// - Syncs Append, rotates it if the last file is to be rewritten, and writes the owed tombstones.
     /// - Rewrites all groups, and syncs Rewrite.
     /// - Removes the files up to the watermark from Append's live range, and all others below the least in use.
@@ -146,7 +147,8 @@ impl<P: PipeLog> LogEngine<P> {
     }
 
     /// Removes all files from both queues that have nothing in use: syncs Append and writes the owed tombstones. Then
-    /// rotates each queue and deletes its earlier files, Rewrite first. The map is unchanged, and nothing is pending.
+    /// rotates each queue and deletes its earlier files, Rewrite first. Ignores pins. The map is unchanged, and nothing
+    /// is pending.
     ///
     /// Fails with `Failed` if the engine has failed, or with the errors of a sync, the tombstones, a rotation, and
     /// the deletions: the map is unchanged.

@@ -1,12 +1,15 @@
 -- The logs that candidates are.
-use Rattle.std.proofs.Common.{◌≡◌, ℕ, zero, suc, ◌-◌, Bool, true, false, List, [], ◌∷◌, ◌++◌, length, map, take, drop, ap, refl, sym, subst, ◌∙◌, arith}
+use Rattle.std.proofs.Common.{◌≡◌, ℕ, zero, suc, ◌-◌, Bool, true, false, List, [], ◌∷◌, ◌++◌, append_assoc, length, map, take, drop, ap, refl, sym, subst, ◌∙◌, arith}
+use Rattle.std.proofs.lemmas.List.{map-append}
 use Rattle.raft_log_model_laws.specs.Groups.{taken}
 use Rattle.raft_log_world.specs.Model.{BatchRecord, ModelLog}
 use Rattle.raft_log_world.specs.Model.ModelLog.{running}
 use Rattle.raft_log_world.specs.Reads.{Contents}
+use Rattle.raft_log_judge.specs.declared.candidate.Candidate.{Candidate}
 use Rattle.raft_log_judge.specs.declared.change.Change.{Change}
 use Rattle.raft_log_judge.specs.declared.outcome.Standing.{Standing}
-use Rattle.raft_log_judge.specs.Candidates.{standing_log}
+use Rattle.raft_log_judge.specs.declared.outcome.Standing.TheVariants.{Broken, Closed, Running}
+use Rattle.raft_log_judge.specs.Candidates.{durable_of, log_of, opened_logs, pending_of, standing_log, turned}
 use Rattle.raft_log_judge.specs.Changes.{says_of}
 use Rattle.raft_log_judge.specs.Judging.{no_contents}
 use Rattle.raft_log_judge.proofs.Viewing.{taken_twice}
@@ -75,3 +78,25 @@ first_log bs new d is =
 -- the contents of a candidate
 pub whole_contents : (bs : List (List Change)) (d : ℕ) → taken (taken no_contents (take d (map says_of bs))) (drop d (map says_of bs)) ≡ taken no_contents (map says_of bs)
 whole_contents bs d = taken_twice no_contents (take d (map says_of bs)) (drop d (map says_of bs)) ∙ ap (taken no_contents) (halves d (map says_of bs))
+
+-- Logs that an open may find, one after another.
+
+-- a log that runs has these contents, and no pending batches
+running_parts : (standing : Standing) (m n : Contents) (pending : List BatchRecord) → standing_log standing m pending ≡ running n [] → (m ≡ n) × (pending ≡ [])
+running_parts Closed m n pending is = absurd (let never : ⊥ = cc in never)
+running_parts Running m n pending is = (cc, cc)
+running_parts Broken m n pending is = absurd (let never : ⊥ = cc in never)
+
+-- the log with one batch more, all of them durable
+pub one_more_log : (current more : Candidate) (at : Contents) (batch : List Change) → log_of current ≡ running at [] → durable_of more ≡ durable_of current → pending_of more ≡ pending_of current ++ says_of batch ∷ []
+    → turned Running true more ≡ running (taken at (says_of batch ∷ [])) []
+one_more_log current more at batch is durable pending =
+    let same = running_parts current.standing (durable_of current) at (pending_of current) is in
+    ap (λ (c : Contents). running (taken c (pending_of more)) []) (durable ∙ same.0) ∙ ap (λ (xs : List BatchRecord). running (taken at xs) []) (pending ∙ ap (λ (xs : List BatchRecord). xs ++ says_of batch ∷ []) same.1)
+
+-- one log more, and those after it
+pub one_opened : (at : Contents) (more : List Candidate) (copy : Candidate) (batch : List Change) (rest : List (List Change)) → log_of copy ≡ running at []
+    → map log_of (more ++ copy ∷ []) ++ opened_logs (taken at (says_of batch ∷ [])) (map says_of rest) ≡ map log_of more ++ opened_logs at (map says_of (batch ∷ rest))
+one_opened at more copy batch rest is =
+    let later = opened_logs (taken at (says_of batch ∷ [])) (map says_of rest) in
+    ap (λ (xs : List ModelLog). xs ++ later) (map-append log_of more (copy ∷ [])) ∙ append_assoc (map log_of more) (log_of copy ∷ []) later ∙ ap (λ (log : ModelLog). map log_of more ++ log ∷ later) is

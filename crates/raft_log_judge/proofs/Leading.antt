@@ -275,11 +275,11 @@ explained_as log events answers = (
 
 -- At the end.
 
-pub some_goes : {C : Type 0} (c : Candidate) (cs : List Candidate) → AnyGoes {C = C} says_of (map log_of (c ∷ cs)) [] []
-some_goes c cs =
+pub some_goes : (C : Type 0) (c : Candidate) (cs : List Candidate) → AnyGoes {C = C} says_of (map log_of (c ∷ cs)) [] []
+some_goes C c cs =
     let m = durable_of c in
     let p = pending_of c in
     (seen c.standing (taken m p) (taken m p), inl (of_sees c.standing m p _ (sees c.standing m p (taken m p) (all_reached m p))), tt)
 
-pub none_goes : {C : Type 0} → AnyGoes {C = C} says_of [] [] [] → ⊥
-none_goes found = found.1
+pub none_goes : (C : Type 0) → AnyGoes {C = C} says_of [] [] [] → ⊥
+none_goes C found = found.1

@@ -186,18 +186,18 @@ one_covered (Key k) m (Del l) h = by (bytes_eq l k)
     by true = inl refl
     by false = inl h
 
+abbrev Later : ℕ → Slot → List (Tagged (List ℕ) (List ℕ)) → Slots → Type 0
+Later g s xs n = (after n (of_group g xs) s ≡ None) ⊎ CoveredIn g s xs
+
 covered_in : (g : ℕ) (s : Slot) (xs : List (Tagged (List ℕ) (List ℕ))) (m : Slots) → m s ≡ None → (after m (of_group g xs) s ≡ None) ⊎ CoveredIn g s xs
 covered_in g s [] m h = inl h
 covered_in g s (x ∷ xs) m h = by (x.group == g) refl (λ n none. covered_in g s xs n none)
   where
-    abbrev Later : Slots → Type 0
-    Later n = (after n (of_group g xs) s ≡ None) ⊎ CoveredIn g s xs
-
-    later : (n : Slots) → Later n → (after n (of_group g xs) s ≡ None) ⊎ CoveredIn g s (x ∷ xs)
+    later : (n : Slots) → Later g s xs n → (after n (of_group g xs) s ≡ None) ⊎ CoveredIn g s (x ∷ xs)
     later n (inl none) = inl none
     later n (inr is) = inr (inr is)
 
-    by : (b : Bool) → (x.group == g) ≡ b → ((n : Slots) → n s ≡ None → Later n) → (after m (if b then x.item ∷ of_group g xs else of_group g xs) s ≡ None) ⊎ CoveredIn g s (x ∷ xs)
+    by : (b : Bool) → (x.group == g) ≡ b → ((n : Slots) → n s ≡ None → Later g s xs n) → (after m (if b then x.item ∷ of_group g xs else of_group g xs) s ≡ None) ⊎ CoveredIn g s (x ∷ xs)
     by true c more = elim (one_covered s m x.item h) [
       | inl none ↦ subst (λ (o : Option (Content (List ℕ) (List ℕ))). (o ≡ None) ⊎ CoveredIn g s (x ∷ xs)) (sym (after_append m (x.item ∷ []) (of_group g xs) s)) (later (after m (x.item ∷ [])) (more (after m (x.item ∷ [])) none))
       | inr covers ↦ inr (inl (from_eq_true x.group g c, covers))

@@ -1,2 +1,4 @@
+mod Asked
 mod Keeping
 mod Playing
+mod Stepping

@@ -8,12 +8,12 @@ use Rattle.raft_log_model_laws.specs.Meaning.Slot.{Index, Key}
 use Rattle.raft_log_model_laws.specs.Meaning.Content.{Entry, Value}
 use Rattle.raft_log_model_laws.specs.Groups.{taken}
 use Rattle.raft_log_world.specs.declared.event.Answer.{Answer}
-use Rattle.raft_log_world.specs.declared.event.Answer.TheVariants.{Done, Found, Entries, Keys, Refused, Failed, Idle}
+use Rattle.raft_log_world.specs.declared.event.Answer.TheVariants.{Done, Found, At, Entries, Keys, Refused, Failed, Idle}
 use Rattle.raft_log_world.specs.declared.event.Call.{Call}
-use Rattle.raft_log_world.specs.declared.event.Call.TheVariants.{Write, Sync, Get, GetEntry, Fetch, Scan, Compact, Purge}
+use Rattle.raft_log_world.specs.declared.event.Call.TheVariants.{Write, Sync, Get, GetEntry, FirstIndex, LastIndex, Fetch, Scan, Compact, Purge}
 use Rattle.raft_log_world.specs.declared.event.Event.{Event}
 use Rattle.raft_log_world.specs.declared.event.Event.TheVariants.{Open, Serve, Close, Crash, Arm}
-use Rattle.raft_log_world.specs.Reads.{Contents, Fetches, HasNone, Scans, all_bytes, bytes_of, pairs_of}
+use Rattle.raft_log_world.specs.Reads.{Contents, Fetches, HasNone, IsFirstIndex, IsLastIndex, Scans, all_bytes, bytes_of, pairs_of}
 
 -- the record that a batch is written as: what it changes, in which groups
 abbrev pub BatchRecord : Type 0
@@ -74,7 +74,7 @@ FailsAt m pending batch next = (next ≡ failed m pending) ⊎ (next ≡ failed 
 -- How an engine that runs answers a call, and what the log is then. Its contents are `m`, and `pending` are the pending
 -- batches. `says` gives the record of a batch.
 -- - A write that succeeds adds its batch, and a compaction its record. A sync, and a purge, make all batches durable.
--- - A read returns what the contents have after all batches.
+-- - A read returns what the contents have after all batches. A read of the first or last index doesn't fail.
 -- - If a call fails and the engine runs on, the call leaves no trace of its batch, and loses no other.
 -- - If the engine fails in a write, its batch may be written or not.
 abbrev pub Serves : {B : Type 0} → (B → BatchRecord) → Contents → List BatchRecord → Call B → Answer → ModelLog → Type 0
@@ -89,6 +89,10 @@ Serves says m pending (Get group key) Refused next = next ≡ running m pending
 Serves says m pending (GetEntry group index) (Found entry) next =
     (taken m pending group (Index index) ≡ option_map Entry (bytes_of entry)) × (next ≡ running m pending)
 Serves says m pending (GetEntry group index) Refused next = next ≡ running m pending
+Serves says m pending (FirstIndex group) (At index) next =
+    IsFirstIndex (taken m pending) group index × (next ≡ running m pending)
+Serves says m pending (LastIndex group) (At index) next =
+    IsLastIndex (taken m pending) group index × (next ≡ running m pending)
 Serves says m pending (Fetch group begin end max) (Entries entries) next =
     Fetches (taken m pending) group begin end max (all_bytes entries.items) × (next ≡ running m pending)
 Serves says m pending (Fetch group begin end max) Refused next = next ≡ running m pending

@@ -29,6 +29,17 @@ pairs_of pairs = map (λ pair. (pair.0.items, pair.1.items)) pairs
 abbrev pub HasNone : Contents → ℕ → ℕ → ℕ → Type 0
 HasNone m group begin end = (index : ℕ) → begin ≤ index → index < end → m group (Index index) ≡ None
 
+-- the first index at which the group has an entry, or none if it has no entry
+abbrev pub IsFirstIndex : Contents → ℕ → Option ℕ → Type 0
+IsFirstIndex m group None = (index : ℕ) → m group (Index index) ≡ None
+IsFirstIndex m group (Some first) = (m group (Index first) ≡ None → ⊥) × HasNone m group 0 first
+
+-- the last index at which the group has an entry, or none if it has no entry
+abbrev pub IsLastIndex : Contents → ℕ → Option ℕ → Type 0
+IsLastIndex m group None = (index : ℕ) → m group (Index index) ≡ None
+IsLastIndex m group (Some last) =
+    (m group (Index last) ≡ None → ⊥) × ((index : ℕ) → last < index → m group (Index index) ≡ None)
+
 -- from this index on, the group has these entries, one after another
 abbrev pub HasEntries : Contents → ℕ → ℕ → List (List ℕ) → Type 0
 HasEntries m group index [] = Unit {0}

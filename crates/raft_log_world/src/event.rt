@@ -26,6 +26,16 @@ pub enum Call<B> {
         /// The index.
         index: u64,
     },
+    /// Reads the first index at which a group has an entry.
+    FirstIndex {
+        /// The group.
+        group: u64,
+    },
+    /// Reads the last index at which a group has an entry.
+    LastIndex {
+        /// The group.
+        group: u64,
+    },
     /// Reads the entries of a group from an index on.
     Fetch {
         /// The group.
@@ -125,6 +135,8 @@ pub enum Answer {
     Done,
     /// A read returned the bytes, or nothing.
     Found(Option<Vec<u8>>),
+    /// A read returned this index, or none.
+    At(Option<u64>),
     /// A read returned these entries, one after another.
     Entries(Vec<Vec<u8>>),
     /// A read returned these keys, each with its value.

@@ -46,6 +46,16 @@ pub trait LogFiles<R, S, B, C>: Sized {
         ensures { Follows log (Storage.Open engine.old) (Event.Serve (Call.GetEntry group index)) result
             (Storage.Open engine.new) };
 
+    /// Reads the first index at which a group has an entry. Returns it, or none if the group has no entry.
+    fn first_index(engine: &mut S, group: u64) -> Answer
+        ensures { Follows log (Storage.Open engine.old) (Event.Serve (Call.FirstIndex group)) result
+            (Storage.Open engine.new) };
+
+    /// Reads the last index at which a group has an entry. Returns it, or none if the group has no entry.
+    fn last_index(engine: &mut S, group: u64) -> Answer
+        ensures { Follows log (Storage.Open engine.old) (Event.Serve (Call.LastIndex group)) result
+            (Storage.Open engine.new) };
+
     /// Reads the entries of a group from an index on, below another one, up to a greatest size in bytes. Returns them,
     /// or how the read failed.
     fn fetch(

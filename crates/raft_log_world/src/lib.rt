@@ -4,6 +4,7 @@
 mod event;
 mod files;
 pub mod laws;
+pub mod questions;
 mod report;
 mod storage;
 mod world;

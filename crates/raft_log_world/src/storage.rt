@@ -39,6 +39,8 @@ fn call_engine<R, S, B: Drop, C, F: LogFiles<R, S, B, C>>(
         Call::Sync => F::sync(engine, rt),
         Call::Get { group, key } => F::get(engine, group, key),
         Call::GetEntry { group, index } => F::get_entry(engine, group, index),
+        Call::FirstIndex { group } => F::first_index(engine, group),
+        Call::LastIndex { group } => F::last_index(engine, group),
         Call::Fetch {
             group,
             begin,

@@ -27,7 +27,7 @@ use Rattle.raft_log_memtable_index.specs.Shown.{Shown}
 use Rattle.raft_log_memtable.specs.Reads.{first_of}
 use Rattle.raft_log_engine.specs.raft_log_engine_laws.proofs.Reading.{tables_tell}
 use Rattle.raft_log_engine.specs.raft_log_engine_laws.proofs.Settling.{settled_held}
-use Rattle.raft_log_engine.specs.raft_log_engine_laws.specs.Reading.{IsFirstIn}
+use Rattle.raft_log_engine.specs.raft_log_engine_laws.specs.Reading.{IsFirstIn, IsLastIn, ReadsFirst, ReadsLast}
 use Rattle.raft_log_engine.specs.raft_log_engine_laws.specs.Settled.{HoldsSettled}
 use Rattle.raft_log_purge_copy.specs.Parts.{Remains}
 use Rattle.raft_log_engine.specs.raft_log_engine_laws.specs.EngineState.{LogDirectories, LogMap, EngineState, has_failed, said_of}
@@ -37,12 +37,12 @@ use Rattle.raft_log_engine.specs.raft_log_engine_laws.specs.Reading.{ReadsValue}
 use Rattle.raft_log_engine.specs.raft_log_engine_laws.specs.Syncing.{FailsToSyncAppend, NotSynced, SyncsAppend}
 use Rattle.raft_log_engine.specs.raft_log_engine_laws.specs.Writing.{Leaves, NotWritten, WritesBytes}
 use Rattle.raft_log_world.specs.declared.event.Answer.{Answer}
-use Rattle.raft_log_world.specs.declared.event.Answer.TheVariants.{Done, Found, Refused, Failed}
+use Rattle.raft_log_world.specs.declared.event.Answer.TheVariants.{Done, Found, At, Refused, Failed}
 use Rattle.raft_log_world.specs.declared.event.Call.{Call}
-use Rattle.raft_log_world.specs.declared.event.Call.TheVariants.{Compact, Write, Sync, Get, GetEntry, Purge as PurgeCall}
+use Rattle.raft_log_world.specs.declared.event.Call.TheVariants.{Compact, Write, Sync, Get, GetEntry, FirstIndex, LastIndex, Purge as PurgeCall}
 use Rattle.raft_log_world.specs.declared.event.Purge.{Purge}
 use Rattle.raft_log_world.specs.Model.{ModelLog, RunsOn, Serves, compacts}
-use Rattle.raft_log_world.specs.Reads.{bytes_of}
+use Rattle.raft_log_world.specs.Reads.{IsFirstIndex, IsLastIndex, bytes_of}
 use Rattle.raft_log_world.specs.Model.ModelLog.{running, failed}
 use Rattle.raft_log_world_engine.specs.Calls.{IsEngineLog, ServesAs, failure_of}
 use Rattle.raft_log_world_engine.proofs.Homes.{alive}
@@ -229,6 +229,35 @@ entry_not_found s t group index error (inr f) = record {
       let after = f.stays.holds home m pending h in
       refused (GetEntry group index) home m pending t (alive home t m pending after) (running m pending, refl, after);
   fails = λ fails. absurd (both s f.lived fails);
+}
+
+-- Reads of indexes.
+
+is_first : (m : LogMap) (group : ℕ) (index : Option ℕ) → IsFirstIn m group index → IsFirstIndex m group index
+is_first m group None none = none
+is_first m group (Some index) is = (is.0, λ i low high. is.1 i high)
+
+is_last : (m : LogMap) (group : ℕ) (index : Option ℕ) → IsLastIn m group index → IsLastIndex m group index
+is_last m group None none = none
+is_last m group (Some index) is = is
+
+pub first_read : (s : EngineState) (group : ℕ) (index : Option ℕ) → has_failed s ≡ false → ReadsFirst s group index → ServesAs s (FirstIndex group) (At index) s
+first_read s group index lives reads = record {
+  runs = λ home m pending h. (running m pending, (is_first (taken m pending) group index (reads.exact home m pending h), refl), h);
+  fails = λ fails. absurd (both s lives fails);
+}
+
+pub last_read : (s : EngineState) (group : ℕ) (index : Option ℕ) → has_failed s ≡ false → ReadsLast s group index → ServesAs s (LastIndex group) (At index) s
+last_read s group index lives reads = record {
+  runs = λ home m pending h. (running m pending, (is_last (taken m pending) group index (reads.exact home m pending h), refl), h);
+  fails = λ fails. absurd (both s lives fails);
+}
+
+-- only an engine that had failed fails such a read
+pub index_not_read : (call : Call Batch) (s : EngineState) → has_failed s ≡ true → ServesAs s call (failure_of (has_failed s)) s
+index_not_read call s fell = record {
+  runs = λ home m pending h. absurd (both s (alive home s m pending h) fell);
+  fails = λ fails. had_failed s s fails refl;
 }
 
 -- Compactions.

@@ -69,6 +69,28 @@ pub fn get_entry<P: PipeLog>(engine: &mut LogEngine<P>, group: u64, index: u64) 
     }
 }
 
+/// Reads the first index at which a group has an entry.
+pub fn first_index<P: PipeLog>(engine: &mut LogEngine<P>, group: u64) -> Answer
+    ensures { ServesAs (shows_of P.shown engine.old) (Call.FirstIndex group) result
+        (shows_of P.shown engine.new) }
+{
+    match engine.first_index(group) {
+        Ok(index) => Answer::At(index),
+        Err(_) => failure(engine.is_failed()),
+    }
+}
+
+/// Reads the last index at which a group has an entry.
+pub fn last_index<P: PipeLog>(engine: &mut LogEngine<P>, group: u64) -> Answer
+    ensures { ServesAs (shows_of P.shown engine.old) (Call.LastIndex group) result
+        (shows_of P.shown engine.new) }
+{
+    match engine.last_index(group) {
+        Ok(index) => Answer::At(index),
+        Err(_) => failure(engine.is_failed()),
+    }
+}
+
 /// Deletes the entries of a group below an index.
 pub fn compact<L: Log, P: PipeLog>(
     rt: &L,

@@ -104,6 +104,14 @@ impl<R: Log> LogFiles<R, OpenLog, LogBatch, Remainder> for ClosedLog {
         calls::get_entry(&mut engine.engine, group, index)
     }
 
+    fn first_index(engine: &mut OpenLog, group: u64) -> Answer {
+        calls::first_index(&mut engine.engine, group)
+    }
+
+    fn last_index(engine: &mut OpenLog, group: u64) -> Answer {
+        calls::last_index(&mut engine.engine, group)
+    }
+
     fn fetch(
         engine: &mut OpenLog,
         alloc: Global,

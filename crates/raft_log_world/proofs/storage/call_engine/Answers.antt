@@ -21,6 +21,14 @@ pub returns-in-GetEntry : goal.returns-in-GetEntry
 returns-in-GetEntry g c =
     subst (λ (call : Call g.row.B.Denot). Follows g.F.LogFiles.log (Open c.args.engine.now) (Serve call) c.get_entry.result (Open c.get_entry.new.engine)) (sym c.in-GetEntry.is) c.get_entry.ensures
 
+pub returns-in-FirstIndex : goal.returns-in-FirstIndex
+returns-in-FirstIndex g c =
+    subst (λ (call : Call g.row.B.Denot). Follows g.F.LogFiles.log (Open c.args.engine.now) (Serve call) c.first_index.result (Open c.first_index.new.engine)) (sym c.in-FirstIndex.is) c.first_index.ensures
+
+pub returns-in-LastIndex : goal.returns-in-LastIndex
+returns-in-LastIndex g c =
+    subst (λ (call : Call g.row.B.Denot). Follows g.F.LogFiles.log (Open c.args.engine.now) (Serve call) c.last_index.result (Open c.last_index.new.engine)) (sym c.in-LastIndex.is) c.last_index.ensures
+
 pub returns-in-Fetch : goal.returns-in-Fetch
 returns-in-Fetch g c =
     subst (λ (call : Call g.row.B.Denot). Follows g.F.LogFiles.log (Open c.args.engine.now) (Serve call) c.fetch.result (Open c.fetch.new.engine)) (sym c.in-Fetch.is) c.fetch.ensures

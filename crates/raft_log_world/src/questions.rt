@@ -1,0 +1,26 @@
+//! Questions of a user of a log, and the laws that answer them. A law is the contract of an empty function.
+ghost use Rattle.raft_log_world.specs.Questions.{BatchesAreWhole, FailedWritesLeaveNoTrace, PurgesKeepContents, SyncedBatchesAreKept};
+
+/// Is a synced batch ever lost? No. Once a write with a sync, a sync, a purge or a close succeeds, all batches before it
+/// and its own are in the contents, whatever happens. Only batches that are written later change these contents.
+pub fn synced_batches_are_kept<B, C>()
+    ensures { SyncedBatchesAreKept B C }
+{}
+
+/// Can half a batch be read? No. After any events the contents are the durable ones of the beginning, and then some of
+/// the batches that were pending or were written. They are in order, and each is there whole.
+pub fn batches_are_whole<B, C>()
+    ensures { BatchesAreWhole B C }
+{}
+
+/// What does a write leave that fails? If the engine runs on, nothing: the contents are those before it. If the engine
+/// fails, a later open may find the batch, whole and after all others, or not. The last few batches that weren't synced
+/// may be lost with it.
+pub fn failed_writes_leave_no_trace<B, C>()
+    ensures { FailedWritesLeaveNoTrace B C }
+{}
+
+/// What does a purge keep? All contents, whether it succeeds or fails.
+pub fn purges_keep_contents<B, C>()
+    ensures { PurgesKeepContents B C }
+{}

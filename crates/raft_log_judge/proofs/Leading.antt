@@ -1,31 +1,29 @@
 -- What the judge's candidates come to by an event.
-use Rattle.std.proofs.Common.{◌≡◌, ◌⊎◌, ◌↔◌, Bool, true, false, List, [], ◌∷◌, ◌++◌, map, inl, inr, append-nil, append_assoc, ap, refl, sym, subst, ◌∙◌}
+use Rattle.std.proofs.Common.{◌≡◌, ◌⊎◌, ◌↔◌, true, false, List, [], ◌∷◌, ◌++◌, inl, inr, ap, refl, sym, subst, ◌∙◌}
 use Rattle.raft_log_model_laws.specs.Groups.{taken}
 use Rattle.raft_log_world.specs.declared.event.Answer.{Answer}
-use Rattle.raft_log_world.specs.declared.event.Answer.TheVariants.{Done, Found, Entries, Keys, Refused, Failed, Idle}
+use Rattle.raft_log_world.specs.declared.event.Answer.TheVariants.{Done, Found, At, Entries, Keys, Refused, Failed, Idle}
 use Rattle.raft_log_world.specs.declared.event.Call.{Call}
-use Rattle.raft_log_world.specs.declared.event.Call.TheVariants.{Write, Sync, Get, GetEntry, Fetch, Scan, Compact, Purge}
+use Rattle.raft_log_world.specs.declared.event.Call.TheVariants.{Write, Sync, Get, GetEntry, FirstIndex, LastIndex, Fetch, Scan, Compact, Purge}
 use Rattle.raft_log_world.specs.declared.event.Event.{Event}
 use Rattle.raft_log_world.specs.declared.event.Event.TheVariants.{Open, Serve, Close, Crash, Arm}
 use Rattle.raft_log_world.specs.Model.{BatchRecord, ModelLog}
-use Rattle.raft_log_world.specs.Model.ModelLog.{resting, running}
+use Rattle.raft_log_world.specs.Model.ModelLog.{running}
 use Rattle.raft_log_world.specs.Explained.{Explains}
 use Rattle.raft_log_world.specs.Reads.{Contents}
-use Rattle.raft_log_judge.specs.declared.candidate.Candidate.{Candidate}
 use Rattle.raft_log_judge.specs.declared.change.Change.{Change}
 use Rattle.raft_log_judge.specs.declared.outcome.Outcome.{Outcome}
 use Rattle.raft_log_judge.specs.declared.outcome.Outcome.TheVariants.{Adds, Never, Opens, Reads, Turns}
 use Rattle.raft_log_judge.specs.declared.outcome.Standing.{Standing}
 use Rattle.raft_log_judge.specs.declared.outcome.Standing.TheVariants.{Broken, Closed, Running}
-use Rattle.raft_log_judge.specs.Candidates.{AddsLogs, AddsNexts, durable_of, log_of, opened_logs, pending_of, standing_log, turned}
+use Rattle.raft_log_judge.specs.Candidates.{opened_logs, standing_log}
 use Rattle.raft_log_judge.specs.Changes.{says_of}
-use Rattle.raft_log_judge.specs.Judging.{IsExplained, no_contents}
-use Rattle.raft_log_judge.specs.Views.{AnyFits, AnyGoes, Fits, Goes, IsRead, LeadTo, Moves, Reaches, Sees, Turned, View, batch_of, call_outcome, outcome, seen}
-use Rattle.raft_log_judge.proofs.Viewing.{Moving, Turning, all_reached, durable_view, explained_goes, goes_explained, grown, grown_view, moving, one_more, only_reached, settled, sees, standing_of_seen, taken_twice, turning, whole}
+use Rattle.raft_log_judge.specs.Views.{AnyFits, AnyGoes, Fits, IsRead, LeadTo, Moves, Reaches, Sees, Turned, View, batch_of, call_outcome, outcome, seen}
+use Rattle.raft_log_judge.proofs.Viewing.{Turning, all_reached, durable_view, explained_goes, goes_explained, grown, grown_view, moving, one_more, only_reached, settled, sees, taken_twice, turning, whole}
 
 -- Which standings an outcome is for.
 
-abbrev Allowed : Standing → Outcome → Type 0
+abbrev pub Allowed : Standing → Outcome → Type 0
 Allowed standing (Turns to false) = (now kept : Contents) → seen to (seen standing now kept).now (seen standing now kept).kept ≡ seen to now kept
 Allowed standing (Turns to true) = standing ≡ Running
 Allowed standing (Adds to settles) = standing ≡ Running
@@ -48,6 +46,8 @@ allowed_call (Get group key) (Found value) = refl
 allowed_call (Get group key) Refused = λ now kept. refl
 allowed_call (GetEntry group index) (Found entry) = refl
 allowed_call (GetEntry group index) Refused = λ now kept. refl
+allowed_call (FirstIndex group) (At index) = refl
+allowed_call (LastIndex group) (At index) = refl
 allowed_call (Fetch group begin end max) (Entries entries) = refl
 allowed_call (Fetch group begin end max) Refused = λ now kept. refl
 allowed_call (Scan group start end) (Keys pairs) = refl
@@ -86,7 +86,7 @@ to_sees Closed m pending view f = f
 to_sees Running m pending view f = f
 to_sees Broken m pending view f = f
 
-of_sees : (standing : Standing) (m : Contents) (pending : List BatchRecord) (view : View) → Sees standing m pending view → Fits (standing_log standing m pending) view
+pub of_sees : (standing : Standing) (m : Contents) (pending : List BatchRecord) (view : View) → Sees standing m pending view → Fits (standing_log standing m pending) view
 of_sees Closed m pending view s = s
 of_sees Running m pending view s = s
 of_sees Broken m pending view s = s
@@ -272,14 +272,3 @@ explained_as log events answers = (
   λ found. goes_explained says_of log found.0 events answers (only log found.0 found.1) found.2,
   λ found. (let from = explained_goes says_of log events answers found.0 found.1 in (from.0, inl from.1, from.2)),
 )
-
--- At the end.
-
-pub some_goes : (C : Type 0) (c : Candidate) (cs : List Candidate) → AnyGoes {C = C} says_of (map log_of (c ∷ cs)) [] []
-some_goes C c cs =
-    let m = durable_of c in
-    let p = pending_of c in
-    (seen c.standing (taken m p) (taken m p), inl (of_sees c.standing m p _ (sees c.standing m p (taken m p) (all_reached m p))), tt)
-
-pub none_goes : (C : Type 0) → AnyGoes {C = C} says_of [] [] [] → ⊥
-none_goes C found = found.1

@@ -1,6 +1,8 @@
 -- What the judge reads of slots is what the contents have; and what contents have was written.
-use Rattle.std.proofs.Common.{◌≡◌, ◌⊎◌, ◌↔◌, ◌≤◌, ◌<◌, ◌-◌, ◌+◌, ℕ, zero, suc, Bool, true, false, List, [], ◌∷◌, ◌++◌, length, map, Option, None, Some, unwrap_or, inl, inr, append-nil, ap, refl, sym, subst, ◌∙◌, arith, if◌then◌else◌, ◌==◌, nat_lt, nat_le, not, option_map, slice_get, bytes_eq}
+use Rattle.std.proofs.Common.{◌≡◌, ◌⊎◌, ◌↔◌, ◌≤◌, ◌<◌, ◌-◌, ◌+◌, ℕ, suc, Bool, true, false, List, [], ◌∷◌, length, map, drop, get_or, Option, None, Some, unwrap_or, inl, inr, append-nil, ap, refl, sym, subst, ◌∙◌, arith, if◌then◌else◌, ◌==◌, nat_lt, nat_le, option_map, slice_get, bytes_eq}
+use Rattle.std.specs.Global.{Vec}
 use Rattle.std.specs.Prelude.{◌||◌}
+use Rattle.std.proofs.lemmas.List.{drop_more}
 use Rattle.std.proofs.lemmas.Option.{slice_get_cases}
 use Rattle.std.proofs.lemmas.Slice.Eq.{bytes_eq-Decides}
 use Rattle.raft_log_model_laws.specs.Item.{Item, Tagged}
@@ -9,12 +11,12 @@ use Rattle.raft_log_model_laws.specs.Groups.{of_group, taken}
 use Rattle.raft_log_model_laws.specs.Meaning.{Content, Slot, after, write}
 use Rattle.raft_log_model_laws.specs.Meaning.Slot.{Index, Key}
 use Rattle.raft_log_model_laws.specs.Meaning.Content.{Entry, Value}
-use Rattle.raft_log_model_laws.proofs.Cases.{eq_false, from_eq_true, from_le_false, from_le_true, from_lt_false, from_lt_true, if_false, if_true, le_false, le_true}
+use Rattle.raft_log_model_laws.proofs.Cases.{eq_false, from_eq_true, from_le_true, from_lt_false, from_lt_true, if_false, if_true, le_false, le_true}
 use Rattle.raft_log_model_laws.proofs.Words.{after_append}
-use Rattle.raft_log_world.specs.Reads.{Contents, HasNone}
+use Rattle.raft_log_world.specs.Reads.{Contents, HasNone, all_bytes}
 use Rattle.raft_log_judge.specs.declared.change.Change.{Change}
 use Rattle.raft_log_judge.specs.Changes.{says_of, tagged}
-use Rattle.raft_log_judge.specs.Contents.{AllGone, IsGone, after_all}
+use Rattle.raft_log_judge.specs.Contents.{AllGone, IsBefore, IsGone, NoneIn, after_all}
 use Rattle.raft_log_judge.specs.Folds.{entry_step, folded, folded_all, in_group, is_same, value_step}
 use Rattle.raft_log_judge.specs.Judging.{no_contents}
 use Rattle.raft_log_judge.proofs.Viewing.{taken_twice}
@@ -55,13 +57,22 @@ one_value a b is = cc
 
 -- flags
 
-pub from_not : (b : Bool) → not b ≡ false → b ≡ true
-from_not true is = refl
-from_not false is = absurd (let never : ⊥ = cc in never)
+pub to_not : (b : Bool) → b ≡ false → b ≡ true → ⊥
+to_not b off on = let same : false ≡ true = sym off ∙ on in let never : ⊥ = cc in never
 
-pub to_not : (b : Bool) → not b ≡ true → b ≡ true → ⊥
-to_not true is yes = cc
-to_not false is yes = cc
+-- Lists.
+
+-- the element at an index, and those after it
+pub first_left : {X : Type 0} (xs : List X) (i : ℕ) (d x : X) → i < length xs → x ≡ get_or xs i d → drop i xs ≡ x ∷ drop (i + 1) xs
+first_left {X} xs i d x lt is = drop_more xs i d lt ∙ ap (λ (y : X). y ∷ drop (i + 1) xs) (sym is)
+
+pub empty_list : {X : Type 0} (xs : List X) → length xs ≡ 0 → xs ≡ []
+empty_list [] is = refl
+empty_list (x ∷ xs) is = absurd (let never : ⊥ = omega (arith, is) in never)
+
+pub length_bytes : (entries : List (Vec ℕ)) → length (all_bytes entries) ≡ length entries
+length_bytes [] = refl
+length_bytes (e ∷ es) = ap suc (length_bytes es)
 
 -- Steps.
 
@@ -222,23 +233,36 @@ covered g s batches = covered_all g s batches no_contents refl
 
 -- Entries that are gone.
 
-abbrev pub GoneAll : Contents → ℕ → ℕ → ℕ → List (List Change) → Type 0
+-- the entries of a run within the bounds, by one range of indexes
+pub gone_between : (m : Contents) (g begin : ℕ) (end : Option ℕ) (first count low high : ℕ) (entries : List (List ℕ)) → count ≡ length entries → begin ≤ low → first ≤ low → (low ≡ begin) ⊎ (low ≡ first)
+    → ((i : ℕ) → i < high → (i < first + count) × IsBefore end i) → ((i : ℕ) → i < first + count → IsBefore end i → i < high)
+    → HasNone m g low high ↔ IsGone m g begin end (Run first entries)
+gone_between m g begin end first count low high entries counted above from which below all = (
+  λ none i b before f past. none i (lowest i b f which) (all i (omega (arith, counted, past)) before),
+  λ gone i l h. (let lower = below i h in let less = lower.0 in gone i (omega (arith, above, l)) lower.1 (omega (arith, from, l)) (omega (arith, less, counted))),
+)
+  where
+    lowest : (i : ℕ) → begin ≤ i → first ≤ i → (low ≡ begin) ⊎ (low ≡ first) → low ≤ i
+    lowest i b f (inl is) = omega (arith, is, b)
+    lowest i b f (inr is) = omega (arith, is, f)
+
+abbrev pub GoneAll : Contents → ℕ → ℕ → Option ℕ → List (List Change) → Type 0
 GoneAll m g begin end [] = Unit {0}
 GoneAll m g begin end (batch ∷ batches) = AllGone m g begin end (map tagged batch) × GoneAll m g begin end batches
 
-module _ (m : Contents) (g begin end : ℕ) where
-  item_gone : (x : Item (List ℕ) (List ℕ)) → HasNone m g begin end → IsGone m g begin end x
+module _ (m : Contents) (g begin : ℕ) (end : Option ℕ) where
+  item_gone : (x : Item (List ℕ) (List ℕ)) → NoneIn m g begin end → IsGone m g begin end x
   item_gone (Run f es) none = λ i low high from below. none i low high
   item_gone Clean none = tt
   item_gone (Compact c) none = tt
   item_gone (Put k v) none = tt
   item_gone (Del k) none = tt
 
-  pub all_gone : (xs : List (Tagged (List ℕ) (List ℕ))) → HasNone m g begin end → AllGone m g begin end xs
+  pub all_gone : (xs : List (Tagged (List ℕ) (List ℕ))) → NoneIn m g begin end → AllGone m g begin end xs
   all_gone [] none = tt
   all_gone (x ∷ xs) none = (λ same. item_gone x.item none, all_gone xs none)
 
-  module _ (i : ℕ) (low : begin ≤ i) (high : i < end) where
+  module _ (i : ℕ) (low : begin ≤ i) (high : IsBefore end i) where
     item_at : (x : Item (List ℕ) (List ℕ)) → IsGone m g begin end x → Covers (Index i) x → m g (Index i) ≡ None
     item_at (Run f es) gone covers = gone i low high covers.0 covers.1
     item_at Clean gone covers = absurd covers
@@ -256,7 +280,7 @@ module _ (m : Contents) (g begin end : ℕ) where
     gone_all (batch ∷ batches) gone (inl is) = gone_in (map tagged batch) gone.0 is
     gone_all (batch ∷ batches) gone (inr is) = gone_all batches gone.1 is
 
-pub none_left : (batches : List (List Change)) (g begin end : ℕ) → GoneAll (after_all batches) g begin end batches → HasNone (after_all batches) g begin end
+pub none_left : (batches : List (List Change)) (g begin : ℕ) (end : Option ℕ) → GoneAll (after_all batches) g begin end batches → NoneIn (after_all batches) g begin end
 none_left batches g begin end gone i low high = elim (covered g (Index i) batches) [
   | inl none ↦ none
   | inr is ↦ gone_all (after_all batches) g begin end i low high batches gone is

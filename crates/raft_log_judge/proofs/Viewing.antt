@@ -1,29 +1,28 @@
 -- The answers of the model, by views of its logs.
-use Rattle.std.proofs.Common.{◌≡◌, ◌⊎◌, ◌↔◌, ◌≤◌, ◌<◌, ◌-◌, ◌+◌, ℕ, zero, suc, Bool, true, false, List, [], ◌∷◌, ◌++◌, length, take, drop, Option, None, Some, unwrap_or, inl, inr, append_assoc, append-nil, ap, refl, sym, subst, ◌∙◌, arith, if◌then◌else◌, ◌==◌, nat_lt, option_map}
+use Rattle.std.proofs.Common.{◌≡◌, ◌⊎◌, ◌≤◌, ◌<◌, ℕ, zero, suc, Bool, true, false, List, [], ◌∷◌, ◌++◌, length, take, drop, None, Some, unwrap_or, inl, inr, append_assoc, append-nil, ap, refl, sym, subst, ◌∙◌, arith, if◌then◌else◌, ◌==◌, nat_lt}
 use Rattle.std.proofs.Math.Path.{fun_ext}
-use Rattle.std.specs.Option.{option_or}
-use Rattle.raft_log_model_laws.specs.Item.{Item, Tagged, items_of}
+use Rattle.raft_log_model_laws.specs.Item.{Tagged, items_of}
 use Rattle.raft_log_model_laws.specs.Item.Item.{Compact as CompactItem}
 use Rattle.raft_log_model_laws.specs.Item.Record.{Plain, Part}
-use Rattle.raft_log_model_laws.specs.Groups.{appended, of_group, taken}
-use Rattle.raft_log_model_laws.specs.Meaning.{Content, Slot, after, says as says_item, write}
+use Rattle.raft_log_model_laws.specs.Groups.{of_group, taken}
+use Rattle.raft_log_model_laws.specs.Meaning.{Slot, after, write}
 use Rattle.raft_log_model_laws.specs.Meaning.Slot.{Index, Key}
 use Rattle.raft_log_model_laws.proofs.Steps.{taken_append}
 use Rattle.raft_log_world.specs.declared.event.Answer.{Answer}
-use Rattle.raft_log_world.specs.declared.event.Answer.TheVariants.{Done, Found, Entries, Keys, Refused, Failed, Idle}
+use Rattle.raft_log_world.specs.declared.event.Answer.TheVariants.{Done, Found, At, Entries, Keys, Refused, Failed, Idle}
 use Rattle.raft_log_world.specs.declared.event.Call.{Call}
-use Rattle.raft_log_world.specs.declared.event.Call.TheVariants.{Write, Sync, Get, GetEntry, Fetch, Scan, Compact, Purge}
+use Rattle.raft_log_world.specs.declared.event.Call.TheVariants.{Write, Sync, Get, GetEntry, FirstIndex, LastIndex, Fetch, Scan, Compact, Purge}
 use Rattle.raft_log_world.specs.declared.event.Event.{Event}
 use Rattle.raft_log_world.specs.declared.event.Event.TheVariants.{Open, Serve, Close, Crash, Arm}
 use Rattle.raft_log_world.specs.Explained.{Explains}
-use Rattle.raft_log_world.specs.Model.{Adds as AddsBatch, Answers, BatchRecord, Compacts, FailsAt, HasWritten, LosesSome, ModelLog, RunsOn, Serves, compacts}
+use Rattle.raft_log_world.specs.Model.{Adds as AddsBatch, Answers, BatchRecord, FailsAt, LosesSome, ModelLog, RunsOn, Serves, compacts}
 use Rattle.raft_log_world.specs.Model.ModelLog.{resting, left, running, failed}
 use Rattle.raft_log_world.specs.Reads.{Contents, HasNone}
 use Rattle.raft_log_judge.specs.declared.outcome.Outcome.{Outcome}
-use Rattle.raft_log_judge.specs.declared.outcome.Outcome.TheVariants.{Adds, Never, Opens, Reads, Turns}
+use Rattle.raft_log_judge.specs.declared.outcome.Outcome.TheVariants.{Adds, Opens, Reads, Turns}
 use Rattle.raft_log_judge.specs.declared.outcome.Standing.{Standing}
 use Rattle.raft_log_judge.specs.declared.outcome.Standing.TheVariants.{Broken, Closed, Running}
-use Rattle.raft_log_judge.specs.Views.{AnyFits, Fits, Goes, LeadTo, Moves, Reaches, Sees, Turned, View, outcome, seen, batch_of, IsRead}
+use Rattle.raft_log_judge.specs.Views.{Fits, Goes, Moves, Reaches, Sees, Turned, View, outcome, seen, batch_of, IsRead}
 
 -- Contents after batches.
 
@@ -335,6 +334,8 @@ module _ {B : Type 0} (C : Type 0) (says : B → BatchRecord) where
   served m pending (Get group key) Refused fin next is f = moving {C = C} says Running m pending (Serve (Get group key)) Refused (Turns Running false) next refl (same_so m pending fin next is f)
   served m pending (GetEntry group index) (Found value) fin next is f = moving {C = C} says Running m pending (Serve (GetEntry group index)) (Found value) Reads next refl (read_so m pending (λ (n : Contents). IsRead {B = B} {C = C} n (Serve (GetEntry group index)) (Found value)) fin next is f)
   served m pending (GetEntry group index) Refused fin next is f = moving {C = C} says Running m pending (Serve (GetEntry group index)) Refused (Turns Running false) next refl (same_so m pending fin next is f)
+  served m pending (FirstIndex group) (At index) fin next is f = moving {C = C} says Running m pending (Serve (FirstIndex group)) (At index) Reads next refl (read_so m pending (λ (n : Contents). IsRead {B = B} {C = C} n (Serve (FirstIndex group)) (At index)) fin next is f)
+  served m pending (LastIndex group) (At index) fin next is f = moving {C = C} says Running m pending (Serve (LastIndex group)) (At index) Reads next refl (read_so m pending (λ (n : Contents). IsRead {B = B} {C = C} n (Serve (LastIndex group)) (At index)) fin next is f)
   served m pending (Fetch group begin end max) (Entries entries) fin next is f = moving {C = C} says Running m pending (Serve (Fetch group begin end max)) (Entries entries) Reads next refl (read_so m pending (λ (n : Contents). IsRead {B = B} {C = C} n (Serve (Fetch group begin end max)) (Entries entries)) fin next is f)
   served m pending (Fetch group begin end max) Refused fin next is f = moving {C = C} says Running m pending (Serve (Fetch group begin end max)) Refused (Turns Running false) next refl (same_so m pending fin next is f)
   served m pending (Scan group start end) (Keys pairs) fin next is f = moving {C = C} says Running m pending (Serve (Scan group start end)) (Keys pairs) Reads next refl (read_so m pending (λ (n : Contents). IsRead {B = B} {C = C} n (Serve (Scan group start end)) (Keys pairs)) fin next is f)
@@ -364,6 +365,8 @@ module _ {B : Type 0} (C : Type 0) (says : B → BatchRecord) where
   real_call m pending (Get group key) Refused kept r next t = (running m pending, refl, shown_view m pending Running kept next r t)
   real_call m pending (GetEntry group index) (Found value) kept r next t = (running m pending, (t.0, refl), shown_view m pending Running kept next r t.1)
   real_call m pending (GetEntry group index) Refused kept r next t = (running m pending, refl, shown_view m pending Running kept next r t)
+  real_call m pending (FirstIndex group) (At index) kept r next t = (running m pending, (t.0, refl), shown_view m pending Running kept next r t.1)
+  real_call m pending (LastIndex group) (At index) kept r next t = (running m pending, (t.0, refl), shown_view m pending Running kept next r t.1)
   real_call m pending (Fetch group begin end max) (Entries entries) kept r next t = (running m pending, (t.0, refl), shown_view m pending Running kept next r t.1)
   real_call m pending (Fetch group begin end max) Refused kept r next t = (running m pending, refl, shown_view m pending Running kept next r t)
   real_call m pending (Scan group start end) (Keys pairs) kept r next t = (running m pending, (t.0, refl), shown_view m pending Running kept next r t.1)

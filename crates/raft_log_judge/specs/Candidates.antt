@@ -1,5 +1,5 @@
 -- The logs that the judge keeps.
-use Rattle.std.specs.Prelude.{◌≡◌, ◌++◌, ℕ, Bool, true, false, List, [], ◌∷◌, drop, map, take}
+use Rattle.std.specs.Prelude.{◌≡◌, ◌++◌, Bool, true, false, List, [], ◌∷◌, drop, map, take}
 use Rattle.raft_log_model_laws.specs.Groups.{taken}
 use Rattle.raft_log_world.specs.declared.event.Answer.{Answer}
 use Rattle.raft_log_world.specs.declared.event.Event.{Event}

@@ -1,5 +1,5 @@
 -- The contents after batches.
-use Rattle.std.specs.Prelude.{◌≡◌, ◌≤◌, ◌<◌, ◌+◌, ◌⊎◌, ◌&&◌, ℕ, Bool, true, List, [], ◌∷◌, Option, None, length, map, bytes_eq, is_some}
+use Rattle.std.specs.Prelude.{◌≡◌, ◌≤◌, ◌<◌, ◌+◌, ◌⊎◌, ◌&&◌, ℕ, true, List, [], ◌∷◌, Option, Some, None, length, map, bytes_eq, is_some}
 use Rattle.std.specs.Map.{lookup}
 use Rattle.raft_log_model_laws.specs.Item.{Item, Tagged}
 use Rattle.raft_log_model_laws.specs.Item.Item.{Run, Put}
@@ -18,14 +18,23 @@ after_all batches = taken no_contents (map says_of batches)
 abbrev pub HasAll : Contents → ℕ → ℕ → ℕ → Type 0
 HasAll m group begin end = (index : ℕ) → begin ≤ index → index < end → m group (Index index) ≡ None → ⊥
 
--- the entries of the group that this item wrote from `begin` on, below `end`, are gone
-abbrev pub IsGone : Contents → ℕ → ℕ → ℕ → Item (List ℕ) (List ℕ) → Type 0
-IsGone m group begin end (Run first entries) = (index : ℕ) → begin ≤ index → index < end → first ≤ index
+-- the index is below this end, if there is one
+abbrev pub IsBefore : Option ℕ → ℕ → Type 0
+IsBefore None index = Unit {0}
+IsBefore (Some end) index = index < end
+
+-- the group has no entry from `begin` on, below `end` if there is one
+abbrev pub NoneIn : Contents → ℕ → ℕ → Option ℕ → Type 0
+NoneIn m group begin end = (index : ℕ) → begin ≤ index → IsBefore end index → m group (Index index) ≡ None
+
+-- the entries of the group that this item wrote from `begin` on, below `end` if there is one, are gone
+abbrev pub IsGone : Contents → ℕ → ℕ → Option ℕ → Item (List ℕ) (List ℕ) → Type 0
+IsGone m group begin end (Run first entries) = (index : ℕ) → begin ≤ index → IsBefore end index → first ≤ index
     → index < first + length entries → m group (Index index) ≡ None
 IsGone m group begin end item = Unit {0}
 
--- all entries of the group that these items wrote from `begin` on, below `end`, are gone
-abbrev pub AllGone : Contents → ℕ → ℕ → ℕ → List (Tagged (List ℕ) (List ℕ)) → Type 0
+-- all entries of the group that these items wrote within these bounds are gone
+abbrev pub AllGone : Contents → ℕ → ℕ → Option ℕ → List (Tagged (List ℕ) (List ℕ)) → Type 0
 AllGone m group begin end [] = Unit {0}
 AllGone m group begin end (x ∷ xs) = (x.group ≡ group → IsGone m group begin end x.item) × AllGone m group begin end xs
 

@@ -1,18 +1,18 @@
 -- Views of a log: what its readers see, and what a crash may leave. They decide which answers are possible.
-use Rattle.std.specs.Prelude.{◌≡◌, ◌⊎◌, ◌↔◌, Bool, true, false, List, [], ◌∷◌, ◌++◌, option_map}
+use Rattle.std.specs.Prelude.{◌≡◌, ◌⊎◌, ◌↔◌, true, false, List, [], ◌∷◌, ◌++◌, option_map}
 use Rattle.raft_log_model_laws.specs.Item.Record.{Plain}
 use Rattle.raft_log_model_laws.specs.Groups.{taken}
 use Rattle.raft_log_model_laws.specs.Meaning.Slot.{Index, Key}
 use Rattle.raft_log_model_laws.specs.Meaning.Content.{Entry, Value}
 use Rattle.raft_log_world.specs.declared.event.Answer.{Answer}
-use Rattle.raft_log_world.specs.declared.event.Answer.TheVariants.{Done, Found, Entries, Keys, Refused, Failed, Idle}
+use Rattle.raft_log_world.specs.declared.event.Answer.TheVariants.{Done, Found, At, Entries, Keys, Refused, Failed, Idle}
 use Rattle.raft_log_world.specs.declared.event.Call.{Call}
-use Rattle.raft_log_world.specs.declared.event.Call.TheVariants.{Write, Sync, Get, GetEntry, Fetch, Scan, Compact, Purge}
+use Rattle.raft_log_world.specs.declared.event.Call.TheVariants.{Write, Sync, Get, GetEntry, FirstIndex, LastIndex, Fetch, Scan, Compact, Purge}
 use Rattle.raft_log_world.specs.declared.event.Event.{Event}
 use Rattle.raft_log_world.specs.declared.event.Event.TheVariants.{Open, Serve, Close, Crash, Arm}
 use Rattle.raft_log_world.specs.Model.{BatchRecord, ModelLog, compacts}
 use Rattle.raft_log_world.specs.Model.ModelLog.{resting, left, running, failed}
-use Rattle.raft_log_world.specs.Reads.{Contents, Fetches, Scans, all_bytes, bytes_of, pairs_of}
+use Rattle.raft_log_world.specs.Reads.{Contents, Fetches, IsFirstIndex, IsLastIndex, Scans, all_bytes, bytes_of, pairs_of}
 use Rattle.raft_log_judge.specs.declared.outcome.Outcome.{Outcome}
 use Rattle.raft_log_judge.specs.declared.outcome.Outcome.TheVariants.{Adds, Never, Opens, Reads, Turns}
 use Rattle.raft_log_judge.specs.declared.outcome.Standing.{Standing}
@@ -70,6 +70,8 @@ call_outcome (Get group key) (Found value) = Reads
 call_outcome (Get group key) Refused = Turns Running false
 call_outcome (GetEntry group index) (Found entry) = Reads
 call_outcome (GetEntry group index) Refused = Turns Running false
+call_outcome (FirstIndex group) (At index) = Reads
+call_outcome (LastIndex group) (At index) = Reads
 call_outcome (Fetch group begin end max) (Entries entries) = Reads
 call_outcome (Fetch group begin end max) Refused = Turns Running false
 call_outcome (Scan group start end) (Keys pairs) = Reads
@@ -112,6 +114,8 @@ batch_of says event = Plain []
 abbrev pub IsRead : {B C : Type 0} → Contents → Event B C → Answer → Type 0
 IsRead m (Serve (Get group key)) (Found value) = m group (Key key.items) ≡ option_map Value (bytes_of value)
 IsRead m (Serve (GetEntry group index)) (Found entry) = m group (Index index) ≡ option_map Entry (bytes_of entry)
+IsRead m (Serve (FirstIndex group)) (At index) = IsFirstIndex m group index
+IsRead m (Serve (LastIndex group)) (At index) = IsLastIndex m group index
 IsRead m (Serve (Fetch group begin end max)) (Entries entries) =
     Fetches m group begin end max (all_bytes entries.items)
 IsRead m (Serve (Scan group start end)) (Keys pairs) =

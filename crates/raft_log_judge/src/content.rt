@@ -7,7 +7,7 @@ use crate::change::{Batch, Change, ChangeKind};
 use raft_lists::Bytes;
 
 /// Whether the entry of a group at an index has these bytes after all batches, or there is none if `some` is false.
-pub fn is_entry(batches: &[Batch], group: u64, index: u64, some: bool, bytes: &[u8]) -> bool
+pub fn is_entry(batches: &[Batch], group: u64, index: u128, some: bool, bytes: &[u8]) -> bool
     ensures { result ≡ folded_all (in_group group (entry_step index (wanted some bytes.now)))
         (is_same None (wanted some bytes.now)) batches.now }
 {
@@ -22,7 +22,7 @@ pub fn is_entry(batches: &[Batch], group: u64, index: u64, some: bool, bytes: &[
 fn entry_after(
     changes: &[Change],
     group: u64,
-    index: u64,
+    index: u128,
     some: bool,
     bytes: &[u8],
     before: bool,
@@ -40,19 +40,19 @@ fn entry_after(
 }
 
 /// Whether that is so after one change of the group.
-fn entry_step(kind: &ChangeKind, index: u64, some: bool, bytes: &[u8], before: bool) -> bool
+fn entry_step(kind: &ChangeKind, index: u128, some: bool, bytes: &[u8], before: bool) -> bool
     ensures { result ≡ entry_step index (wanted some bytes.now) before (item_of kind.now) }
 {
     match kind {
         ChangeKind::Entries { first, entries } => {
-            if entries.is_empty() || index < *first {
+            if entries.is_empty() || index < *first as u128 {
                 return before;
             }
-            is_at(entries.as_slice(), (index - *first) as usize, some, bytes)
+            is_at(entries.as_slice(), index - *first as u128, some, bytes)
         }
         ChangeKind::Clean => is_none(some, bytes),
         ChangeKind::Compact { index: end } => {
-            if index < *end {
+            if index < *end as u128 {
                 return is_none(some, bytes);
             }
             before
@@ -63,10 +63,13 @@ fn entry_step(kind: &ChangeKind, index: u64, some: bool, bytes: &[u8], before: b
 }
 
 /// Whether the entry at a place of a list has these bytes, or there is none if `some` is false.
-fn is_at(entries: &[Bytes], place: usize, some: bool, bytes: &[u8]) -> bool
+fn is_at(entries: &[Bytes], place: u128, some: bool, bytes: &[u8]) -> bool
     ensures { result ≡ is_same (slice_get entries.now place) (wanted some bytes.now) }
 {
-    match entries.get(place) {
+    if place >= entries.len() as u128 {
+        return is_none(some, bytes);
+    }
+    match entries.get(place as usize) {
         Some(entry) => is_some(entry.as_slice(), some, bytes),
         None => is_none(some, bytes),
     }

@@ -83,9 +83,12 @@ fn call_outcome<B>(call: &Call<B>, answer: &Answer) -> Outcome
         (Call::Purge(_), Answer::Refused) => turns(Standing::Running, true),
         (Call::Sync | Call::Purge(_), Answer::Failed) => turns(Standing::Broken, false),
         (Call::Get { .. } | Call::GetEntry { .. }, Answer::Found(_)) => Outcome::Reads,
+        (Call::FirstIndex { .. } | Call::LastIndex { .. }, Answer::At(_)) => Outcome::Reads,
         (Call::Fetch { .. }, Answer::Entries(_)) => Outcome::Reads,
         (Call::Scan { .. }, Answer::Keys(_)) => Outcome::Reads,
-        (Call::Sync, Answer::Refused) => Outcome::Never,
+        (Call::Sync | Call::FirstIndex { .. } | Call::LastIndex { .. }, Answer::Refused) => {
+            Outcome::Never
+        }
         (_, Answer::Refused) => turns(Standing::Running, false),
         _ => Outcome::Never,
     }

@@ -1,10 +1,20 @@
 //! Whether a read returned what a log has.
-ghost use Rattle.std.specs.Prelude.{◌≡◌, ◌↔◌, ◌+◌, ◌<◌, ◌≤◌, ◌^◌, IsTrue, None, Some, length, map, option_map};
+ghost use Rattle.std.specs.Prelude.{◌≡◌, ◌↔◌, ◌+◌, ◌<◌, ◌≤◌, ◌^◌, ℕ, IsTrue, None, Some, length, map, option_map};
 ghost use Rattle.raft_log_model_laws.specs.Meaning.Slot.{Index, Key};
 ghost use Rattle.raft_log_model_laws.specs.Meaning.Content.{Entry, Value};
-ghost use Rattle.raft_log_world.specs.Reads.{all_bytes, bytes_of, AreFetched, Fetches, HasEntries, HasNone, IsCount};
+ghost use Rattle.raft_log_world.specs.Reads.{
+  all_bytes,
+  bytes_of,
+  AreFetched,
+  Fetches,
+  HasEntries,
+  HasNone,
+  IsCount,
+  IsFirstIndex,
+  IsLastIndex,
+};
 ghost use Rattle.raft_log_judge.specs.Changes.{item_of, tagged};
-ghost use Rattle.raft_log_judge.specs.Contents.{after_all, AllGone, HasAll, IsGone};
+ghost use Rattle.raft_log_judge.specs.Contents.{after_all, AllGone, HasAll, IsBefore, IsGone, NoneIn};
 ghost use Rattle.raft_log_judge.specs.Views.{IsRead};
 
 use crate::change::{Batch, Change, ChangeKind};
@@ -26,6 +36,8 @@ pub fn is_read<C>(batches: &[Batch], event: &Event<Batch, C>, answer: &Answer) -
         (Call::GetEntry { group, index }, Answer::Found(entry)) => {
             has_entry(batches, *group, *index, entry)
         }
+        (Call::FirstIndex { group }, Answer::At(index)) => is_first(batches, *group, index),
+        (Call::LastIndex { group }, Answer::At(index)) => is_last(batches, *group, index),
         (
             Call::Fetch {
                 group,
@@ -58,7 +70,7 @@ fn has_entry(batches: &[Batch], group: u64, index: u64, entry: &Option<Vec<u8>>)
 {
     match entry {
         Some(bytes) => entry_is(batches, group, index, bytes.as_slice()),
-        None => entry_is_none(batches, group, index),
+        None => entry_is_none(batches, group, index as u128),
     }
 }
 
@@ -80,14 +92,44 @@ pub fn value_is_none(batches: &[Batch], group: u64, key: &[u8]) -> bool
 fn entry_is(batches: &[Batch], group: u64, index: u64, bytes: &[u8]) -> bool
     ensures { IsTrue result ↔ (after_all batches.now group (Index index) ≡ Some (Entry bytes.now)) }
 {
-    is_entry(batches, group, index, true, bytes)
+    is_entry(batches, group, index as u128, true, bytes)
 }
 
 /// Whether a group has no entry at an index.
-fn entry_is_none(batches: &[Batch], group: u64, index: u64) -> bool
+fn entry_is_none(batches: &[Batch], group: u64, index: u128) -> bool
     ensures { IsTrue result ↔ (after_all batches.now group (Index index) ≡ None) }
 {
     is_entry(batches, group, index, false, b"".as_slice())
+}
+
+/// Whether this is the first index at which a group has an entry, or it has none.
+fn is_first(batches: &[Batch], group: u64, index: &Option<u64>) -> bool
+    ensures { IsTrue result ↔ IsFirstIndex (after_all batches.now) group index.now }
+{
+    match index {
+        Some(first) => {
+            if entry_is_none(batches, group, *first as u128) {
+                return false;
+            }
+            has_none(batches, group, 0, Some(*first))
+        }
+        None => has_none(batches, group, 0, None),
+    }
+}
+
+/// Whether this is the last index at which a group has an entry, or it has none.
+fn is_last(batches: &[Batch], group: u64, index: &Option<u64>) -> bool
+    ensures { IsTrue result ↔ IsLastIndex (after_all batches.now) group index.now }
+{
+    match index {
+        Some(last) => {
+            if entry_is_none(batches, group, *last as u128) {
+                return false;
+            }
+            has_none(batches, group, *last as u128 + 1, None)
+        }
+        None => has_none(batches, group, 0, None),
+    }
 }
 
 /// Whether a fetch of a group's entries returns these.
@@ -101,7 +143,7 @@ fn is_fetch(
 ) -> bool
     ensures { IsTrue result ↔ Fetches (after_all batches.now) group begin end max.now (all_bytes entries.now) }
 {
-    if entries.is_empty() && has_none(batches, group, begin, end) {
+    if entries.is_empty() && has_none(batches, group, begin as u128, Some(end)) {
         return true;
     }
     are_fetched(batches, group, begin, end, max, entries)
@@ -157,16 +199,17 @@ fn has_all(batches: &[Batch], group: u64, begin: u64, end: u64) -> bool
     ensures { IsTrue result ↔ HasAll (after_all batches.now) group begin end }
 {
     for index in begin..end {
-        if entry_is_none(batches, group, index) {
+        if entry_is_none(batches, group, index as u128) {
             return false;
         }
     }
     true
 }
 
-/// Whether a group has no entry from `begin` on, below `end`. Only indexes of entries that were written are tried.
-fn has_none(batches: &[Batch], group: u64, begin: u64, end: u64) -> bool
-    ensures { IsTrue result ↔ HasNone (after_all batches.now) group begin end }
+/// Whether a group has no entry from `begin` on, below `end` if there is one. Only indexes of entries that were written
+/// are tried.
+fn has_none(batches: &[Batch], group: u64, begin: u128, end: Option<u64>) -> bool
+    ensures { IsTrue result ↔ NoneIn (after_all batches.now) group begin end }
 {
     for batch in batches {
         if !are_gone(batches, batch.as_slice(), group, begin, end) {
@@ -177,7 +220,13 @@ fn has_none(batches: &[Batch], group: u64, begin: u64, end: u64) -> bool
 }
 
 /// Whether the entries within these bounds that a batch wrote are gone.
-fn are_gone(batches: &[Batch], changes: &[Change], group: u64, begin: u64, end: u64) -> bool
+fn are_gone(
+    batches: &[Batch],
+    changes: &[Change],
+    group: u64,
+    begin: u128,
+    end: Option<u64>,
+) -> bool
     ensures { IsTrue result ↔ AllGone (after_all batches.now) group begin end (map tagged changes.now) }
 {
     for change in changes {
@@ -189,20 +238,31 @@ fn are_gone(batches: &[Batch], changes: &[Change], group: u64, begin: u64, end: 
 }
 
 /// Whether the entries within these bounds that a change wrote are gone.
-fn is_gone(batches: &[Batch], kind: &ChangeKind, group: u64, begin: u64, end: u64) -> bool
+fn is_gone(batches: &[Batch], kind: &ChangeKind, group: u64, begin: u128, end: Option<u64>) -> bool
     ensures { IsTrue result ↔ IsGone (after_all batches.now) group begin end (item_of kind.now) }
 {
     let ChangeKind::Entries { first, entries } = kind else {
         return true;
     };
-    let past = first.saturating_add(entries.len() as u64);
-    let low = if begin < *first { *first } else { begin };
-    let high = if past < end { past } else { end };
+    let first = *first as u128;
+    let low = if begin < first { first } else { begin };
+    let high = lower(first + entries.len() as u128, end);
     none_between(batches, group, low, high)
 }
 
+/// The lower of two ends, of which the second need not be.
+fn lower(past: u128, end: Option<u64>) -> u128
+    ensures below { (index : ℕ) → index < result → (index < past) × IsBefore end index }
+    ensures all { (index : ℕ) → index < past → IsBefore end index → index < result }
+{
+    match end {
+        Some(end) if (end as u128) < past => end as u128,
+        _ => past,
+    }
+}
+
 /// Whether a group has no entry from `begin` on, below `end`. Each index is tried.
-fn none_between(batches: &[Batch], group: u64, begin: u64, end: u64) -> bool
+fn none_between(batches: &[Batch], group: u64, begin: u128, end: u128) -> bool
     ensures { IsTrue result ↔ HasNone (after_all batches.now) group begin end }
 {
     for index in begin..end {

@@ -1,9 +1,11 @@
-use Rattle.std.proofs.Common.{◌≡◌, ◌∷◌, ◌+◌, [], List, drop, map, refl, subst, sym, rules}
+use Rattle.std.proofs.Common.{List, map, refl, subst, sym}
+use Rattle.std.proofs.lemmas.List.{drop_all}
 use Rattle.raft_log_world.specs.Reads.{bytes_of, pairs_of}
 use Rattle.raft_log_judge.specs.declared.change.Change.{Change}
-use Rattle.raft_log_judge.specs.Contents.{after_all}
+use Rattle.raft_log_judge.specs.Changes.{tagged}
+use Rattle.raft_log_judge.specs.Contents.{TellsPuts, after_all}
 use Rattle.raft_log_judge.proofs.Scans.{TellsAll, known_keys, puts_told, right, scanned}
-use Rattle.raft_log_judge.proofs.Supporting.{from_not, to_not}
+use Rattle.raft_log_judge.proofs.Supporting.{first_left, to_not}
 use Rattle.raft_log_judge.proofs.scanning.is_scan.Goals as goal
 
 pub returns-then-not-are_rising : goal.returns-then-not-are_rising
@@ -30,8 +32,10 @@ loop-batch-init c tells = tells
 pub loop-batch-preserved : goal.loop-batch-preserved
 loop-batch-preserved c rest =
     let tells = TellsAll (after_all c.args.batches.now) c.args.group (bytes_of c.args.start.now) (bytes_of c.args.end.now) (pairs_of c.args.pairs.now) in
-    let split : drop c.loop-batch.batch-index c.args.batches.now ≡ c.in-Some.batch.now ∷ drop (c.loop-batch.batch-index + 1) c.args.batches.now = search rules in
-    c.loop-batch.invariant (subst tells (sym split) (c.tells_puts.ensures.0 (from_not c.tells_puts.result c.if-not-tells_puts.false), rest))
+    let batch = c.batch-item.result in
+    let split = first_left c.args.batches.now c.loop-batch.batch-index batch batch c.loop-batch-test.true c.batch-item.is in
+    let told = λ (xs : List Change). TellsPuts (after_all c.args.batches.now) c.args.group (bytes_of c.args.start.now) (bytes_of c.args.end.now) (pairs_of c.args.pairs.now) (map tagged xs) in
+    c.loop-batch.invariant (subst tells (sym split) (subst told c.as_slice.ensures (c.tells_puts.ensures.0 c.if-not-tells_puts.false), rest))
 
 pub returns : goal.returns
 returns c =
@@ -40,9 +44,8 @@ returns c =
     let end = bytes_of c.args.end.now in
     let pairs = pairs_of c.args.pairs.now in
     let tells = TellsAll m c.args.group start end pairs in
-    let done : drop c.loop-batch.batch-index c.args.batches.now ≡ [] = search rules in
-    (
-      λ yes. scanned m c.args.group start end pairs (c.are_rising.ensures.0 (from_not c.are_rising.result c.if-not-are_rising.false)) (c.are_right.ensures.0 (from_not c.are_right.result c.if-not-are_right.false))
-      (known_keys m c.args.group start end pairs c.args.batches.now refl (c.loop-batch.invariant (subst tells (sym done) tt))),
+    let done = drop_all c.loop-batch.batch-index c.args.batches.now c.loop-batch-test.false in (
+      λ yes. scanned m c.args.group start end pairs (c.are_rising.ensures.0 c.if-not-are_rising.false) (c.are_right.ensures.0 c.if-not-are_right.false)
+          (known_keys m c.args.group start end pairs c.args.batches.now refl (c.loop-batch.invariant (subst tells (sym done) tt))),
       λ scans. refl,
     )

@@ -9,7 +9,7 @@ use Rattle.raft_log_judge.proofs.Leading.{both_lead, none_lead}
 use Rattle.raft_log_judge.proofs.stepping.step.Goals as goal
 
 pub loop-candidate-init : goal.loop-candidate-init
-loop-candidate-init g c more h = subst (λ (cs : List Candidate). LeadTo says_of (map log_of c.args.candidates.items) c.args.event.now c.args.answer.now (map log_of cs ++ more)) (sym c.new.ensures) h
+loop-candidate-init g c more h = subst (λ (cs : List Candidate). LeadTo says_of (map log_of c.args.candidates.items) c.args.event.now c.args.answer.now (map log_of cs ++ more)) (sym c.new-nexts.ensures.items) h
 
 pub loop-candidate-preserved : goal.loop-candidate-preserved
 loop-candidate-preserved g c more h =

@@ -1,4 +1,4 @@
-use Rattle.std.proofs.Common.{◌≡◌, ℕ, Bool, true, false, drop, map, take, ap, sym, subst, ◌∙◌}
+use Rattle.std.proofs.Common.{◌≡◌, ℕ, Bool, drop, map, take, ap, sym, subst, ◌∙◌}
 use Rattle.raft_log_model_laws.specs.Groups.{taken}
 use Rattle.raft_log_judge.specs.Candidates.{standing_log, turned}
 use Rattle.raft_log_judge.specs.Changes.{says_of}

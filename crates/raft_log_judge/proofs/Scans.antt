@@ -15,7 +15,7 @@ use Rattle.raft_log_model_laws.specs.Meaning.Content.{Value}
 use Rattle.raft_log_world.specs.Reads.{Contents, Scans, is_below, is_from}
 use Rattle.raft_log_judge.specs.declared.change.Change.{Change}
 use Rattle.raft_log_judge.specs.Changes.{tagged}
-use Rattle.raft_log_judge.specs.Contents.{IsTold, TellsPut, TellsPuts, after_all}
+use Rattle.raft_log_judge.specs.Contents.{IsListed, ListsPut, ListsPuts, after_all}
 use Rattle.raft_log_judge.specs.Scanned.{AreBelow, AreRight, IsRight}
 use Rattle.raft_log_judge.proofs.Supporting.{CoveredAll, CoveredIn, Covers, covered}
 
@@ -54,9 +54,9 @@ module _ (m : Contents) (g : ℕ) (start end : Option (List ℕ)) where
       by false c found more = more found
 
   module _ (pairs : Pairs) where
-    abbrev pub TellsAll : List (List Change) → Type 0
-    TellsAll [] = Unit {0}
-    TellsAll (batch ∷ batches) = TellsPuts m g start end pairs (map tagged batch) × TellsAll batches
+    abbrev pub ListsAll : List (List Change) → Type 0
+    ListsAll [] = Unit {0}
+    ListsAll (batch ∷ batches) = ListsPuts m g start end pairs (map tagged batch) × ListsAll batches
 
     -- from a scan
 
@@ -83,21 +83,21 @@ module _ (m : Contents) (g : ℕ) (start end : Option (List ℕ)) where
               absurd (not_below p.0 below)
           later k v found false c = ap (λ (b : Bool). if b then Some p.1 else lookup (bytes_eq k) ps) c ∙ found
 
-      one_told : (k : List ℕ) → IsTold m g start end pairs k
+      one_told : (k : List ℕ) → IsListed m g start end pairs k
       one_told k inside = by (lookup (bytes_eq k) pairs) (scans.inside k inside)
         where
           by : (o : Option (List ℕ)) → m g (Key k) ≡ option_map Value o → (m g (Key k) ≡ None) ⊎ (is_some o ≡ true)
           by None is = inl is
           by (Some v) is = inr refl
 
-      put_told : (x : Item (List ℕ) (List ℕ)) → TellsPut m g start end pairs x
+      put_told : (x : Item (List ℕ) (List ℕ)) → ListsPut m g start end pairs x
       put_told (Run f es) = tt
       put_told Clean = tt
       put_told (Compact c) = tt
       put_told (Put k v) = one_told k
       put_told (Del k) = tt
 
-      pub puts_told : (xs : List (Tagged (List ℕ) (List ℕ))) → TellsPuts m g start end pairs xs
+      pub puts_told : (xs : List (Tagged (List ℕ) (List ℕ))) → ListsPuts m g start end pairs xs
       puts_told [] = tt
       puts_told (x ∷ xs) = (λ same. put_told x.item, puts_told xs)
 
@@ -106,24 +106,24 @@ module _ (m : Contents) (g : ℕ) (start end : Option (List ℕ)) where
 
     -- to a scan
 
-    told_item : (k : List ℕ) (x : Item (List ℕ) (List ℕ)) → TellsPut m g start end pairs x → Covers (Key k) x → IsTold m g start end pairs k
-    told_item k (Put l v) told covers = subst (IsTold m g start end pairs) covers told
+    told_item : (k : List ℕ) (x : Item (List ℕ) (List ℕ)) → ListsPut m g start end pairs x → Covers (Key k) x → IsListed m g start end pairs k
+    told_item k (Put l v) told covers = subst (IsListed m g start end pairs) covers told
     told_item k (Run f es) told covers = absurd covers
     told_item k Clean told covers = absurd covers
     told_item k (Compact c) told covers = absurd covers
     told_item k (Del l) told covers = absurd covers
 
-    told_in : (k : List ℕ) (xs : List (Tagged (List ℕ) (List ℕ))) → TellsPuts m g start end pairs xs → CoveredIn g (Key k) xs → IsTold m g start end pairs k
+    told_in : (k : List ℕ) (xs : List (Tagged (List ℕ) (List ℕ))) → ListsPuts m g start end pairs xs → CoveredIn g (Key k) xs → IsListed m g start end pairs k
     told_in k [] told is = absurd is
     told_in k (x ∷ xs) told (inl is) = told_item k x.item (told.0 is.0) is.1
     told_in k (x ∷ xs) told (inr is) = told_in k xs told.1 is
 
-    told_all : (k : List ℕ) (batches : List (List Change)) → TellsAll batches → CoveredAll g (Key k) batches → IsTold m g start end pairs k
+    told_all : (k : List ℕ) (batches : List (List Change)) → ListsAll batches → CoveredAll g (Key k) batches → IsListed m g start end pairs k
     told_all k [] told is = absurd is
     told_all k (batch ∷ batches) told (inl is) = told_in k (map tagged batch) told.0 is
     told_all k (batch ∷ batches) told (inr is) = told_all k batches told.1 is
 
-    is_scanned : (k : List ℕ) → (m g (Key k) ≡ None) ⊎ IsTold m g start end pairs k → AreRight m g start end pairs → (is_from start k && is_below end k) ≡ true → (o : Option (List ℕ)) → lookup (bytes_eq k) pairs ≡ o → m g (Key k) ≡ option_map Value o
+    is_scanned : (k : List ℕ) → (m g (Key k) ≡ None) ⊎ IsListed m g start end pairs k → AreRight m g start end pairs → (is_from start k && is_below end k) ≡ true → (o : Option (List ℕ)) → lookup (bytes_eq k) pairs ≡ o → m g (Key k) ≡ option_map Value o
     is_scanned k known right inside (Some v) found = (right_at pairs k v right found).1
     is_scanned k (inl none) right inside None found = none
     is_scanned k (inr told) right inside None found = elim (told inside) [
@@ -135,14 +135,14 @@ module _ (m : Contents) (g : ℕ) (start end : Option (List ℕ)) where
     not_scanned k right outside None found = refl
     not_scanned k right outside (Some v) found = absurd (let inside = (right_at pairs k v right found).0 in let never : ⊥ = cc in never)
 
-    pub scanned : IsStrictlySortedBy (slice_cmp nat_cmp) (keys_of pairs) → AreRight m g start end pairs → ((k : List ℕ) → (m g (Key k) ≡ None) ⊎ IsTold m g start end pairs k) → Scans m g start end pairs
+    pub scanned : IsStrictlySortedBy (slice_cmp nat_cmp) (keys_of pairs) → AreRight m g start end pairs → ((k : List ℕ) → (m g (Key k) ≡ None) ⊎ IsListed m g start end pairs k) → Scans m g start end pairs
     scanned rising right known = record {
       rising = rising;
       inside = λ k inside. is_scanned k (known k) right inside (lookup (bytes_eq k) pairs) refl;
       outside = λ k outside. not_scanned k right outside (lookup (bytes_eq k) pairs) refl;
     }
 
-    pub known_keys : (batches : List (List Change)) → m ≡ after_all batches → TellsAll batches → (k : List ℕ) → (m g (Key k) ≡ None) ⊎ IsTold m g start end pairs k
+    pub known_keys : (batches : List (List Change)) → m ≡ after_all batches → ListsAll batches → (k : List ℕ) → (m g (Key k) ≡ None) ⊎ IsListed m g start end pairs k
     known_keys batches is told k = elim (covered g (Key k) batches) [
       | inl none ↦ inl (ap (λ (c : Contents). c g (Key k)) is ∙ none)
       | inr covers ↦ inr (told_all k batches told covers)

@@ -39,19 +39,19 @@ AllGone m group begin end [] = Unit {0}
 AllGone m group begin end (x ∷ xs) = (x.group ≡ group → IsGone m group begin end x.item) × AllGone m group begin end xs
 
 -- this key, if it is within the bounds, has no value, or is among the pairs
-abbrev pub IsTold : Contents → ℕ → Option (List ℕ) → Option (List ℕ) → List (List ℕ × List ℕ) → List ℕ → Type 0
-IsTold m group start end pairs k = is_from start k && is_below end k ≡ true
+abbrev pub IsListed : Contents → ℕ → Option (List ℕ) → Option (List ℕ) → List (List ℕ × List ℕ) → List ℕ → Type 0
+IsListed m group start end pairs k = is_from start k && is_below end k ≡ true
     → (m group (Key k) ≡ None) ⊎ (is_some (lookup (bytes_eq k) pairs) ≡ true)
 
--- the key that an item puts is told
-abbrev pub TellsPut : Contents → ℕ → Option (List ℕ) → Option (List ℕ) → List (List ℕ × List ℕ)
+-- the key that an item puts is listed so
+abbrev pub ListsPut : Contents → ℕ → Option (List ℕ) → Option (List ℕ) → List (List ℕ × List ℕ)
     → Item (List ℕ) (List ℕ) → Type 0
-TellsPut m group start end pairs (Put key value) = IsTold m group start end pairs key
-TellsPut m group start end pairs item = Unit {0}
+ListsPut m group start end pairs (Put key value) = IsListed m group start end pairs key
+ListsPut m group start end pairs item = Unit {0}
 
--- all keys of the group that these items put are told
-abbrev pub TellsPuts : Contents → ℕ → Option (List ℕ) → Option (List ℕ) → List (List ℕ × List ℕ)
+-- all keys of the group that these items put are listed so
+abbrev pub ListsPuts : Contents → ℕ → Option (List ℕ) → Option (List ℕ) → List (List ℕ × List ℕ)
     → List (Tagged (List ℕ) (List ℕ)) → Type 0
-TellsPuts m group start end pairs [] = Unit {0}
-TellsPuts m group start end pairs (x ∷ xs) =
-    (x.group ≡ group → TellsPut m group start end pairs x.item) × TellsPuts m group start end pairs xs
+ListsPuts m group start end pairs [] = Unit {0}
+ListsPuts m group start end pairs (x ∷ xs) =
+    (x.group ≡ group → ListsPut m group start end pairs x.item) × ListsPuts m group start end pairs xs

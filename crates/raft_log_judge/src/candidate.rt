@@ -81,7 +81,7 @@ impl Candidate {
         })
     }
 
-    /// The log as an open finds it that loses all pending batches. Fails only for lack of memory.
+    /// The log that an open finds if it loses all pending batches. Fails only for lack of memory.
     pub fn opened(&self, alloc: Global) -> Result<Candidate, AllocError>
         ensures { IfOk result (λ first. log_of first ≡ running (durable_of self.now) []) }
     {

@@ -131,7 +131,7 @@ fn value_step(kind: &ChangeKind, key: &[u8], some: bool, bytes: &[u8], before: b
     }
 }
 
-/// Whether these are the bytes, where there are some.
+/// Whether these bytes are the ones that are wanted. They aren't if `some` is false.
 fn is_some(found: &[u8], some: bool, bytes: &[u8]) -> bool
     ensures { result ≡ is_same (Some found.now) (wanted some bytes.now) }
 {
@@ -141,7 +141,7 @@ fn is_some(found: &[u8], some: bool, bytes: &[u8]) -> bool
     false
 }
 
-/// Whether nothing is right, where there is nothing.
+/// Whether none are wanted.
 fn is_none(some: bool, bytes: &[u8]) -> bool
     ensures { result ≡ is_same None (wanted some bytes.now) }
 {

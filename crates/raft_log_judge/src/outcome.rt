@@ -62,6 +62,7 @@ pub fn outcome_of<B, C>(standing: Standing, event: &Event<B, C>, answer: &Answer
     }
 }
 
+/// The log has this standing then. If it settles, all batches are durable.
 fn turns(standing: Standing, settles: bool) -> Outcome
     ensures { result ≡ Outcome.Turns standing settles }
 {
@@ -94,6 +95,7 @@ fn call_outcome<B>(call: &Call<B>, answer: &Answer) -> Outcome
     }
 }
 
+/// A batch is added, and the log has this standing then. If it settles, all batches are durable.
 fn adds(standing: Standing, settles: bool) -> Outcome
     ensures { result ≡ Outcome.Adds standing settles }
 {

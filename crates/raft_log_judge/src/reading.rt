@@ -102,7 +102,7 @@ fn entry_is_none(batches: &[Batch], group: u64, index: u128) -> bool
     is_entry(batches, group, index, false, b"".as_slice())
 }
 
-/// Whether this is the first index at which a group has an entry, or it has none.
+/// Whether a read of a group's first index returns this.
 fn is_first(batches: &[Batch], group: u64, index: &Option<u64>) -> bool
     ensures { IsTrue result ↔ IsFirstIndex (after_all batches.now) group index.now }
 {
@@ -117,7 +117,7 @@ fn is_first(batches: &[Batch], group: u64, index: &Option<u64>) -> bool
     }
 }
 
-/// Whether this is the last index at which a group has an entry, or it has none.
+/// Whether a read of a group's last index returns this.
 fn is_last(batches: &[Batch], group: u64, index: &Option<u64>) -> bool
     ensures { IsTrue result ↔ IsLastIndex (after_all batches.now) group index.now }
 {
@@ -250,7 +250,7 @@ fn is_gone(batches: &[Batch], kind: &ChangeKind, group: u64, begin: u128, end: O
     none_between(batches, group, low, high)
 }
 
-/// The lower of two ends, of which the second need not be.
+/// The lower of both ends; the first if there is no second one.
 fn lower(past: u128, end: Option<u64>) -> u128
     ensures below { (index : ℕ) → index < result → (index < past) × IsBefore end index }
     ensures all { (index : ℕ) → index < past → IsBefore end index → index < result }

@@ -6,7 +6,7 @@ ghost use Rattle.std.specs.Map.{keys_of, lookup};
 ghost use Rattle.std.specs.Ordering.{nat_cmp};
 ghost use Rattle.raft_log_world.specs.Reads.{bytes_of, is_below, is_from, pairs_of, Scans};
 ghost use Rattle.raft_log_judge.specs.Changes.{item_of, tagged};
-ghost use Rattle.raft_log_judge.specs.Contents.{after_all, IsTold, TellsPut, TellsPuts};
+ghost use Rattle.raft_log_judge.specs.Contents.{after_all, IsListed, ListsPut, ListsPuts};
 ghost use Rattle.raft_log_judge.specs.Scanned.{AreBelow, AreRight, IsRight};
 
 use crate::change::{Batch, Change, ChangeKind};
@@ -31,7 +31,7 @@ pub fn is_scan(
         return false;
     }
     for batch in batches {
-        if !tells_puts(batches, batch.as_slice(), group, start, end, pairs) {
+        if !lists_puts(batches, batch.as_slice(), group, start, end, pairs) {
             return false;
         }
     }
@@ -114,7 +114,7 @@ fn is_below(key: &[u8], end: &Option<Vec<u8>>) -> bool
 }
 
 /// Whether each key within the bounds that a batch put has no value, or is among the pairs.
-fn tells_puts(
+fn lists_puts(
     batches: &[Batch],
     changes: &[Change],
     group: u64,
@@ -122,11 +122,11 @@ fn tells_puts(
     end: &Option<Vec<u8>>,
     pairs: &[(Vec<u8>, Vec<u8>)],
 ) -> bool
-    ensures { IsTrue result ↔ TellsPuts (after_all batches.now) group (bytes_of start.now) (bytes_of end.now)
+    ensures { IsTrue result ↔ ListsPuts (after_all batches.now) group (bytes_of start.now) (bytes_of end.now)
         (pairs_of pairs.now) (map tagged changes.now) }
 {
     for change in changes {
-        if change.group == group && !tells_put(batches, &change.kind, group, start, end, pairs) {
+        if change.group == group && !lists_put(batches, &change.kind, group, start, end, pairs) {
             return false;
         }
     }
@@ -134,7 +134,7 @@ fn tells_puts(
 }
 
 /// Whether that is so of the key that a change puts.
-fn tells_put(
+fn lists_put(
     batches: &[Batch],
     kind: &ChangeKind,
     group: u64,
@@ -142,17 +142,17 @@ fn tells_put(
     end: &Option<Vec<u8>>,
     pairs: &[(Vec<u8>, Vec<u8>)],
 ) -> bool
-    ensures { IsTrue result ↔ TellsPut (after_all batches.now) group (bytes_of start.now) (bytes_of end.now)
+    ensures { IsTrue result ↔ ListsPut (after_all batches.now) group (bytes_of start.now) (bytes_of end.now)
         (pairs_of pairs.now) (item_of kind.now) }
 {
     match kind {
-        ChangeKind::Put { key, .. } => is_told(batches, key.as_slice(), group, start, end, pairs),
+        ChangeKind::Put { key, .. } => is_listed(batches, key.as_slice(), group, start, end, pairs),
         _ => true,
     }
 }
 
 /// Whether a key is outside the bounds, or has no value, or is among the pairs.
-fn is_told(
+fn is_listed(
     batches: &[Batch],
     key: &[u8],
     group: u64,
@@ -160,7 +160,7 @@ fn is_told(
     end: &Option<Vec<u8>>,
     pairs: &[(Vec<u8>, Vec<u8>)],
 ) -> bool
-    ensures { IsTrue result ↔ IsTold (after_all batches.now) group (bytes_of start.now) (bytes_of end.now)
+    ensures { IsTrue result ↔ IsListed (after_all batches.now) group (bytes_of start.now) (bytes_of end.now)
         (pairs_of pairs.now) key.now }
 {
     if !is_within(key, start, end) {

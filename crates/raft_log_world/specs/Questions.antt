@@ -56,18 +56,18 @@ ShowsFirst {B} C says log m batches =
 
 -- What a write that fails leaves of its batch:
 -- - `refused`: if the engine runs on, the contents are those before the write.
--- - `failed`: if the engine fails, later contents are the durable ones and the first few of the pending batches and this
---   one, until something is written. So this batch is there whole, after all others, or not at all.
+-- - `failed`: if the engine fails, later contents are the durable ones and the first few of the pending batches and
+--   this one, until something is written. So this batch is there whole, after all others, or not at all.
 pub record LeavesNoTrace {B : Type 0} (C : Type 0) (says : B → BatchRecord) (log next : ModelLog) (batch : B)
-    (event : Event B C) : Type 0 where
-  pub refused : Answers says log event Refused next → contents_of next ≡ contents_of log
-  pub failed : Answers says log event Failed next
+    (sync : Bool) : Type 0 where
+  pub refused : Answers {C = C} says log (Serve (Write batch sync)) Refused next → contents_of next ≡ contents_of log
+  pub failed : Answers {C = C} says log (Serve (Write batch sync)) Failed next
       → ShowsFirst C says next (durable log) (pending_in log ++ says batch ∷ [])
 
 -- each write that fails leaves no trace, as `LeavesNoTrace` says
 abbrev pub FailedWritesLeaveNoTrace : Type 0 → Type 0 → Type 0
-FailedWritesLeaveNoTrace B C = (says : B → BatchRecord) (log next : ModelLog) (batch : B) (sync : Bool)
-    → LeavesNoTrace C says log next batch (Serve (Write batch sync))
+FailedWritesLeaveNoTrace B C =
+    (says : B → BatchRecord) (log next : ModelLog) (batch : B) (sync : Bool) → LeavesNoTrace C says log next batch sync
 
 -- A purge keeps the contents, however it ends.
 abbrev pub PurgesKeepContents : Type 0 → Type 0 → Type 0

@@ -17,8 +17,8 @@ pub trait LogFiles<R, S, B, C>: Sized {
     /// Which log of the model the files or an engine are, what a batch says, and what is asked of chance.
     ghost log: { LogOf S Self B C };
 
-    /// Opens the log with this many workers, at least one, which may be threads of the runtime. If it fails, returns the
-    /// files, and the log may be opened again.
+    /// Opens the log with this many workers, at least one, which may be threads of the runtime. If it fails, returns
+    /// the files, and the log may be opened again.
     fn open<T: Threads + Sync>(self, rt: &T, alloc: Global, workers: u64) -> Result<S, Self>
         requires { IsSync T.row }
         ensures ok { IfOk result (λ engine.

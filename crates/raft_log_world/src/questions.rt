@@ -1,8 +1,8 @@
 //! Questions of a user of a log, and the laws that answer them. A law is the contract of an empty function.
 ghost use Rattle.raft_log_world.specs.Questions.{BatchesAreWhole, FailedWritesLeaveNoTrace, PurgesKeepContents, SyncedBatchesAreKept};
 
-/// Is a synced batch ever lost? No. Once a write with a sync, a sync, a purge or a close succeeds, all batches before it
-/// and its own are in the contents, whatever happens. Only batches that are written later change these contents.
+/// Is a synced batch ever lost? No. Once a write with a sync, a sync, a purge or a close succeeds, all batches before
+/// it and its own are in the contents, whatever happens. Only batches that are written later change these contents.
 pub fn synced_batches_are_kept<B, C>()
     ensures { SyncedBatchesAreKept B C }
 {}

@@ -1,0 +1,6 @@
+mod Held
+mod Leading
+mod Nexts
+mod Scans
+mod Supporting
+mod Viewing

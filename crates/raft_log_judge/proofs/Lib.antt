@@ -1,0 +1,5 @@
+mod Held
+mod Leading
+mod Scans
+mod Supporting
+mod Viewing

@@ -1,0 +1,7 @@
+use Rattle.std.proofs.Common.{true}
+use Rattle.raft_log_judge.specs.Folds.{wanted}
+use Rattle.raft_log_judge.proofs.Supporting.{entry_read}
+use Rattle.raft_log_judge.proofs.reading.entry_is.Goals as goal
+
+pub returns : goal.returns
+returns c = rw c.is_entry.ensures (entry_read c.args.batches.now c.args.group c.args.index (wanted true c.args.bytes.now))

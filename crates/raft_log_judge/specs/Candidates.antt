@@ -1,0 +1,60 @@
+-- The logs that the judge keeps.
+use Rattle.std.specs.Prelude.{◌≡◌, ◌++◌, ℕ, Bool, true, false, List, [], ◌∷◌, drop, map, take}
+use Rattle.raft_log_model_laws.specs.Groups.{taken}
+use Rattle.raft_log_world.specs.declared.event.Answer.{Answer}
+use Rattle.raft_log_world.specs.declared.event.Event.{Event}
+use Rattle.raft_log_world.specs.Model.{BatchRecord, ModelLog}
+use Rattle.raft_log_world.specs.Model.ModelLog.{left, running, failed}
+use Rattle.raft_log_world.specs.Reads.{Contents}
+use Rattle.raft_log_judge.specs.declared.candidate.Candidate.{Candidate}
+use Rattle.raft_log_judge.specs.declared.change.Change.{Change}
+use Rattle.raft_log_judge.specs.declared.outcome.Standing.{Standing}
+use Rattle.raft_log_judge.specs.declared.outcome.Standing.TheVariants.{Broken, Closed, Running}
+use Rattle.raft_log_judge.specs.Changes.{says_of}
+use Rattle.raft_log_judge.specs.Judging.{no_contents}
+use Rattle.raft_log_judge.specs.Views.{LeadTo}
+
+-- the log with these durable contents and pending batches, which an engine has open or not
+abbrev pub standing_log : Standing → Contents → List BatchRecord → ModelLog
+standing_log Closed m pending = left m pending
+standing_log Running m pending = running m pending
+standing_log Broken m pending = failed m pending
+
+-- the contents after the durable batches of a candidate
+abbrev pub durable_of : Candidate → Contents
+durable_of c = taken no_contents (take c.durable (map says_of c.batches))
+
+-- the pending batches of a candidate
+abbrev pub pending_of : Candidate → List BatchRecord
+pending_of c = drop c.durable (map says_of c.batches)
+
+-- the contents after all batches of a candidate
+abbrev pub contents_of : Candidate → Contents
+contents_of c = taken no_contents (map says_of c.batches)
+
+-- the log that a candidate is
+abbrev pub log_of : Candidate → ModelLog
+log_of c = standing_log c.standing (durable_of c) (pending_of c)
+
+-- the log that a candidate is with another standing; if it settles, all batches are durable
+abbrev pub turned : Standing → Bool → Candidate → ModelLog
+turned standing false c = standing_log standing (durable_of c) (pending_of c)
+turned standing true c = standing_log standing (taken (durable_of c) (pending_of c)) []
+
+-- the logs that an open may find: those after the first few pending batches
+abbrev pub opened_logs : Contents → List BatchRecord → List ModelLog
+opened_logs m [] = running m [] ∷ []
+opened_logs m (batch ∷ pending) = running m [] ∷ opened_logs (taken m (batch ∷ [])) pending
+
+-- the candidates for these logs are added at the end of the list
+pub record AddsLogs (logs : List ModelLog) (old new : List Candidate) : Type 0 where
+  pub more : List Candidate
+  pub adds : new ≡ old ++ more
+  pub are : map log_of more ≡ logs
+
+-- candidates are added for what the log may be after this event with this answer
+pub record AddsNexts {C : Type 0} (log : ModelLog) (event : Event (List Change) C) (answer : Answer)
+    (old new : List Candidate) : Type 0 where
+  pub more : List Candidate
+  pub adds : new ≡ old ++ more
+  pub lead : LeadTo says_of (log ∷ []) event answer (map log_of more)

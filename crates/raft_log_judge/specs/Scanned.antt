@@ -1,0 +1,23 @@
+-- Pairs that a scan returned.
+use Rattle.std.specs.Prelude.{◌≡◌, ◌&&◌, ℕ, true, List, [], ◌∷◌, Option, Some}
+use Rattle.std.specs.Cmp.Lexicographic.{slice_cmp}
+use Rattle.std.specs.List.{AllByRecursion}
+use Rattle.std.specs.Ordering.{nat_cmp}
+use Rattle.std.specs.declared.cmp.Ordering.TheVariants.{Less}
+use Rattle.raft_log_model_laws.specs.Meaning.Slot.{Key}
+use Rattle.raft_log_model_laws.specs.Meaning.Content.{Value}
+use Rattle.raft_log_world.specs.Reads.{Contents, is_below, is_from}
+
+-- the key is below all these
+abbrev pub AreBelow : List ℕ → List (List ℕ) → Type 0
+AreBelow k ks = AllByRecursion (λ y. slice_cmp nat_cmp k y ≡ Less) ks
+
+-- the key is within the bounds, and has this value
+abbrev pub IsRight : Contents → ℕ → Option (List ℕ) → Option (List ℕ) → List ℕ × List ℕ → Type 0
+IsRight m group start end pair = (is_from start pair.0 && is_below end pair.0 ≡ true)
+    × (m group (Key pair.0) ≡ Some (Value pair.1))
+
+-- all these are so
+abbrev pub AreRight : Contents → ℕ → Option (List ℕ) → Option (List ℕ) → List (List ℕ × List ℕ) → Type 0
+AreRight m group start end [] = Unit {0}
+AreRight m group start end (pair ∷ pairs) = IsRight m group start end pair × AreRight m group start end pairs

@@ -1,0 +1,153 @@
+-- Views of a log: what its readers see, and what a crash may leave. They decide which answers are possible.
+use Rattle.std.specs.Prelude.{◌≡◌, ◌⊎◌, ◌↔◌, Bool, true, false, List, [], ◌∷◌, ◌++◌, option_map}
+use Rattle.raft_log_model_laws.specs.Item.Record.{Plain}
+use Rattle.raft_log_model_laws.specs.Groups.{taken}
+use Rattle.raft_log_model_laws.specs.Meaning.Slot.{Index, Key}
+use Rattle.raft_log_model_laws.specs.Meaning.Content.{Entry, Value}
+use Rattle.raft_log_world.specs.declared.event.Answer.{Answer}
+use Rattle.raft_log_world.specs.declared.event.Answer.TheVariants.{Done, Found, Entries, Keys, Refused, Failed, Idle}
+use Rattle.raft_log_world.specs.declared.event.Call.{Call}
+use Rattle.raft_log_world.specs.declared.event.Call.TheVariants.{Write, Sync, Get, GetEntry, Fetch, Scan, Compact, Purge}
+use Rattle.raft_log_world.specs.declared.event.Event.{Event}
+use Rattle.raft_log_world.specs.declared.event.Event.TheVariants.{Open, Serve, Close, Crash, Arm}
+use Rattle.raft_log_world.specs.Model.{BatchRecord, ModelLog, compacts}
+use Rattle.raft_log_world.specs.Model.ModelLog.{resting, left, running, failed}
+use Rattle.raft_log_world.specs.Reads.{Contents, Fetches, Scans, all_bytes, bytes_of, pairs_of}
+use Rattle.raft_log_judge.specs.declared.outcome.Outcome.{Outcome}
+use Rattle.raft_log_judge.specs.declared.outcome.Outcome.TheVariants.{Adds, Never, Opens, Reads, Turns}
+use Rattle.raft_log_judge.specs.declared.outcome.Standing.{Standing}
+use Rattle.raft_log_judge.specs.declared.outcome.Standing.TheVariants.{Broken, Closed, Running}
+
+-- A view of a log: whether an engine has it open, the contents `now` that readers see, and the contents `kept` that a
+-- crash may leave.
+pub record View : Type 0 where
+  pub standing : Standing
+  pub now : Contents
+  pub kept : Contents
+
+-- a view of a log that readers can't see
+abbrev pub unseen : Standing → Contents → View
+unseen standing kept = record { standing = standing; now = kept; kept = kept }
+
+-- what readers of the log see if an engine runs, and otherwise what a crash leaves
+abbrev pub seen : Standing → Contents → Contents → View
+seen Running now kept = record { standing = Running; now = now; kept = kept }
+seen standing now kept = unseen standing kept
+
+-- these are the contents after the first few of the pending batches
+pub record Reaches (m : Contents) (pending : List BatchRecord) (kept : Contents) : Type 0 where
+  pub front : List BatchRecord
+  pub rest : List BatchRecord
+  pub splits : front ++ rest ≡ pending
+  pub is : kept ≡ taken m front
+
+-- a view of a log with these durable contents and pending batches
+pub record Sees (standing : Standing) (m : Contents) (pending : List BatchRecord) (view : View) : Type 0 where
+  pub kept : Contents
+  pub reaches : Reaches m pending kept
+  pub is : view ≡ seen standing (taken m pending) kept
+
+-- this is a view of the log
+abbrev pub Fits : ModelLog → View → Type 0
+Fits (resting m) view = Sees Closed m [] view
+Fits (left m pending) view = Sees Closed m pending view
+Fits (running m pending) view = Sees Running m pending view
+Fits (failed m pending) view = Sees Broken m pending view
+
+-- this is a view of one of the logs
+abbrev pub AnyFits : List ModelLog → View → Type 0
+AnyFits [] view = ⊥
+AnyFits (log ∷ logs) view = Fits log view ⊎ AnyFits logs view
+
+-- what a call of an engine that runs comes to, by its answer
+abbrev pub call_outcome : {B : Type 0} → Call B → Answer → Outcome
+call_outcome (Write batch sync) Done = Adds Running sync
+call_outcome (Write batch sync) Refused = Turns Running false
+call_outcome (Write batch sync) Failed = Adds Broken false
+call_outcome Sync Done = Turns Running true
+call_outcome Sync Failed = Turns Broken false
+call_outcome (Get group key) (Found value) = Reads
+call_outcome (Get group key) Refused = Turns Running false
+call_outcome (GetEntry group index) (Found entry) = Reads
+call_outcome (GetEntry group index) Refused = Turns Running false
+call_outcome (Fetch group begin end max) (Entries entries) = Reads
+call_outcome (Fetch group begin end max) Refused = Turns Running false
+call_outcome (Scan group start end) (Keys pairs) = Reads
+call_outcome (Scan group start end) Refused = Turns Running false
+call_outcome (Compact group index) Done = Adds Running false
+call_outcome (Compact group index) Refused = Turns Running false
+call_outcome (Compact group index) Failed = Adds Broken false
+call_outcome (Purge kind) Done = Turns Running true
+call_outcome (Purge kind) Refused = Turns Running true
+call_outcome (Purge kind) Failed = Turns Broken false
+call_outcome call answer = Never
+
+-- what an event comes to, by its answer
+abbrev pub outcome : {B C : Type 0} → Standing → Event B C → Answer → Outcome
+outcome standing (Arm fault) Done = Turns standing false
+outcome standing (Arm fault) Refused = Turns standing false
+outcome Closed (Open workers) Done = Opens
+outcome Closed (Open workers) Refused = Turns Closed false
+outcome Closed (Serve call) Idle = Turns Closed false
+outcome Closed Close Idle = Turns Closed false
+outcome Closed (Crash what) Done = Turns Closed false
+outcome Running (Open workers) Idle = Turns Running false
+outcome Running (Serve call) answer = call_outcome call answer
+outcome Running Close Done = Turns Closed true
+outcome Running Close Refused = Turns Closed false
+outcome Running (Crash what) Done = Turns Closed false
+outcome Broken (Open workers) Idle = Turns Broken false
+outcome Broken (Serve call) Failed = Turns Broken false
+outcome Broken Close Failed = Turns Closed false
+outcome Broken (Crash what) Done = Turns Closed false
+outcome standing event answer = Never
+
+-- the batch that an event writes
+abbrev pub batch_of : {B C : Type 0} → (B → BatchRecord) → Event B C → BatchRecord
+batch_of says (Serve (Write batch sync)) = says batch
+batch_of says (Serve (Compact group index)) = compacts group index
+batch_of says event = Plain []
+
+-- the contents are such that this event reads this answer
+abbrev pub IsRead : {B C : Type 0} → Contents → Event B C → Answer → Type 0
+IsRead m (Serve (Get group key)) (Found value) = m group (Key key.items) ≡ option_map Value (bytes_of value)
+IsRead m (Serve (GetEntry group index)) (Found entry) = m group (Index index) ≡ option_map Entry (bytes_of entry)
+IsRead m (Serve (Fetch group begin end max)) (Entries entries) =
+    Fetches m group begin end max (all_bytes entries.items)
+IsRead m (Serve (Scan group start end)) (Keys pairs) =
+    Scans m group (bytes_of start) (bytes_of end) (pairs_of pairs.items)
+IsRead m event answer = ⊥
+
+-- How a view changes by an outcome. A batch that is added is kept, or what was kept before.
+abbrev pub Turned : Outcome → BatchRecord → Type 0 → View → View → Type 0
+Turned Never batch read view next = ⊥
+Turned Reads batch read view next = read × (next ≡ view)
+Turned (Turns standing false) batch read view next = next ≡ seen standing view.now view.kept
+Turned (Turns standing true) batch read view next = next ≡ seen standing view.now view.now
+Turned (Adds standing false) batch read view next =
+    (next ≡ seen standing (taken view.now (batch ∷ [])) view.kept)
+    ⊎ (next ≡ seen standing (taken view.now (batch ∷ [])) (taken view.now (batch ∷ [])))
+Turned (Adds standing true) batch read view next =
+    next ≡ seen standing (taken view.now (batch ∷ [])) (taken view.now (batch ∷ []))
+Turned Opens batch read view next = next ≡ seen Running view.kept view.kept
+
+-- how a view changes by an event with this answer
+abbrev pub Moves : {B C : Type 0} → (B → BatchRecord) → View → Event B C → Answer → View → Type 0
+Moves says view event answer next =
+    Turned (outcome view.standing event answer) (batch_of says event) (IsRead view.now event answer) view next
+
+-- from this view on, these answers to these events are possible
+abbrev pub Goes : {B C : Type 0} → (B → BatchRecord) → View → List (Event B C) → List Answer → Type 0
+Goes says view [] [] = Unit {0}
+Goes says view (event ∷ events) (answer ∷ answers) =
+    (next : View) × Moves says view event answer next × Goes says next events answers
+Goes says view events answers = ⊥
+
+-- from a view of one of the logs on, these answers to these events are possible
+abbrev pub AnyGoes : {B C : Type 0} → (B → BatchRecord) → List ModelLog → List (Event B C) → List Answer → Type 0
+AnyGoes says logs events answers = (view : View) × AnyFits logs view × Goes says view events answers
+
+-- the views of `nexts` are those to which the views of `logs` change by this event with this answer
+abbrev pub LeadTo : {B C : Type 0} → (B → BatchRecord) → List ModelLog → Event B C → Answer → List ModelLog → Type 0
+LeadTo says logs event answer nexts =
+    (next : View) → AnyFits nexts next ↔ ((view : View) × AnyFits logs view × Moves says view event answer next)

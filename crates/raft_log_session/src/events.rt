@@ -112,7 +112,7 @@ fn read_purge(word: &str, words: &mut Words<'_>) -> Result<Option<Purge>, Unread
 /// a list of none. `first changes=N [bytes=N]` means the first ones, and some bytes of the next one. Otherwise it is a
 /// list.
 fn read_remainder(words: &mut Words<'_>) -> Result<Remainder, Unread> {
-    let alloc = words.allocator();
+    let alloc = words.alloc;
     let word = words.word(b" keep=")?;
     if word == b"synced".as_slice() {
         return Ok(Remainder::LastSync);

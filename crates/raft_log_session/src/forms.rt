@@ -1,4 +1,4 @@
-//! The form of each line, for whoever wrote another one.
+//! The form of each line, for the error of a line that has another one.
 
 /// The first word of each line, and the line's form.
 const FORMS: [(&str, &str); 22] = [

@@ -1,11 +1,22 @@
 //! Batches of the engine.
+ghost use Rattle.std.specs.Prelude.{◌≡◌, map, IfOk, OnOk};
+ghost use Rattle.raft_log_record_batches.specs.declared.log_batch.BatchState.TheVariants.{Filling};
+ghost use Rattle.raft_log_record_batches.specs.Entries.{slices_bytes};
+ghost use Rattle.raft_log_engine.specs.raft_log_engine_laws.specs.EngineState.{said_of};
+ghost use Rattle.raft_log_judge.specs.Changes.{says_of};
+ghost use Rattle.raftlog.specs.Batches.{AddsChange};
+
 use raft_lists::Bytes;
-use raft_log_engine::{Command, EntryIndex, LogBatch, Result};
+use raft_log_engine::{Command, Error, LogBatch, Result};
 use raft_log_judge::{Change, ChangeKind};
+use raft_log_record_batches::EntrySlices;
 use std::alloc::{AllocError, Global};
 
-/// Returns a batch of the engine with these changes.
-pub fn log_batch(alloc: Global, changes: &[Change]) -> Result<LogBatch> {
+/// Returns a batch of the engine with these changes. Fails if one adds no entries, if a key begins with two
+/// underscores, if an entry would be at the greatest index, or if entries have too many bytes.
+pub fn log_batch(alloc: Global, changes: &[Change]) -> Result<LogBatch>
+    ensures { IfOk result (λ batch. said_of batch ≡ says_of changes.now) }
+{
     let mut batch = LogBatch::default(alloc)?;
     for change in changes {
         add_change(alloc, &mut batch, change)?;
@@ -13,12 +24,26 @@ pub fn log_batch(alloc: Global, changes: &[Change]) -> Result<LogBatch> {
     Ok(batch)
 }
 
-/// Adds a change to a batch. If it fails, no item changes.
-fn add_change(alloc: Global, batch: &mut LogBatch, change: &Change) -> Result<()> {
+/// Adds a change to a batch.
+fn add_change(alloc: Global, batch: &mut LogBatch, change: &Change) -> Result<()>
+    requires { batch.old.state ≡ Filling }
+    ensures { OnOk result (AddsChange batch.old batch.new change.now) }
+{
     let group = change.group;
     match &change.kind {
         ChangeKind::Entries { first, entries } => {
-            add_entries(alloc, batch, group, *first, entries.as_slice())
+            let slices = slices_of(alloc, entries.as_slice())?;
+            if slices.is_empty() {
+                return Err(Error::InvalidArgument(format!(in alloc; "no entries")?));
+            }
+            batch.add_entries_from(
+                alloc,
+                group,
+                *first,
+                &EntrySlices {
+                    slices: slices.as_slice(),
+                },
+            )
         }
         ChangeKind::Clean => Ok(batch.add_command(group, Command::Clean)?),
         ChangeKind::Compact { index } => {
@@ -31,33 +56,10 @@ fn add_change(alloc: Global, batch: &mut LogBatch, change: &Change) -> Result<()
     }
 }
 
-/// Adds entries to a batch, from this index on. If it fails, no item changes.
-fn add_entries(
-    alloc: Global,
-    batch: &mut LogBatch,
-    group: u64,
-    first: u64,
-    entries: &[Bytes],
-) -> Result<()> {
-    let indexes = indexes_from(alloc, first, entries.len())?;
-    let slices = slices_of(alloc, entries)?;
-    batch.add_raw_entries(alloc, group, indexes.as_slice(), slices.as_slice())
-}
-
-/// Returns so many indexes of entries without places, from this one on; the last ones are 2^64 - 1 if they would be
-/// greater.
-fn indexes_from(alloc: Global, first: u64, count: usize) -> Result<Vec<EntryIndex>, AllocError> {
-    let mut indexes = Vec::with_capacity(alloc, count)?;
-    let mut next = first;
-    for _ in 0..count {
-        indexes.push(EntryIndex::unplaced(next, 0))?;
-        next = next.saturating_add(1);
-    }
-    Ok(indexes)
-}
-
 /// Returns the bytes of each entry.
-fn slices_of<'a>(alloc: Global, entries: &'a [Bytes]) -> Result<Vec<&'a [u8]>, AllocError> {
+fn slices_of<'a>(alloc: Global, entries: &'a [Bytes]) -> Result<Vec<&'a [u8]>, AllocError>
+    ensures { IfOk result (λ slices. slices_bytes slices.items ≡ entries.now) }
+{
     let mut slices = Vec::with_capacity(alloc, entries.len())?;
     for entry in entries {
         slices.push(entry.as_slice())?;

@@ -1,4 +1,8 @@
 //! Events with the engine's batches.
+ghost use Rattle.std.specs.Prelude.{◌≡◌, IfOk};
+ghost use Rattle.raft_log_world.specs.Reads.{bytes_of};
+ghost use Rattle.raftlog.specs.Same.{SameCall, SameEvent, SameEvents};
+
 use crate::batches::log_batch;
 use raft_lists::Bytes;
 use raft_log_engine::{LogBatch, Piece, Remainder, Result};
@@ -12,10 +16,9 @@ use std::collections::VecDeque;
 pub type EngineEvent = Event<LogBatch, Remainder>;
 
 /// Returns the same events with the engine's batches.
-pub fn engine_events(
-    alloc: Global,
-    events: &[SessionEvent],
-) -> Result<VecDeque<EngineEvent>> {
+pub fn engine_events(alloc: Global, events: &[SessionEvent]) -> Result<VecDeque<EngineEvent>>
+    ensures { IfOk result (λ played. SameEvents events.now played.items) }
+{
     let mut copies = VecDeque::new(alloc);
     for event in events {
         copies.push_back(engine_event(alloc, event)?)?;
@@ -24,7 +27,9 @@ pub fn engine_events(
 }
 
 /// Returns the same event with the engine's batch.
-fn engine_event(alloc: Global, event: &SessionEvent) -> Result<EngineEvent> {
+fn engine_event(alloc: Global, event: &SessionEvent) -> Result<EngineEvent>
+    ensures { IfOk result (SameEvent event.now) }
+{
     match event {
         Event::Open { workers } => Ok(Event::Open { workers: *workers }),
         Event::Serve(call) => Ok(Event::Serve(engine_call(alloc, call)?)),
@@ -39,7 +44,9 @@ fn engine_event(alloc: Global, event: &SessionEvent) -> Result<EngineEvent> {
 }
 
 /// Returns the same call with the engine's batch.
-fn engine_call(alloc: Global, call: &Call<Batch>) -> Result<Call<LogBatch>> {
+fn engine_call(alloc: Global, call: &Call<Batch>) -> Result<Call<LogBatch>>
+    ensures { IfOk result (SameCall call.now) }
+{
     match call {
         Call::Write { batch, sync } => Ok(Call::Write {
             batch: log_batch(alloc, batch.as_slice())?,
@@ -79,12 +86,16 @@ fn engine_call(alloc: Global, call: &Call<Batch>) -> Result<Call<LogBatch>> {
 }
 
 /// Copies bytes.
-fn copied_bytes(alloc: Global, bytes: &Vec<u8>) -> Result<Vec<u8>, AllocError> {
+fn copied_bytes(alloc: Global, bytes: &Vec<u8>) -> Result<Vec<u8>, AllocError>
+    ensures { IfOk result (λ copy. copy.items ≡ bytes.now.items) }
+{
     Ok(Bytes::from_slice(alloc, bytes.as_slice())?.into_vec())
 }
 
 /// Copies a bound of a scan.
-fn copied_bound(alloc: Global, bound: &Option<Vec<u8>>) -> Result<Option<Vec<u8>>, AllocError> {
+fn copied_bound(alloc: Global, bound: &Option<Vec<u8>>) -> Result<Option<Vec<u8>>, AllocError>
+    ensures { IfOk result (λ copy. bytes_of copy ≡ bytes_of bound.now) }
+{
     match bound {
         Some(bytes) => Ok(Some(copied_bytes(alloc, bytes)?)),
         None => Ok(None),
@@ -92,7 +103,9 @@ fn copied_bound(alloc: Global, bound: &Option<Vec<u8>>) -> Result<Option<Vec<u8>
 }
 
 /// Copies the kind of a purge.
-fn copied_purge(kind: &Purge) -> Purge {
+fn copied_purge(kind: &Purge) -> Purge
+    ensures { result ≡ kind.now }
+{
     match kind {
         Purge::Expired => Purge::Expired,
         Purge::Stale => Purge::Stale,
@@ -108,7 +121,9 @@ fn copied_purge(kind: &Purge) -> Purge {
 }
 
 /// Copies a fault.
-fn copied_fault(fault: &Fault) -> Fault {
+fn copied_fault(fault: &Fault) -> Fault
+    ensures { result ≡ fault.now }
+{
     match fault {
         Fault::Refuse { call, part } => Fault::Refuse {
             call: *call,

@@ -1,10 +1,13 @@
 //! Plays a session, and judges the answers.
+ghost use Rattle.std.specs.Prelude.{◌≡◌, IfOk, OnOk, string_bytes};
+ghost use Rattle.raftlog.specs.Playing.{IsTranscript, transcript_text};
+
 use crate::events::engine_events;
 use log::Log;
-use raft_log_engine::{Config, Result};
+use raft_log_engine::{Config, LogBatch, Remainder, Result};
 use raft_log_judge::judge_log;
 use raft_log_session::{SessionEvent, write_answer, write_verdict};
-use raft_log_world::{Answer, LogReport, run_log};
+use raft_log_world::{Answer, LogFiles, LogReport, run_log};
 use raft_log_world_engine::{ClosedLog, OpenLog};
 use std::alloc::{AllocError, Global};
 use std::thread::Threads;
@@ -16,7 +19,11 @@ pub fn play<R: Threads + Log + Sync>(
     alloc: Global,
     config: Config,
     events: &[SessionEvent],
-) -> Result<(String, bool)> {
+) -> Result<(String, bool)>
+    ensures { IfOk result (λ told.
+        IsTranscript ⟦<ClosedLog as LogFiles<R, OpenLog, LogBatch, Remainder>>⟧.log config events.now
+        (string_bytes told.0) told.1) }
+{
     let played = engine_events(alloc, events)?;
     let files = ClosedLog::new(alloc, config);
     let report: LogReport<OpenLog, ClosedLog> = run_log(rt, alloc, files, played)?;
@@ -27,7 +34,9 @@ pub fn play<R: Threads + Log + Sync>(
 }
 
 /// Returns a line for each answer, and one for the verdict.
-fn transcript(alloc: Global, answers: &[Answer], verdict: bool) -> Result<String, AllocError> {
+fn transcript(alloc: Global, answers: &[Answer], verdict: bool) -> Result<String, AllocError>
+    ensures { IfOk result (λ text. string_bytes text ≡ transcript_text answers.now verdict) }
+{
     let mut text = String::new(alloc);
     for answer in answers {
         write_answer(&mut text, answer)?;

@@ -1,8 +1,13 @@
 //! Texts of sessions, one after another.
+ghost use Rattle.std.specs.Prelude.{◌≡◌, ◌<◌, ◌≤◌, false, IfOk, IsTrue, length, string_bytes};
+ghost use Rattle.raftlog.specs.Playing.{IsSomeTranscript};
+
 use crate::playing::play;
 use log::Log;
-use raft_log_engine::Error;
+use raft_log_engine::{Error, LogBatch, Remainder};
 use raft_log_session::{Session, SessionFault, read_session};
+use raft_log_world::LogFiles;
+use raft_log_world_engine::{ClosedLog, OpenLog};
 use std::alloc::{AllocError, Global};
 use std::thread::Threads;
 
@@ -23,19 +28,17 @@ pub fn split_session(text: &[u8]) -> Option<(&[u8], &[u8])> {
 }
 
 /// The length of the first line, with its line feed; at least 1 if there is any text.
-fn line_len(text: &[u8]) -> usize {
-    let mut len = 0;
-    for b in text {
-        len += 1;
+fn line_len(text: &[u8]) -> usize
+    ensures within { result ≤ length text.now }
+    ensures some { 0 < length text.now → 0 < result }
+{
+    for (i, b) in text.iter().enumerate() {
         if *b == b'\n' {
-            return len;
+            return i + 1;
         }
     }
-    len
+    text.len()
 }
-
-/// What is printed for a session, and whether the verdict is yes.
-pub type Printed = (String, bool);
 
 /// Plays the session of a text. Returns its transcript, and whether the verdict is yes. If the text is no session or
 /// the log rejects its settings, returns a line that says so, and false.
@@ -43,7 +46,10 @@ pub fn answer<R: Threads + Log + Sync>(
     rt: &R,
     alloc: Global,
     text: &[u8],
-) -> Result<Printed, AllocError> {
+) -> Result<(String, bool), AllocError>
+    ensures { IfOk result (λ told. IsTrue told.1
+        → IsSomeTranscript ⟦<ClosedLog as LogFiles<R, OpenLog, LogBatch, Remainder>>⟧.log (string_bytes told.0) told.1) }
+{
     let Session { mut config, events } = match read_session(alloc, text) {
         Ok(session) => session,
         Err(SessionFault::Memory) => return Err(AllocError),
@@ -59,7 +65,9 @@ pub fn answer<R: Threads + Log + Sync>(
 }
 
 /// The line for an error.
-fn refused(alloc: Global, error: Error) -> Result<Printed, AllocError> {
+fn refused(alloc: Global, error: Error) -> Result<(String, bool), AllocError>
+    ensures { IfOk result (λ told. told.1 ≡ false) }
+{
     match error {
         Error::Memory => Err(AllocError),
         error => Ok((format!(in alloc; "{error}\n")?, false)),

@@ -10,8 +10,8 @@ KEYS = ["'a'", "'b'", "'c'", "'aa'", "''", "ff", "00"]
 
 
 def settings(random):
-    """The line of random settings, or none: the usual ones."""
-    if random.random() < 0.05:
+    """The line of random settings; seldom none, which are the usual ones, since their files are large, and take seconds."""
+    if random.random() < 0.0005:
         return []
     target = random.choice(TARGETS)
     words = [
@@ -89,7 +89,7 @@ class History:
     def bytes(self):
         """Bytes that no other place has, most of them few."""
         self.count += 1
-        size = self.random.choice([0, 0, 0, 0, 5, 20, 90, 90, 300, 700, 1500])
+        size = self.random.choice([0, 0, 0, 0, 0, 5, 20, 90, 90, 300]) if self.random.random() < 0.98 else 1500
         return f"{self.count:04x}" + (f"+{self.random.getrandbits(8):02x}*{size}" if size else "")
 
     def append(self, number, group):
@@ -173,7 +173,7 @@ class History:
         lines = []
         for number, group in self.groups.items():
             lines += [f"scan group={number}", f"fetch group={number} from={group.first} below={group.last + 1}"]
-            lines += [f"entry group={number} index={index}" for index in range(max(group.last - 3, 0), group.last + 2)]
+            lines += [f"entry group={number} index={index}" for index in range(max(group.last - 2, 0), group.last + 2)]
         return lines
 
     def purge(self):
@@ -236,7 +236,7 @@ class History:
         """The lines of the session. Near its end a crash or a close comes, and then an open."""
         faults = self.random.choice([0, 0.3, 1, 1, 2])
         lines = settings(self.random) + self.open()
-        for _ in range(self.random.choice([4, 8, 12, 20, 30])):
+        for _ in range(self.random.choice([4, 6, 8, 12, 20])):
             lines += self.event(faults)
             if self.is_armed and self.random.random() < 0.15:
                 lines += self.random.choice([self.crash, self.close])()

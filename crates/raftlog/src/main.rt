@@ -4,7 +4,8 @@
 //! each event, and `verdict yes` if a log that never crashes explains the answers, otherwise `verdict no`. For a text
 //! that is no session it writes what is wrong.
 //!
-//! The status is 0 if each verdict is yes, and otherwise 1. It is 3 if memory, reading or writing failed.
+//! The status is 0 if each verdict is yes, and otherwise 1. It is 3 if memory, reading or writing failed. The log's own
+//! messages are discarded.
 #![tactic(auto)]
 
 mod batches;
@@ -12,7 +13,8 @@ mod events;
 mod playing;
 mod texts;
 
-use log::Log;
+use log::sink::Discard;
+use log::{LevelFilter, Log, Logged};
 use std::io;
 use std::io::{Input, Print, Read, Write};
 use std::process::ExitCode;
@@ -28,13 +30,14 @@ const FAULT: u8 = 3;
 /// Plays the sessions of standard input, and returns the status.
 fn play_all<R: Input + Print + Threads + Log + Sync + AllocGlobal>(rt: &R) -> io::Result<u8> {
     let alloc = rt.alloc();
+    let quiet = Logged::new(rt, LevelFilter::Off, Discard);
     let mut input = Vec::new(alloc);
     rt.reader().read_to_end(&mut input)?;
     let mut writer = io::writer(rt);
     let mut status = 0;
     let mut left = input.as_slice();
     while let Some((text, rest)) = split_session(left) {
-        let (told, good) = answer(rt, alloc, text)?;
+        let (told, good) = answer(&quiet, alloc, text)?;
         writer.write_all(told.as_bytes())?;
         writer.write_all(b"---\n")?;
         if !good {
@@ -42,7 +45,7 @@ fn play_all<R: Input + Print + Threads + Log + Sync + AllocGlobal>(rt: &R) -> io
         }
         left = rest;
     }
-    let (told, good) = answer(rt, alloc, left)?;
+    let (told, good) = answer(&quiet, alloc, left)?;
     writer.write_all(told.as_bytes())?;
     if !good {
         status = REFUSED;

@@ -1,5 +1,5 @@
 //! Texts of sessions, one after another.
-ghost use Rattle.std.specs.Prelude.{◌≡◌, ◌<◌, ◌≤◌, false, IfOk, IsTrue, length, string_bytes};
+ghost use Rattle.std.specs.Prelude.{◌≡◌, ◌<◌, ◌≤◌, false, IfOk, IfSome, IsTrue, length, string_bytes};
 ghost use Rattle.raftlog.specs.Playing.{IsSomeTranscript};
 
 use crate::playing::play;
@@ -15,7 +15,9 @@ use std::thread::Threads;
 const BETWEEN: &[u8] = b"---\n";
 
 /// Returns the text before the first line that parts sessions, and the text after it; `None` if there is none.
-pub fn split_session(text: &[u8]) -> Option<(&[u8], &[u8])> {
+pub fn split_session(text: &[u8]) -> Option<(&[u8], &[u8])>
+    ensures { IfSome result (λ parts. length parts.1.now < length text.now) }
+{
     let mut at = 0;
     while at < text.len() {
         let rest = &text[at..];

@@ -1,8 +1,9 @@
 -- What explains the engine's events explains the same events with lists of changes.
-use Rattle.std.proofs.Common.{◌≡◌, ℕ, Bool, List, [], ◌∷◌, Option, subst}
-use Rattle.std.specs.Prelude.{option_map}
+use Rattle.std.proofs.Common.{◌≡◌, ℕ, Bool, true, List, [], ◌∷◌, Option, subst}
+use Rattle.std.specs.Prelude.{◌↔◌, IsTrue, option_map}
 use Rattle.std.specs.Global.{Vec}
 use Rattle.raft_log_fs_state.specs.declared.remainder.Remainder.{Remainder}
+use Rattle.raft_log_machine_laws.specs.Fresh.{nothing_stands}
 use Rattle.raft_log_model_laws.specs.Groups.{taken}
 use Rattle.raft_log_model_laws.specs.Meaning.Slot.{Index, Key}
 use Rattle.raft_log_model_laws.specs.Meaning.Content.{Entry, Value}
@@ -14,12 +15,19 @@ use Rattle.raft_log_world.specs.declared.event.Call.{Call}
 use Rattle.raft_log_world.specs.declared.event.Call.TheVariants.{Write, Sync, Get, GetEntry, Fetch, Scan, Compact, Purge}
 use Rattle.raft_log_world.specs.declared.event.Event.{Event}
 use Rattle.raft_log_world.specs.declared.event.Event.TheVariants.{Open, Serve, Close, Crash, Arm}
-use Rattle.raft_log_world.specs.Explained.{Explains}
+use Rattle.raft_log_world.specs.declared.report.LogReport.{LogReport}
+use Rattle.raft_log_world.specs.declared.storage.Storage.TheVariants.{Closed}
+use Rattle.raft_log_world.specs.Explained.{AllExplained, Explains, NoneCollides}
+use Rattle.raft_log_world.specs.Logs.{LogOf, Stands}
 use Rattle.raft_log_world.specs.Model.{Adds, Answers, BatchRecord, Compacts, FailsAt, ModelLog, Serves, compacts}
 use Rattle.raft_log_world.specs.Model.ModelLog.{resting, left, running, failed}
+use Rattle.raft_log_world.specs.Run.{IsLogRun}
 use Rattle.raft_log_world.specs.Reads.{Contents, Fetches, Scans, all_bytes, bytes_of, pairs_of}
 use Rattle.raft_log_judge.specs.declared.change.Change.{Change}
 use Rattle.raft_log_judge.specs.Changes.{says_of}
+use Rattle.raft_log_judge.specs.Judging.{IsExplained}
+use Rattle.raft_log_world_engine.specs.declared.files.ClosedLog.{ClosedLog}
+use Rattle.raft_log_world_engine.specs.declared.files.OpenLog.{OpenLog}
 use Rattle.raftlog.specs.Same.{SameCall, SameEvent, SameEvents}
 
 -- Calls, by kind.
@@ -151,3 +159,16 @@ explained_same log last (event ∷ events) (e ∷ es) (a ∷ answers) same x =
     (x.0, event_same log x.0 event e a same.0 x.1, explained_same x.0 last events es answers same.1 x.2)
 explained_same log last [] (e ∷ es) answers same x = absurd same
 explained_same log last (event ∷ events) [] answers same x = absurd same
+
+-- if no event meets a CRC collision, the verdict is yes
+pub is_yes : (l : LogOf OpenLog ClosedLog Batch Remainder) → l.says ≡ said_of → AllExplained l → (files : ClosedLog) (events : List (Event (List Change) Remainder)) (played : List (Event Batch Remainder))
+    (report : LogReport OpenLog ClosedLog) (verdict : Bool)
+    → SameEvents events played → (ran : IsLogRun l files played report) → Stands l (Closed files) (resting nothing_stands) → (IsTrue verdict ↔ IsExplained events report.answers.items)
+    → NoneCollides l (Closed files) ran.moments → verdict ≡ true
+is_yes l says all files events played report verdict same ran stands judged spared =
+    let (last, explains, ends) = all files played report ran (resting nothing_stands) stands spared in
+    judged.1 (
+      last,
+      explained_same (resting nothing_stands) last events played report.answers.items same
+      (subst (λ (s : Batch → BatchRecord). Explains s (resting nothing_stands) played report.answers.items last) says explains),
+    )

@@ -1,5 +1,5 @@
 -- What is printed for a session.
-use Rattle.std.specs.Prelude.{◌≡◌, ◌↔◌, ℕ, Bool, IsTrue, List, ◌++◌}
+use Rattle.std.specs.Prelude.{◌≡◌, ◌↔◌, ℕ, Bool, true, IsTrue, List, ◌++◌}
 use Rattle.std.specs.List.{flat_map}
 use Rattle.raft_log_machine_laws.specs.Fresh.{nothing_stands}
 use Rattle.raft_log_engine.specs.raft_log_fs_memory.specs.Memory.{disk_of}
@@ -9,6 +9,8 @@ use Rattle.raft_log_record_batches.specs.Batch.{Batch}
 use Rattle.raft_log_world.specs.declared.event.Answer.{Answer}
 use Rattle.raft_log_world.specs.declared.event.Event.{Event}
 use Rattle.raft_log_world.specs.declared.report.LogReport.{LogReport}
+use Rattle.raft_log_world.specs.declared.storage.Storage.TheVariants.{Closed}
+use Rattle.raft_log_world.specs.Explained.{NoneCollides}
 use Rattle.raft_log_world.specs.Logs.{LogOf}
 use Rattle.raft_log_world.specs.Model.ModelLog.{resting}
 use Rattle.raft_log_world.specs.Run.{IsLogRun}
@@ -24,8 +26,9 @@ use Rattle.raftlog.specs.Same.{SameEvents}
 abbrev pub transcript_text : List Answer → Bool → List ℕ
 transcript_text answers verdict = flat_map answer_line answers ++ verdict_line verdict
 
--- A run of exactly these events, from an empty log with these settings. The text is the transcript of its report. The
--- verdict is yes exactly if a log that never crashes, empty at first, gives the report's answers.
+-- A run of exactly these events, from an empty log with these settings. The text is the transcript of its report:
+-- - `judged`: the verdict is yes exactly if a log that never crashes, empty at first, gives the report's answers.
+-- - `agreed`: it is yes if no event met a CRC collision.
 pub record IsTranscript (l : LogOf OpenLog ClosedLog Batch Remainder) (config : Config)
     (events : List (Event (List Change) Remainder)) (text : List ℕ) (verdict : Bool) : Type 0 where
   pub files : ClosedLog
@@ -37,6 +40,7 @@ pub record IsTranscript (l : LogOf OpenLog ClosedLog Batch Remainder) (config : 
   pub ran : IsLogRun l files played report
   pub judged : IsTrue verdict ↔ IsExplained events report.answers.items
   pub written : text ≡ transcript_text report.answers.items verdict
+  pub agreed : NoneCollides l (Closed files) ran.moments → verdict ≡ true
 
 -- the text is the transcript of some session's run
 abbrev pub IsSomeTranscript : LogOf OpenLog ClosedLog Batch Remainder → List ℕ → Bool → Type 0

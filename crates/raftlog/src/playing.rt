@@ -7,6 +7,7 @@ use log::Log;
 use raft_log_engine::{Config, LogBatch, Remainder, Result};
 use raft_log_judge::judge_log;
 use raft_log_session::{SessionEvent, write_answer, write_verdict};
+use raft_log_world::laws::runs_are_explained;
 use raft_log_world::{Answer, LogFiles, LogReport, run_log};
 use raft_log_world_engine::{ClosedLog, OpenLog};
 use std::alloc::{AllocError, Global};
@@ -24,6 +25,7 @@ pub fn play<R: Threads + Log + Sync>(
         IsTranscript ⟦<ClosedLog as LogFiles<R, OpenLog, LogBatch, Remainder>>⟧.log config events.now
         (string_bytes told.0) told.1) }
 {
+    runs_are_explained::<R, OpenLog, LogBatch, Remainder, ClosedLog>();
     let played = engine_events(alloc, events)?;
     let files = ClosedLog::new(alloc, config);
     let report: LogReport<OpenLog, ClosedLog> = run_log(rt, alloc, files, played)?;

@@ -1,2 +1,3 @@
 mod Agreeing
+mod Events
 mod Saying

@@ -26,8 +26,6 @@ use Rattle.raft_log_world.specs.Reads.{Contents, Fetches, Scans, all_bytes, byte
 use Rattle.raft_log_judge.specs.declared.change.Change.{Change}
 use Rattle.raft_log_judge.specs.Changes.{says_of}
 use Rattle.raft_log_judge.specs.Judging.{IsExplained}
-use Rattle.raft_log_world_engine.specs.declared.files.ClosedLog.{ClosedLog}
-use Rattle.raft_log_world_engine.specs.declared.files.OpenLog.{OpenLog}
 use Rattle.raftlog.specs.Same.{SameCall, SameEvent, SameEvents}
 
 -- Calls, by kind.
@@ -161,8 +159,8 @@ explained_same log last [] (e ∷ es) answers same x = absurd same
 explained_same log last (event ∷ events) [] answers same x = absurd same
 
 -- if no event meets a CRC collision, the verdict is yes
-pub is_yes : (l : LogOf OpenLog ClosedLog Batch Remainder) → l.says ≡ said_of → AllExplained l → (files : ClosedLog) (events : List (Event (List Change) Remainder)) (played : List (Event Batch Remainder))
-    (report : LogReport OpenLog ClosedLog) (verdict : Bool)
+pub is_yes : {S F : Type 0} (l : LogOf S F Batch Remainder) → l.says ≡ said_of → AllExplained l → (files : F) (events : List (Event (List Change) Remainder)) (played : List (Event Batch Remainder))
+    (report : LogReport S F) (verdict : Bool)
     → SameEvents events played → (ran : IsLogRun l files played report) → Stands l (Closed files) (resting nothing_stands) → (IsTrue verdict ↔ IsExplained events report.answers.items)
     → NoneCollides l (Closed files) ran.moments → verdict ≡ true
 is_yes l says all files events played report verdict same ran stands judged spared =

@@ -1,12 +1,10 @@
 -- What is printed for a session.
-use Rattle.std.specs.Prelude.{◌≡◌, ◌↔◌, ℕ, Bool, true, IsTrue, List, ◌++◌}
-use Rattle.std.specs.List.{flat_map}
+use Rattle.std.specs.Prelude.{◌≡◌, ◌↔◌, ℕ, Bool, true, IsTrue, List}
 use Rattle.raft_log_machine_laws.specs.Fresh.{nothing_stands}
 use Rattle.raft_log_engine.specs.raft_log_fs_memory.specs.Memory.{disk_of}
 use Rattle.raft_log_engine.specs.raft_log_file_settings.specs.declared.config.Config.{Config}
 use Rattle.raft_log_fs_state.specs.declared.remainder.Remainder.{Remainder}
 use Rattle.raft_log_record_batches.specs.Batch.{Batch}
-use Rattle.raft_log_world.specs.declared.event.Answer.{Answer}
 use Rattle.raft_log_world.specs.declared.event.Event.{Event}
 use Rattle.raft_log_world.specs.declared.report.LogReport.{LogReport}
 use Rattle.raft_log_world.specs.declared.storage.Storage.TheVariants.{Closed}
@@ -16,15 +14,11 @@ use Rattle.raft_log_world.specs.Model.ModelLog.{resting}
 use Rattle.raft_log_world.specs.Run.{IsLogRun}
 use Rattle.raft_log_judge.specs.declared.change.Change.{Change}
 use Rattle.raft_log_judge.specs.Judging.{IsExplained}
-use Rattle.raft_log_session.specs.Answers.{answer_line, verdict_line}
 use Rattle.raft_log_world_engine.specs.declared.files.ClosedLog.{ClosedLog}
 use Rattle.raft_log_world_engine.specs.declared.files.OpenLog.{OpenLog}
 use Rattle.raft_log_world_engine.specs.Instance.{IsFilesLog}
 use Rattle.raftlog.specs.Same.{SameEvents}
-
--- the text of a transcript: a line for each answer, and one for the verdict
-abbrev pub transcript_text : List Answer → Bool → List ℕ
-transcript_text answers verdict = flat_map answer_line answers ++ verdict_line verdict
+use Rattle.raftlog.specs.Transcripts.{transcript_text}
 
 -- A run of exactly these events, from an empty log with these settings. The text is the transcript of its report:
 -- - `judged`: the verdict is yes exactly if a log that never crashes, empty at first, gives the report's answers.

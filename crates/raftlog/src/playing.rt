@@ -1,6 +1,7 @@
 //! Plays a session, and judges the answers.
 ghost use Rattle.std.specs.Prelude.{◌≡◌, IfOk, OnOk, string_bytes};
-ghost use Rattle.raftlog.specs.Playing.{IsTranscript, transcript_text};
+ghost use Rattle.raftlog.specs.Playing.{IsTranscript};
+ghost use Rattle.raftlog.specs.Transcripts.{transcript_text};
 
 use crate::events::engine_events;
 use log::Log;

@@ -3,9 +3,18 @@
 /// The first word of each line, and the line's form.
 const FORMS: [(&str, &str); 22] = [
     ("settings", "settings KEY=VALUE .., before all other lines"),
-    ("append", "append group=N index=N entries=BYTES,.., below the last index"),
-    ("put", "put group=N key=BYTES value=BYTES, with no key of the log's own"),
-    ("delete", "delete group=N key=BYTES, with no key of the log's own"),
+    (
+        "append",
+        "append group=N index=N entries=BYTES,.., below the last index",
+    ),
+    (
+        "put",
+        "put group=N key=BYTES value=BYTES, with no key of the log's own",
+    ),
+    (
+        "delete",
+        "delete group=N key=BYTES, with no key of the log's own",
+    ),
     ("clean", "clean group=N"),
     ("compact", "compact group=N index=N"),
     ("write", "write [sync]"),
@@ -21,7 +30,10 @@ const FORMS: [(&str, &str); 22] = [
     ("purge-stale", "purge-stale"),
     ("rewrite-append", "rewrite-append [watermark=N] [exit=N]"),
     ("rewrite-rewrite", "rewrite-rewrite"),
-    ("crash", "crash keep=synced, all, none, first changes=N [bytes=N], or a list of keep, lose and BYTES"),
+    (
+        "crash",
+        "crash keep=synced, all, none, first changes=N [bytes=N], or a list of keep, lose and BYTES",
+    ),
     ("refuse", "refuse call=N [part=N]"),
     ("stop", "stop call=N [after]"),
 ];

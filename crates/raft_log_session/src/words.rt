@@ -149,7 +149,11 @@ impl<'a> Words<'a> {
 
     /// Fails if arguments are left.
     pub fn end(&self) -> Result<(), Unread> {
-        if self.left.is_empty() { Ok(()) } else { Err(Unread::Form) }
+        if self.left.is_empty() {
+            Ok(())
+        } else {
+            Err(Unread::Form)
+        }
     }
 }
 

@@ -54,19 +54,23 @@ module _ (m : Contents) (pending : List BatchRecord) (next : ModelLog) where
 
   fetch : (group g begin b end e : ℕ) (max n : Option ℕ) (a : Answer) → g ≡ group → b ≡ begin → e ≡ end → n ≡ max
       → Serves said_of m pending (Fetch g b e n) a next → Serves says_of m pending (Fetch group begin end max) a next
-  fetch group g begin b end e max n (Entries entries) same from below most x =
-      (subst (λ (o : Option ℕ). Fetches (taken m pending) group begin end o (all_bytes entries.items)) most
-      (subst (λ (j : ℕ). Fetches (taken m pending) group begin j n (all_bytes entries.items)) below
-      (subst (λ (j : ℕ). Fetches (taken m pending) group j e n (all_bytes entries.items)) from
-      (subst (λ (j : ℕ). Fetches (taken m pending) j b e n (all_bytes entries.items)) same x.0))), x.1)
+  fetch group g begin b end e max n (Entries entries) same from below most x = (
+    subst (λ (o : Option ℕ). Fetches (taken m pending) group begin end o (all_bytes entries.items)) most
+        (subst (λ (j : ℕ). Fetches (taken m pending) group begin j n (all_bytes entries.items)) below
+        (subst (λ (j : ℕ). Fetches (taken m pending) group j e n (all_bytes entries.items)) from
+        (subst (λ (j : ℕ). Fetches (taken m pending) j b e n (all_bytes entries.items)) same x.0))),
+    x.1,
+  )
   fetch group g begin b end e max n _ same from below most x = x
 
   scan : (group g : ℕ) (start s end e : Option (Vec ℕ)) (a : Answer) → g ≡ group → bytes_of s ≡ bytes_of start → bytes_of e ≡ bytes_of end
       → Serves said_of m pending (Scan g s e) a next → Serves says_of m pending (Scan group start end) a next
-  scan group g start s end e (Keys pairs) same from below x =
-      (subst (λ (o : Option (List ℕ)). Scans (taken m pending) group (bytes_of start) o (pairs_of pairs.items)) below
-      (subst (λ (o : Option (List ℕ)). Scans (taken m pending) group o (bytes_of e) (pairs_of pairs.items)) from
-      (subst (λ (j : ℕ). Scans (taken m pending) j (bytes_of s) (bytes_of e) (pairs_of pairs.items)) same x.0)), x.1)
+  scan group g start s end e (Keys pairs) same from below x = (
+    subst (λ (o : Option (List ℕ)). Scans (taken m pending) group (bytes_of start) o (pairs_of pairs.items)) below
+        (subst (λ (o : Option (List ℕ)). Scans (taken m pending) group o (bytes_of e) (pairs_of pairs.items)) from
+        (subst (λ (j : ℕ). Scans (taken m pending) j (bytes_of s) (bytes_of e) (pairs_of pairs.items)) same x.0)),
+    x.1,
+  )
   scan group g start s end e _ same from below x = x
 
   compact : (group g index i : ℕ) (a : Answer) → g ≡ group → i ≡ index → Serves said_of m pending (Compact g i) a next → Serves says_of m pending (Compact group index) a next
@@ -168,5 +172,5 @@ is_yes l says all files events played report verdict same ran stands judged spar
     judged.1 (
       last,
       explained_same (resting nothing_stands) last events played report.answers.items same
-      (subst (λ (s : Batch → BatchRecord). Explains s (resting nothing_stands) played report.answers.items last) says explains),
+          (subst (λ (s : Batch → BatchRecord). Explains s (resting nothing_stands) played report.answers.items last) says explains),
     )

@@ -1,8 +1,8 @@
 -- What a batch of the engine says.
-use Rattle.std.proofs.Common.{◌≡◌, ◌∙◌, ℕ, Bool, true, false, List, [], ◌∷◌, ◌++◌, length, take, drop, map, Some, refl, sym, ap, append-nil}
+use Rattle.std.proofs.Common.{◌≡◌, ◌∙◌, ℕ, ◌+◌, ◌<◌, ◌≤◌, Bool, true, false, List, [], ◌∷◌, ◌++◌, length, take, drop, get_or, map, Some, refl, sym, ap, subst, append-nil}
 use Rattle.std.specs.Prelude.{unwrap_or}
 use Rattle.std.proofs.Math.Seq.{take-append_seam, drop-append_seam}
-use Rattle.std.proofs.lemmas.List.{length-map, map-append}
+use Rattle.std.proofs.lemmas.List.{length-map, map-append, take_all, take_more}
 use Rattle.std.proofs.lemmas.List.Concat.{flat_map-append}
 use Rattle.raft_log_model_laws.specs.Item.{Item, Tagged}
 use Rattle.raft_log_model_laws.specs.Item.Item.{Run}
@@ -125,3 +125,17 @@ adds_entries old new group first (t ∷ ts) change some is adds bytes changes ha
     let both = cancel (map f (all_entries old.items)) (map g (all_entries old.items)) (map f run) texts (same_count f g (all_entries old.items)) parted in
     one_more old new item change changes tt items (ap (λ (b : Batch). b.state) adds.0) (items_same f g old.items both.0)
     (ap (λ (l : List (List ℕ)). record { group = group; item = Run first l }) both.1 ∙ ap tagged (sym is)) has
+
+-- Changes, one after another.
+
+pub none_yet : (b : Batch) (changes : List Change) → b ≡ empty_batch 0 0 → HasChanges b (take 0 changes)
+none_yet b changes is = subst (λ (c : Batch). HasChanges c []) (sym is) (empty_says 0 0)
+
+pub one_change_more : (old new : Batch) (changes : List Change) (i : ℕ) (change : Change) → i < length changes → change ≡ get_or changes i change → HasChanges old (take i changes) → AddsChange old new change
+    → HasChanges new (take (i + 1) changes)
+one_change_more old new changes i change lt is has adds =
+    let more : take (i + 1) changes ≡ take i changes ++ change ∷ [] = take_more changes i change lt ∙ ap (λ (x : Change). take i changes ++ x ∷ []) (sym is) in
+    subst (λ (l : List Change). HasChanges new l) (sym more) (adds (take i changes) has)
+
+pub all_said : (b : Batch) (changes : List Change) (i : ℕ) → length changes ≤ i → HasChanges b (take i changes) → said_of b ≡ says_of changes
+all_said b changes i all has = said b (take i changes) has ∙ ap says_of (take_all i changes all)

@@ -1,4 +1,4 @@
-//! Plays sessions on a log, in a file system in memory that fails, stops and crashes as they say, and judges the answers.
+//! Plays sessions on a log in memory, which fails, stops and crashes as they say, and judges the answers.
 //!
 //! It reads sessions from standard input; a line `---` parts two of them. For each it writes a line for the answer to
 //! each event, and `verdict yes` if a log that never crashes explains the answers, otherwise `verdict no`. For a text

@@ -1,0 +1,4 @@
+pub mod Batches
+pub mod Playing
+pub mod Same
+pub mod Transcripts

@@ -155,11 +155,13 @@ class History:
         """A read."""
         number, group = self.group()
         kind = self.random.random()
-        if kind < 0.3:
+        if kind < 0.25:
             return f"get group={number} key={self.random.choice(KEYS)}"
-        if kind < 0.6:
+        if kind < 0.5:
             return f"entry group={number} index={self.random.randint(0, group.last + 2)}"
-        if kind < 0.8:
+        if kind < 0.65:
+            return f"{self.random.choice(['first-index', 'last-index'])} group={number}"
+        if kind < 0.85:
             begin = self.random.randint(0, group.last + 1)
             end = begin + self.random.choice([0, 1, 2, 3, 5])
             size = self.random.choice(["", "", " size=0", " size=1", " size=90", " size=700"])
@@ -173,6 +175,7 @@ class History:
         lines = []
         for number, group in self.groups.items():
             lines += [f"scan group={number}", f"fetch group={number} from={group.first} below={group.last + 1}"]
+            lines += [f"first-index group={number}", f"last-index group={number}"]
             lines += [f"entry group={number} index={index}" for index in range(max(group.last - 2, 0), group.last + 2)]
         return lines
 

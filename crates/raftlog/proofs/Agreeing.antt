@@ -10,9 +10,9 @@ use Rattle.raft_log_model_laws.specs.Meaning.Content.{Entry, Value}
 use Rattle.raft_log_record_batches.specs.Batch.{Batch}
 use Rattle.raft_log_engine.specs.raft_log_engine_laws.specs.EngineState.{said_of}
 use Rattle.raft_log_world.specs.declared.event.Answer.{Answer}
-use Rattle.raft_log_world.specs.declared.event.Answer.TheVariants.{Done, Found, Entries, Keys, Refused, Failed, Idle}
+use Rattle.raft_log_world.specs.declared.event.Answer.TheVariants.{Done, Found, At, Entries, Keys, Refused, Failed, Idle}
 use Rattle.raft_log_world.specs.declared.event.Call.{Call}
-use Rattle.raft_log_world.specs.declared.event.Call.TheVariants.{Write, Sync, Get, GetEntry, Fetch, Scan, Compact, Purge}
+use Rattle.raft_log_world.specs.declared.event.Call.TheVariants.{Write, Sync, Get, GetEntry, FirstIndex, LastIndex, Fetch, Scan, Compact, Purge}
 use Rattle.raft_log_world.specs.declared.event.Event.{Event}
 use Rattle.raft_log_world.specs.declared.event.Event.TheVariants.{Open, Serve, Close, Crash, Arm}
 use Rattle.raft_log_world.specs.declared.report.LogReport.{LogReport}
@@ -22,7 +22,7 @@ use Rattle.raft_log_world.specs.Logs.{LogOf, Stands}
 use Rattle.raft_log_world.specs.Model.{Adds, Answers, BatchRecord, Compacts, FailsAt, ModelLog, Serves, compacts}
 use Rattle.raft_log_world.specs.Model.ModelLog.{resting, left, running, failed}
 use Rattle.raft_log_world.specs.Run.{IsLogRun}
-use Rattle.raft_log_world.specs.Reads.{Contents, Fetches, Scans, all_bytes, bytes_of, pairs_of}
+use Rattle.raft_log_world.specs.Reads.{Contents, Fetches, IsFirstIndex, IsLastIndex, Scans, all_bytes, bytes_of, pairs_of}
 use Rattle.raft_log_judge.specs.declared.change.Change.{Change}
 use Rattle.raft_log_judge.specs.Changes.{says_of}
 use Rattle.raft_log_judge.specs.Judging.{IsExplained}
@@ -51,6 +51,14 @@ module _ (m : Contents) (pending : List BatchRecord) (next : ModelLog) where
   entry group g index i (Found value) same at x =
       (subst (λ (j : ℕ). taken m pending group (Index j) ≡ option_map Entry (bytes_of value)) at (subst (λ (n : ℕ). taken m pending n (Index i) ≡ option_map Entry (bytes_of value)) same x.0), x.1)
   entry group g index i _ same at x = x
+
+  first : (group g : ℕ) (a : Answer) → g ≡ group → Serves said_of m pending (FirstIndex g) a next → Serves says_of m pending (FirstIndex group) a next
+  first group g (At index) same x = (subst (λ (n : ℕ). IsFirstIndex (taken m pending) n index) same x.0, x.1)
+  first group g _ same x = x
+
+  last : (group g : ℕ) (a : Answer) → g ≡ group → Serves said_of m pending (LastIndex g) a next → Serves says_of m pending (LastIndex group) a next
+  last group g (At index) same x = (subst (λ (n : ℕ). IsLastIndex (taken m pending) n index) same x.0, x.1)
+  last group g _ same x = x
 
   fetch : (group g begin b end e : ℕ) (max n : Option ℕ) (a : Answer) → g ≡ group → b ≡ begin → e ≡ end → n ≡ max
       → Serves said_of m pending (Fetch g b e n) a next → Serves says_of m pending (Fetch group begin end max) a next
@@ -86,6 +94,8 @@ module _ (m : Contents) (pending : List BatchRecord) (next : ModelLog) where
   call_same Sync Sync a same x = sync a x
   call_same (Get group key) (Get g k) a same x = get group g key k a same.0 same.1 x
   call_same (GetEntry group index) (GetEntry g i) a same x = entry group g index i a same.0 same.1 x
+  call_same (FirstIndex group) (FirstIndex g) a same x = first group g a same x
+  call_same (LastIndex group) (LastIndex g) a same x = last group g a same x
   call_same (Fetch group begin end max) (Fetch g b e n) a same x = fetch group g begin b end e max n a same.0 same.1 same.2 same.3 x
   call_same (Scan group start end) (Scan g s e) a same x = scan group g start s end e a same.0 same.1 same.2 x
   call_same (Compact group index) (Compact g i) a same x = compact group g index i a same.0 same.1 x

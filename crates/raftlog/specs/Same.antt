@@ -4,7 +4,7 @@ use Rattle.raft_log_fs_state.specs.declared.remainder.Remainder.{Remainder}
 use Rattle.raft_log_record_batches.specs.Batch.{Batch}
 use Rattle.raft_log_engine.specs.raft_log_engine_laws.specs.EngineState.{said_of}
 use Rattle.raft_log_world.specs.declared.event.Call.{Call}
-use Rattle.raft_log_world.specs.declared.event.Call.TheVariants.{Write, Sync, Get, GetEntry, Fetch, Scan, Compact, Purge}
+use Rattle.raft_log_world.specs.declared.event.Call.TheVariants.{Write, Sync, Get, GetEntry, FirstIndex, LastIndex, Fetch, Scan, Compact, Purge}
 use Rattle.raft_log_world.specs.declared.event.Event.{Event}
 use Rattle.raft_log_world.specs.declared.event.Event.TheVariants.{Open, Serve, Close, Crash, Arm}
 use Rattle.raft_log_world.specs.Reads.{bytes_of}
@@ -17,6 +17,8 @@ SameCall (Write changes sync) (Write batch flag) = (said_of batch ≡ says_of ch
 SameCall Sync Sync = Unit {0}
 SameCall (Get group key) (Get g k) = (g ≡ group) × (k.items ≡ key.items)
 SameCall (GetEntry group index) (GetEntry g i) = (g ≡ group) × (i ≡ index)
+SameCall (FirstIndex group) (FirstIndex g) = g ≡ group
+SameCall (LastIndex group) (LastIndex g) = g ≡ group
 SameCall (Fetch group begin end max) (Fetch g b e m) = (g ≡ group) × (b ≡ begin) × (e ≡ end) × (m ≡ max)
 SameCall (Scan group start end) (Scan g s e) = (g ≡ group) × (bytes_of s ≡ bytes_of start) × (bytes_of e ≡ bytes_of end)
 SameCall (Compact group index) (Compact g i) = (g ≡ group) × (i ≡ index)

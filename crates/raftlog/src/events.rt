@@ -61,6 +61,8 @@ fn engine_call(alloc: Global, call: &Call<Batch>) -> Result<Call<LogBatch>>
             group: *group,
             index: *index,
         }),
+        Call::FirstIndex { group } => Ok(Call::FirstIndex { group: *group }),
+        Call::LastIndex { group } => Ok(Call::LastIndex { group: *group }),
         Call::Fetch {
             group,
             begin,

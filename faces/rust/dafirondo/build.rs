@@ -1,10 +1,17 @@
-//! Links the static library `libdafirondo.a`, which `tools/faces` builds: it is in the directory `DAFIRONDO_LIB`.
+//! Links the static library `libdafirondo.a`: from the directory `DAFIRONDO_LIB`, or, for a crate that `tools/install` has put
+//! below a prefix, from the folder `lib` there.
+
+use std::env;
+use std::path::PathBuf;
 
 fn main() {
     println!("cargo:rerun-if-env-changed=DAFIRONDO_LIB");
-    if let Ok(directory) = std::env::var("DAFIRONDO_LIB") {
-        println!("cargo:rustc-link-search=native={directory}");
-        println!("cargo:rerun-if-changed={directory}/libdafirondo.a");
+    let installed = || PathBuf::from(env::var_os("CARGO_MANIFEST_DIR").unwrap_or_default()).join("../../../lib");
+    let directory = env::var_os("DAFIRONDO_LIB").map_or_else(installed, PathBuf::from);
+    let library = directory.join("libdafirondo.a");
+    if library.exists() {
+        println!("cargo:rustc-link-search=native={}", directory.display());
+        println!("cargo:rerun-if-changed={}", library.display());
     }
     println!("cargo:rustc-link-lib=static=dafirondo");
     println!("cargo:rustc-link-lib=m");

@@ -21,6 +21,11 @@ impl ReadableSize {
     pub const fn gb(count: u64) -> ReadableSize {
         ReadableSize(count << 30)
     }
+
+    /// How many whole MiB it is.
+    pub const fn as_mb(self) -> u64 {
+        self.0 >> 20
+    }
 }
 
 /// What an open does with damaged files.

@@ -29,6 +29,17 @@ extern "C" {
         room_len: usize,
         needed: *mut usize,
     ) -> i32;
+    fn dafirondo_fetch(
+        log: *mut Log,
+        group: u64,
+        begin: u64,
+        end: u64,
+        max_size: usize,
+        room: *mut u8,
+        room_len: usize,
+        needed: *mut usize,
+        count: *mut usize,
+    ) -> i32;
     fn dafirondo_last_error(log: *mut Log, text: *mut u8, text_len: usize) -> usize;
 }
 
@@ -36,6 +47,7 @@ extern "C" {
 use dafirondo as _;
 
 const INVALID: i32 = 1;
+const NOT_FOUND: i32 = 7;
 const ROOM: i32 = 15;
 const NONE: i32 = 16;
 
@@ -98,6 +110,30 @@ fn wrong_bytes_are_rejected() {
     assert_eq!((status, needed, room[0]), (0, 1, b'v'));
     random_bytes(&mut log);
     assert_eq!(unsafe { dafirondo_close(log, text.as_mut_ptr(), text.len(), &mut needed) }, 0);
+    std::fs::remove_dir_all(path).unwrap();
+}
+
+#[test]
+fn an_error_leaves_the_callers_memory() {
+    let path = std::env::temp_dir().join(format!("dafirondo-memory-{}", std::process::id()));
+    let mut log = open(path.to_str().unwrap());
+    let (mut written, mut index, mut needed, mut count, mut room) = (77, 77, 77, 77, [77; 4]);
+    assert_eq!(unsafe { dafirondo_write(&mut log, [9].as_ptr(), 1, false, &mut written) }, INVALID);
+    assert_eq!(unsafe { dafirondo_last_index(&mut log, 7, &mut index) }, NONE);
+    let mut get = |len, needed: &mut usize, room: &mut [u8; 4]| unsafe {
+        dafirondo_get(&mut log, 7, b"k".as_ptr(), 1, room.as_mut_ptr(), len, needed)
+    };
+    assert_eq!(get(4, &mut needed, &mut room), NONE);
+    assert_eq!((written, index, needed, room), (77, 77, 77, [77; 4]));
+    assert_eq!(write(&mut log, &batch()), 0);
+    let mut fetch = |end, len, needed: &mut usize, count: &mut usize, room: &mut [u8; 4]| unsafe {
+        dafirondo_fetch(&mut log, 7, 1, end, usize::MAX, room.as_mut_ptr(), len, needed, count)
+    };
+    assert_eq!(fetch(4, 4, &mut needed, &mut count, &mut room), NOT_FOUND);
+    assert_eq!((needed, count, room), (77, 77, [77; 4]));
+    assert_eq!(fetch(3, 4, &mut needed, &mut count, &mut room), ROOM);
+    assert_eq!((needed, count, room), (10, 2, [77; 4]));
+    assert_eq!(unsafe { dafirondo_close(log, room.as_mut_ptr(), room.len(), &mut needed) }, 0);
     std::fs::remove_dir_all(path).unwrap();
 }
 

@@ -16,7 +16,7 @@ TITLE, WORDS, CRATE, STEP = 14, 11.5, 12, 17
 # x, y, width, height, fill, title, what it is, prefix of the crates' names, these, what crates above cite
 BOXES = [
     (16, 48, 430, 86, "#ffffff", "Sessions", "session text in, judged transcript out", "",
-     ["raftvoters", "raftvoters_timeline", "raft_voter_program", "raftlog"], ""),
+     ["raftvoters", "raftvoters_timeline", "raft_voter_program"], "WritesSession"),
     (454, 48, 256, 86, "#ffffff", "A node", "voters over a real directory", "",
      ["raftnode", "raft_voter_node"], ""),
     (718, 48, 346, 86, "#ffffff", "Proved callers", "short examples, with contracts", "",
@@ -29,7 +29,7 @@ BOXES = [
      [("ctl", "dump, check, stat, fork, unpad"), ("operator", "its library"),
       ("ten_lines", "saves a key, and reads it"), ("append_lines", "keeps lines of input"),
       ("node_storage", "a Raft node's storage"), ("world_engine", "the engine in world's runs"),
-      ("session", "texts of raftlog")], ""),
+      ("session", "texts of sessions")], ""),
     (16, 330, 180, 434, "#ece6f8", "Voter", "the receiver of Raft", "raft_",
      ["voter", "voter_outline", "voter_messages", "voter_plain", "voter_group_laws"], "Voter::step, judge, one_vote_per_term,"
      " terms_never_fall, matched_entries_stand, repeat_is_idempotent, group_isolation"),

@@ -1,3 +1,0 @@
-mod Agreeing
-mod Events
-mod Saying

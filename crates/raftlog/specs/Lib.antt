@@ -1,4 +1,0 @@
-pub mod Batches
-pub mod Playing
-pub mod Same
-pub mod Transcripts

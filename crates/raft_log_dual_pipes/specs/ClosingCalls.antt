@@ -22,8 +22,9 @@ abbrev pub NamesSpares : OnePipe → Disk → Disk → Type 0
 NamesSpares pipe old new = ReservesAll (log_paths pipe.queue pipe.directories)
     (reverse pipe.files.recycled.items) (greatest_reserved pipe.files.recycled.items) old new
 
--- The calls of a close, in order. Both active files are finished (truncated after their records and synced), Append's
--- first, or that fails. Then the files that are kept for recycling get reserved names, Append's first.
+-- The calls of a close, in order. It tries to finish both active files (to truncate each after its records and sync
+-- it), Append's first. A failure doesn't end the close. Then the files that are kept for recycling get reserved names,
+-- Append's first, or fail to get them.
 pub record ClosesInOrder (v : LogPipes) (new : Disk) : Type 0 where
   pub one : Disk
   pub two : Disk

@@ -110,7 +110,7 @@ abbrev pub PipeRotatesBy : Which → LogPipes → LogPipes → Type 0
 PipeRotatesBy which = DoesToPipe which (λ layout rules before after.
     TurnsPipeBy layout.paths rules.new_files.format before after)
 
--- this queue's pipe failed to rotate, with this error, after these file system calls
+-- this queue's pipe failed to rotate, with this error; `FailsToTurnBy` says which file system calls it made
 abbrev pub PipeFailsToRotateBy : Which → Error → LogPipes → LogPipes → Type 0
 PipeFailsToRotateBy which error = LeavesPipe which (λ layout rules before after.
     FailsToTurnBy layout.paths rules.new_files.format before after error)

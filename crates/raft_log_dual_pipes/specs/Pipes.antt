@@ -103,7 +103,8 @@ pub record IsPipeOf (queue : LogQueue) (directories : List (List ℕ)) (pipe : O
   pub some : 0 < length directories
   pub alive : pipe.failed ≡ false
 
--- both pipes run over the log `s`, on the disk of `v`, and neither has failed
+-- Both pipes of `v` run over the log `s`, and neither has failed. The log is on the disk of `v`, and `log` says how it
+-- is read.
 pub record RunsOn (log : LogSense) (v : LogPipes) (s : State) : Type 0 where
   pub append : IsPipeOf Append log.append v.append
   pub rewrite : IsPipeOf Rewrite log.rewrite v.rewrite

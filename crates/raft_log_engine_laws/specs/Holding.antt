@@ -1,5 +1,5 @@
--- Which contents an engine's log has: durable ones, and batches that were written after them and not yet synced, which
--- are pending. No code stores either. A law on a call holds for all contents and pending batches that were right
+-- Which contents an engine's log has: durable ones, and pending batches, which were written after them and not yet
+-- synced. No code stores either. A law on a call holds for any durable contents and pending batches that the log had
 -- before the call.
 use Rattle.std.specs.Prelude.{◌≡◌, ◌≤◌, ℕ, List, ◌++◌, Some}
 use Rattle.raft_log_model_laws.specs.Groups.{taken}
@@ -54,16 +54,16 @@ pub record RunsAs (home : LogDirectories) (v : LogPipes) (m : LogMap) (pending :
   pub runs : RunsOn (sense home) v state
   pub at : IsAt (Ties (log_in home) state) view m pending
 
--- The pipes run over a log with the contents `m` and then the batches `pending`. A prefix of these batches may be
--- durable; the others are pending.
+-- The pipes run over a log. Its durable contents are `m` and then `done`, the first of the batches `pending`. The other
+-- ones, `rest`, are written after them and not synced.
 pub record RunsEnding (home : LogDirectories) (v : LogPipes) (m : LogMap) (pending : List LogRecordValue) : Type 0 where
   pub done : List LogRecordValue
   pub rest : List LogRecordValue
   pub splits : done ++ rest ≡ pending
   pub runs : RunsAs home v (taken m done) rest
 
--- The log of engine `e` has the contents `m` and then the batches `pending`. A prefix of these batches may be durable;
--- the others are pending.
+-- The durable contents of engine `e`'s log are `m` and then `done`, the first of the batches `pending`. The other ones,
+-- `rest`, are written after them and not synced.
 pub record EndsAt (home : LogDirectories) (e : EngineState) (m : LogMap) (pending : List LogRecordValue) : Type 0 where
   pub done : List LogRecordValue
   pub rest : List LogRecordValue

@@ -1,6 +1,6 @@
--- Lists of runs, which encode places. A run has consecutive entries of a group that are adjacent in one block. If
--- they have one length, the run is even, and only its first offset is stored. Otherwise the offset of each entry, its
--- start, is stored in a second list.
+-- Lists of runs, which encode the locations of entries. A run has consecutive entries of a group that are adjacent in
+-- one block. If all its entries have one length, the run is even, and stores only the offset of its first entry.
+-- Otherwise a second list, of starts, has the offset of each entry.
 use Rattle.std.specs.Prelude.{◌≡◌, ℕ, ◌+◌, ◌*◌, ◌<◌, ◌≤◌, ◌^◌, Bool, true, false, List, [], ◌∷◌, ◌++◌, length, map, take, drop, slice_index_or}
 use Rattle.std.specs.Coded.{Unit-prop, le_prop, Coded-set, coded_ℕ}
 use Rattle.raft_log_record_items.specs.declared.entry.EntryIndex.{EntryIndex}
@@ -68,7 +68,7 @@ IsNumbered first at (r ∷ rs) =
     (r.first ≡ first) × (r.at ≡ at) × (0 < r.count) × StartsFit r.even r
     × IsNumbered (first + r.count) (at + width r) rs
 
--- the runs with new numbers, consecutive from `first` for entries and from `at` for starts
+-- the runs, renumbered: their entries count from `first` on, and their starts from `at` on
 abbrev pub renumbered : ℕ → ℕ → List Run → List Run
 renumbered first at [] = []
 renumbered first at (r ∷ rs) =

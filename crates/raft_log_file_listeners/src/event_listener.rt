@@ -31,7 +31,8 @@ pub trait EventListener: Send + Drop {
     fn post_apply_memtables(&mut self, file_id: FileId)
         ensures { hears (RecordApplied file_id) self.old self.new };
 
-    /// The number of the first file of a queue that must not be purged yet, if there is one.
+    /// The number from which on the listener pins files of a queue, if it pins any. Of the engine's
+    /// purges only `purge_expired_files` asks, and only for Append.
     fn first_file_not_ready_for_purge(&self, queue: LogQueue) -> Option<FileSeq>
         ensures { holds_back self.now queue result };
 

@@ -32,8 +32,8 @@ abbrev pub onto : {E V : Type 0} → Option (List (Tagged E V)) → List (Tagged
 onto None ys = None
 onto (Some xs) ys = Some (xs ++ ys)
 
--- The items that count from this record on. A plain record's count at once. At the end of an open atomic group, all
--- its items count.
+-- The items that begin to count with this record. The items of a plain record count at once. Those of an atomic group
+-- count, all together, at the record that ends it, if the group was open.
 abbrev pub counts : {E V : Type 0} → Open E V → Record E V → List (Tagged E V)
 counts o (Plain xs) = xs
 counts o (Part (Begin n) xs) = []

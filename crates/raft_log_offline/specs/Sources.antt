@@ -14,14 +14,14 @@ use Rattle.raft_log_recovery_scan.specs.declared.scanning.found.FoundFile.{Found
 use Rattle.raft_log_offline.specs.Copies.{IsSourceThere}
 use Rattle.raft_log_offline.specs.declared.source_file.SourceFile.{SourceFile}
 
--- `a` is in an earlier directory than `b`. Or they are in the same one, and if the name of `a` has a sign, so has that
--- of `b`.
+-- `a` is in an earlier directory than `b`. Or they are in the same one, and if the name of `a` has a plus sign, so has
+-- that of `b`.
 abbrev pub IsNoLater : FoundFile → FoundFile → Type 0
 IsNoLater a b = (a.path_id < b.path_id)
     ⊎ ((a.path_id ≡ b.path_id) × (a.signed ≡ true → b.signed ≡ true))
 
 -- `file` is the one of these files that counts for its number: the one in the last directory. If two there have its
--- number, it is the one whose name has a sign.
+-- number, it is the one whose name has a plus sign.
 pub record IsLastOf (found : List FoundFile) (file : FoundFile) : Type 0 where
   pub there : Contains found file
   pub last : (other : FoundFile) → Contains found other → other.seq ≡ file.seq → IsNoLater other file

@@ -1,4 +1,4 @@
--- The owed tombstones are written to Rewrite.
+-- A purge writes the owed tombstones to Rewrite. Names call a tombstone a mark; an atomic group's marks are others.
 use Rattle.std.specs.Prelude.{◌≡◌, ℕ, Bool, false, List, []}
 use Rattle.raft_log_fs.specs.Causes.{IsLater}
 use Rattle.raft_log_record_base.specs.declared.errors.Error.{Error}
@@ -29,7 +29,7 @@ pub record WritesMarks (tables : ℕ → Shown) (v w : LogPipes) : Type 0 where
       → Represents home (showing v tables counts cache) m []
       → Represents home (showing w (λ g. unmarked (tables g)) counts cache) m []
 
--- if `items` are the tombstones that the tables owe, they were written to Rewrite
+-- if `items` are the tombstones that the tables owe, the pipes wrote them to Rewrite, and went from `v` to `w`
 abbrev pub WritesItems : List LogItem → LogPipes → LogPipes → Type 0
 WritesItems items v w = (m : MemTables) → AreOwed m items → WritesMarks (shown_of m) v w
 

@@ -12,7 +12,7 @@ codec_fault_text KeyLength = Some (codes "wrong length of a key")
 codec_fault_text KeyPadding = Some (codes "wrong padding of a key")
 codec_fault_text KeyNotFound = Some (codes "key not found")
 
--- the text of the error if a size can't be parsed; each has one
+-- the text of an error of parsing a size; every such error has one
 abbrev pub size_fault_text : ParseSizeError → Option (List ℕ)
 size_fault_text NoNumber = Some (codes "a size begins with a whole number")
 size_fault_text UnknownUnit = Some (codes "the unit of a size is B, KiB, MiB, GiB, TiB or PiB")

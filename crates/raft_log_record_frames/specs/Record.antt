@@ -256,7 +256,7 @@ frame_of signature input offset len =
     else (footer_of signature (offset - 16) (slice_range input offset len)
     >>= λ items. Ok (record { len = len; items = items; bytes = slice_range input 16 offset }))
 
--- Reads the frame at the front of `input`, with its block: first the header, then the footer.
+-- Reads the frame at the front of `input`: first the header, then the footer. Returns the block's bytes undecoded.
 unfoldable pub frame_at : Option ℕ → List ℕ → Result Front Fault
 frame_at signature input = header_at input >>= λ r. frame_of signature input r.0.0 r.0.2
 

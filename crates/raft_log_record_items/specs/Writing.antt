@@ -1,5 +1,5 @@
--- The bytes that a writer writes for an item. A grammar allows longer spellings too; the writer uses the shortest
--- form of each number.
+-- The bytes that the encoder writes for an item. The grammar also allows longer forms of a number; the encoder uses the
+-- shortest one.
 use Rattle.std.specs.Prelude.{◌≡◌, ℕ, List, [], ◌∷◌, ◌++◌, length, take, flat_map, map, unwrap_or}
 use Rattle.raft_log_record_base.specs.Number.{var_u64_bytes}
 use Rattle.raft_log_record_items.specs.declared.entry.EntryIndex.{EntryIndex}
@@ -92,7 +92,7 @@ abbrev pub IsSpelledContent : LogItemContent → Type 0
 IsSpelledContent content =
     Then IsByte (λ kind. IsContentOf kind) (content_bytes content) (plain_content content)
 
--- the bytes that are written for this operation on a key spell the operation
+-- by the grammar, the bytes that the encoder writes for this operation on a key are the operation
 abbrev pub IsSpelledOperation : OpType → List ℕ → List ℕ → Type 0
 IsSpelledOperation op key value = IsKeyValue (operation_bytes op key value) (plain_operation op key value)
 

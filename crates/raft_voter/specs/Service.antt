@@ -1,5 +1,5 @@
--- A service that keeps voters, and what it promises for each round of requests. The files that keep the voters from a
--- close or a crash to the next open, and what they promise.
+-- A service keeps voters: what it promises for each round of requests. Its files keep the voters from a close or a
+-- crash to the next open: what an open finds in them.
 use Rattle.std.specs.Prelude.{◌≡◌, ℕ, ◌+◌, ◌<◌, ◌≤◌, IsTrue, Bool, true, false, if◌then◌else◌, List, [], ◌∷◌, length}
 use Rattle.raft_voter_messages.specs.declared.reply.Reply.{Reply}
 use Rattle.raft_voter_messages.specs.declared.reply.Reply.TheVariants.{Refused}
@@ -69,8 +69,8 @@ pub record IsOpenAt {S : Type 0} (v : Service S) (store : S) (W : World) : Type 
 abbrev pub IsClosedAt : {S F : Type 0} → Files S F → F → World → Type 0
 IsClosedAt f files W = f.leaves files (uncut W)
 
--- If these files have no CRC collision, then `store`, opened from them, serves voters that are possible after each
--- cut-off round that the files leave.
+-- Suppose these files have no CRC collision, and leave a cut-off round to the next open. Then `store`, opened from
+-- them, serves voters that took the round's requests before some position.
 abbrev pub FindsVoters : {S F : Type 0} → Service S → Files S F → F → S → Type 0
 FindsVoters v f files store =
     f.without_chance files files

@@ -1,4 +1,4 @@
--- What some bytes begin with: a number, an entry, several entries or a record. `rest` are the bytes after it.
+-- What the bytes of a plain file begin with: a number, an entry, several entries or a record. `rest` is what follows.
 use Rattle.std.specs.Prelude.{◌≡◌, ℕ, ◌<◌, ◌^◌, true, List, ◌++◌, length}
 use Rattle.std.specs.List.{flat_map}
 use Rattle.raft_voter_messages.specs.declared.reply.Entry.{Entry}
@@ -6,7 +6,7 @@ use Rattle.raft_voter_messages.specs.StoredForms.{number_text, stored_entry_fits
 use Rattle.raft_voter.specs.State.{State}
 use Rattle.raft_voter_plain.specs.Records.{AreEntries, IsStorableRecord, stored_entry, voter_record}
 
--- the bytes are `front`, `count` of them, then `rest`
+-- the bytes are `front`, which has `count` bytes, then `rest`
 pub record StartsWith (bytes : List ℕ) (count : ℕ) (front rest : List ℕ) : Type 0 where
   pub size : length front ≡ count
   pub text : bytes ≡ front ++ rest

@@ -134,6 +134,6 @@ may_tell (Err (faults.Cut place cause)) count = may_cut cause count
 may_tell (Err faults.Memory) count = true
 
 -- A round of `count` requests may be served together with rounds of `requests` requests in all: there are none of
--- these, or all have at most 4,096 requests. So a round that is too long is served alone.
+-- these, or all have at most 4,096 requests. So a round that is too long goes to the store alone.
 abbrev pub may_join : ℕ → ℕ → ℕ → Bool
 may_join rounds requests count = (rounds == 0) || nat_le (requests + count) 4096

@@ -123,8 +123,8 @@ impl<R, S: RoundService<R>, L: Opening> SharedStore<R, S, L> {
     }
 
     /// Serves a round of a seat. The store may serve rounds of other seats with it, with one sync, as one round of at most
-    /// 4,096 requests; a longer round is served alone. The round has a record of its own in the journal, and the receipt
-    /// has its place there. The seat counts the record.
+    /// 4,096 requests. A longer round goes to the store alone, which cuts it off as `TooLong`. The round has a record
+    /// of its own in the journal, and the receipt has its place there. The seat counts the record.
     ///
     /// Fails with `Cut` if the round was cut off, which is recorded; then each round that was served with it was, too.
     /// Fails with `Memory` if there is no memory for the record, the receipt or the place in the queue; then nothing was

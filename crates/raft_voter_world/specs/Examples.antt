@@ -9,6 +9,6 @@ use Rattle.raft_voter_messages.specs.declared.request.Request.TheVariants.{Vote}
 abbrev pub mixed_round : List (ℕ × Request)
 mixed_round = (1, Vote 5 2 0 0) ∷ (1, Vote (2 ^ 63) 3 0 0) ∷ (2, Vote 1 1 0 0) ∷ []
 
--- the replies to them
+-- the replies to the requests of `mixed_round`
 abbrev pub mixed_replies : List Reply
 mixed_replies = Granted 5 ∷ Refused ∷ Granted 1 ∷ []

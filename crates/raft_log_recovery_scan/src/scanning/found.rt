@@ -9,14 +9,14 @@ use raft_log_active_file::PathId;
 use raft_log_record_base::{FileSeq, Result};
 use std::alloc::Global;
 
-/// A file that was found: it has the name of its number, with a sign before it or without one.
+/// A file that was found: it has the name of its number, with a plus sign before it or without one.
 #[derive(Clone, Copy, Debug, PartialEq, Eq)]
 pub struct FoundFile {
     /// The file's number.
     pub seq: FileSeq,
     /// The directory of the file.
     pub path_id: PathId,
-    /// Whether its name has a sign.
+    /// Whether its name has a plus sign.
     pub signed: bool,
 }
 

@@ -7,6 +7,7 @@ use Rattle.raft_log_engine.specs.raft_log_fs.specs.Disk.{Disk as OnDisk}
 use Rattle.raft_log_engine.specs.raft_log_fs.specs.Exits.{Arms, denied_by}
 use Rattle.raft_log_engine.specs.raft_log_fs.specs.declared.handle.Fault.{Fault as DiskFault}
 use Rattle.raft_log_engine.specs.raft_log_file_settings.specs.declared.config.Config.{Config}
+use Rattle.raft_log_engine.specs.raft_log_engine_core.specs.ModelCalls.{IsEngineLog}
 use Rattle.raft_log_engine.specs.raft_log_engine_core.specs.Whole.{ArmsEngine}
 use Rattle.raft_log_engine.specs.raft_log_engine_laws.specs.EngineState.{LogDirectories, EngineState, said_of}
 use Rattle.raft_log_world.specs.declared.event.Answer.{Answer}
@@ -16,7 +17,6 @@ use Rattle.raft_log_world.specs.declared.event.Fault.{Fault}
 use Rattle.raft_log_world.specs.declared.event.Fault.TheVariants.{Refuse, Stop}
 use Rattle.raft_log_world.specs.Model.{Answers, ModelLog, is_open}
 use Rattle.raft_log_world.specs.Model.ModelLog.{resting, left, running, failed}
-use Rattle.raft_log_world_engine.specs.Calls.{IsEngineLog}
 use Rattle.raft_log_world_engine.specs.Faults.{fault_of, told_of}
 use Rattle.raft_log_world_engine.specs.Instance.{IsFilesLog}
 

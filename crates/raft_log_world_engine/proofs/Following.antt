@@ -5,6 +5,7 @@ use Rattle.raft_log_engine.specs.raft_log_fs.specs.Disk.{Disk as OnDisk}
 use Rattle.raft_log_engine.specs.raft_log_fs.specs.Image.{IsImage}
 use Rattle.raft_log_engine.specs.raft_log_file_settings.specs.declared.config.Config.{Config}
 use Rattle.raft_log_engine.specs.raft_log_dual_pipes.specs.Pipes.{LogRecordValue}
+use Rattle.raft_log_engine.specs.raft_log_engine_core.specs.ModelCalls.{IsEngineLog}
 use Rattle.raft_log_engine.specs.raft_log_engine_laws.specs.EngineState.{LogDirectories, LogMap, EngineState, has_failed, said_of}
 use Rattle.raft_log_engine.specs.raft_log_engine_laws.specs.Holding.{Represents, IsRecoverableAs}
 use Rattle.raft_log_engine.specs.raft_log_record_batches.specs.Batch.{Batch}
@@ -17,7 +18,7 @@ use Rattle.raft_log_world.specs.declared.event.Event.TheVariants.{Open as OpenEv
 use Rattle.raft_log_world.specs.Logs.{IfLeft, UnlessResting}
 use Rattle.raft_log_world.specs.Model.{Answers, LosesSome, ModelLog, is_open}
 use Rattle.raft_log_world.specs.Model.ModelLog.{resting, left, running, failed}
-use Rattle.raft_log_world_engine.specs.Calls.{IsEngineLog, ServesAs, failure_of}
+use Rattle.raft_log_world_engine.specs.Calls.{ServesAs, failure_of}
 use Rattle.raft_log_world_engine.specs.Instance.{CrashSparesEngine, CrashSparesFiles, IsFilesLog, ReadSparesFiles, Rests}
 use Rattle.raft_log_world_engine.proofs.Closing.{IsClosed}
 use Rattle.raft_log_world_engine.proofs.Crashing.{left_crash, resting_crash}

@@ -1,24 +1,15 @@
--- The engine as a log of the model: which log it is, and what its calls do.
+-- The engine as a log of the model: what its calls answer.
 use Rattle.std.specs.Prelude.{◌≡◌, ℕ, Bool, true, false, List}
 use Rattle.raft_log_engine.specs.raft_log_dual_pipes.specs.Pipes.{LogRecordValue}
 use Rattle.raft_log_engine.specs.raft_log_engine_laws.specs.EngineState.{LogDirectories, LogMap, EngineState, has_failed, said_of}
-use Rattle.raft_log_engine.specs.raft_log_engine_laws.specs.Holding.{Represents, IsRecoverableAs}
+use Rattle.raft_log_engine.specs.raft_log_engine_core.specs.ModelCalls.{IsEngineLog}
+use Rattle.raft_log_engine.specs.raft_log_engine_laws.specs.Holding.{Represents}
 use Rattle.raft_log_engine.specs.raft_log_record_batches.specs.Batch.{Batch}
 use Rattle.raft_log_world.specs.declared.event.Answer.{Answer}
 use Rattle.raft_log_world.specs.declared.event.Answer.TheVariants.{Entries, Keys, Refused, Failed}
 use Rattle.raft_log_world.specs.declared.event.Call.{Call}
 use Rattle.raft_log_world.specs.Model.{ModelLog, Serves}
-use Rattle.raft_log_world.specs.Model.ModelLog.{resting, left, running, failed}
 use Rattle.raft_log_world.specs.Reads.{all_bytes, pairs_of}
-
--- An engine with the state `e` has this log open, in the directories `home`:
--- - a running one has the durable contents and the pending batches
--- - the files of a failed one can be opened with these
-abbrev pub IsEngineLog : LogDirectories → EngineState → ModelLog → Type 0
-IsEngineLog home e (running m pending) = Represents home e m pending
-IsEngineLog home e (failed m pending) = (has_failed e ≡ true) × IsRecoverableAs home e.pipes.disk m pending
-IsEngineLog home e (resting m) = ⊥
-IsEngineLog home e (left m pending) = ⊥
 
 -- how a call ended that failed, if the flag says whether the engine has failed
 abbrev pub failure_of : Bool → Answer

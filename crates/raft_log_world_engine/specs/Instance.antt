@@ -5,6 +5,7 @@ use Rattle.raft_log_engine.specs.raft_log_fs.specs.Disk.{Disk as OnDisk}
 use Rattle.raft_log_engine.specs.raft_log_fs.specs.Image.{IsImage}
 use Rattle.raft_log_engine.specs.raft_log_file_settings.specs.declared.config.Config.{Config}
 use Rattle.raft_log_engine.specs.raft_log_dual_pipes.specs.OnDisk.{IsDurableAs}
+use Rattle.raft_log_engine.specs.raft_log_engine_core.specs.ModelCalls.{IsEngineLog}
 use Rattle.raft_log_engine.specs.raft_log_engine_laws.specs.EngineState.{LogDirectories, LogMap, EngineState, log_in, said_of}
 use Rattle.raft_log_engine.specs.raft_log_engine_laws.specs.Holding.{IsRecoverableAs}
 use Rattle.raft_log_engine.specs.raft_log_record_batches.specs.Batch.{Batch}
@@ -18,7 +19,6 @@ use Rattle.raft_log_world.specs.declared.storage.Storage.TheVariants.{Closed, Op
 use Rattle.raft_log_world.specs.Logs.{LogOf}
 use Rattle.raft_log_world.specs.Model.{ModelLog}
 use Rattle.raft_log_world.specs.Model.ModelLog.{resting, left, running, failed}
-use Rattle.raft_log_world_engine.specs.Calls.{IsEngineLog}
 
 -- The files of a log on disk `d` are at rest, with the contents `m`:
 -- - `bare`: nothing was ever written, and there is no log yet.

@@ -12,6 +12,6 @@ returns g c =
     let s = shows_of g.P.PipeLog.shown c.args.engine.now in
     let t = shows_of g.P.PipeLog.shown c.sync.new.self in
     elim c.match-sync.branch [
-      | in-Ok w ↦ subst (λ (a : Answer). ServesAs s Sync a t) (sym w.result-is) (synced s t w.in-Ok.ensures.ok)
-      | in-Err w ↦ as_asked s t Sync c.match-sync.result w.is_failed.result (w.result-is ∙ w.failure.ensures) w.is_failed.ensures (not_synced s t w.in-Err.field-0 w.in-Err.ensures.err)
+      | in-Ok w ↦ subst (λ (a : Answer). ServesAs s Sync a t) (sym w.result-is) (synced s t w.in-Ok.field-0 w.in-Ok.ensures.model)
+      | in-Err w ↦ as_asked s t Sync c.match-sync.result w.is_failed.result (w.result-is ∙ w.failure.ensures) w.is_failed.ensures (not_synced s t w.in-Err.field-0 w.in-Err.ensures.model)
     ]

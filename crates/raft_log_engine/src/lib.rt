@@ -10,7 +10,7 @@ pub use raft_log_engine_core::{Engine, EnginePipes, LogEngine, ReplayThreads};
 pub use raft_log_file_listeners::{EventListener, Listeners, Nobody, PurgeHook};
 pub use raft_log_file_reader::LogItemReader;
 pub use raft_log_file_settings::{Config, RecoveryMode};
-pub use raft_log_fs::{Fault, FileSystem, Handle, Permission};
+pub use raft_log_fs::{Fault, FileSystem, Handle, Permission, Read, Receipt};
 pub use raft_log_fs_memory::{MemoryFileSystem, Piece, Remainder};
 pub use raft_log_offline::{
     ConsistencyChecker, CopyDetails, consistency_check_with_file_system, dump_with_file_system,

@@ -18,7 +18,7 @@ use crate::writing::sync;
 use log::{Log, error};
 use raft_log_active_file::PipeFormat;
 use raft_log_file_writer::LogFileReader;
-use raft_log_fs::FileSystem;
+use raft_log_fs::{FileSystem, Receipt};
 use raft_log_record_base::{Error, FileBlockHandle, FileSeq, LogQueue, Result};
 use std::alloc::Global;
 
@@ -344,7 +344,8 @@ impl<G: PipeFormat> SinglePipe<G> {
         let Some(handle) = self.files.handle_of(block.id.seq) else {
             return Err(unlisted(alloc, block.id.seq));
         };
-        LogFileReader::open(handle).read(alloc, file_system, block)
+        let mut receipts = Receipt::none();
+        LogFileReader::open(handle).read(alloc, file_system, block, &mut receipts)
     }
 
     /// Replaces the contents of `bytes` with the bytes at a location; fewer if the file ends first. Fails with
@@ -363,7 +364,8 @@ impl<G: PipeFormat> SinglePipe<G> {
         let Some(handle) = self.files.handle_of(block.id.seq) else {
             return Err(unlisted(alloc, block.id.seq));
         };
-        LogFileReader::open(handle).read_over(file_system, block, bytes)
+        let mut receipts = Receipt::none();
+        LogFileReader::open(handle).read_over(file_system, block, bytes, &mut receipts)
     }
 }
 

@@ -1,6 +1,7 @@
 -- Parts of a file's bytes: what is held of them, and what is read behind it.
-use Rattle.std.proofs.Common.{◌≡◌, ℕ, ◌+◌, ◌-◌, ◌≤◌, List, [], ◌++◌, length, take, drop, refl, sym, ap, subst, ◌∙◌, arith, append_assoc, length-append, length-drop}
+use Rattle.std.proofs.Common.{◌≡◌, ℕ, ◌+◌, ◌-◌, ◌≤◌, List, [], ◌++◌, length, take, drop, min, refl, sym, ap, subst, ◌∙◌, arith, append_assoc, length-append, length-drop}
 use Rattle.std.proofs.lemmas.List.{drop-append-le, take-append-le, take-append-drop, drop-drop, append-nil, length-take}
+use Rattle.std.proofs.Math.Nat.{min-eq_left}
 use Rattle.std.proofs.Math.Seq.{drop-append_seam, take-append_seam, drop-length}
 use Rattle.raft_log_file_reader.specs.Window.{IsPart, Covers}
 
@@ -92,3 +93,11 @@ put-length held resized read inside same =
       length-take held resized,
       length-take k (drop held resized),
     )
+
+-- room that is within the content, and that was read as far as that goes, was filled whole
+pub room_filled : (at count : ℕ) (before after content : List ℕ) → at + length before ≤ length content → count ≡ min (length before) (length content - at)
+    → after ≡ take count (drop at content) ++ drop count before → after ≡ take (length before) (drop at content)
+room_filled at count before after content inside number bytes =
+    let all : count ≡ length before = number ∙ min-eq_left (omega arith) in
+    bytes ∙ ap (λ (n : ℕ). take n (drop at content) ++ drop n before) all ∙ ap (λ (l : List ℕ). take (length before) (drop at content) ++ l) (drop-length before)
+    ∙ append-nil (take (length before) (drop at content))

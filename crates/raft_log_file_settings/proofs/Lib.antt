@@ -1,3 +1,5 @@
 mod Directories
+mod Keys
 mod Printings
 mod Readings
+mod Thousandths

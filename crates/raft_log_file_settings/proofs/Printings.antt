@@ -30,7 +30,7 @@ use Rattle.raft_log_file_settings.specs.declared.printing.Entry.{Entry}
 use Rattle.raft_log_file_settings.specs.declared.printing.Entry.TheVariants as entries
 use Rattle.raft_log_file_settings.specs.Printing.{SizeFits, SizesFit, Row, word_of, size_data, data_of, row_of, rows_of, with_row, with_rows, HasRows, PutsRow, is_unsaid, first_unsaid, IsUnprintable, SaysTooLarge}
 use Rattle.raft_log_file_settings.specs.Settings.{Settings, default_settings}
-use Rattle.raft_log_file_settings.specs.Reading.{at, at_value, ok_or, maybe, size_of, number_of, version_of, mode_of, recovery_in, files_in, purging_in, recycling_in, settings_in}
+use Rattle.raft_log_file_settings.specs.Reading.{at, at_value, ok_or, maybe, size_of, number_of, ratio_of, version_of, mode_of, recovery_in, files_in, purging_in, recycling_in, settings_in}
 use Rattle.raft_log_file_settings.proofs.Readings.{all_read}
 
 abbrev pub Pairs : Type 0
@@ -245,8 +245,8 @@ module _ (s : Settings) (t : Members) (printed : HasRows (rows_of s) t) (fit : S
       = ap (at_value (codes "purge-threshold") size_of (10 * 2 ^ 30)) (printed.at (codes "purge-threshold")) ∙ size_reads (codes "purge-threshold") s.purge_threshold (10 * 2 ^ 30) fit.threshold in
       let rewrite : at (codes "purge-rewrite-threshold") (maybe size_of) None t ≡ Ok s.purge_rewrite_threshold
       = ap (at_value (codes "purge-rewrite-threshold") (maybe size_of) None) (printed.at (codes "purge-rewrite-threshold")) ∙ maybe_size_reads (codes "purge-rewrite-threshold") s.purge_rewrite_threshold fit.rewrite in
-      let ratio : at (codes "purge-rewrite-garbage-ratio") number_of 600 t ≡ Ok s.purge_rewrite_garbage_ratio
-      = ap (at_value (codes "purge-rewrite-garbage-ratio") number_of 600) (printed.at (codes "purge-rewrite-garbage-ratio")) in
+      let ratio : at (codes "purge-rewrite-garbage-ratio") ratio_of 600 t ≡ Ok s.purge_rewrite_garbage_ratio
+      = ap (at_value (codes "purge-rewrite-garbage-ratio") ratio_of 600) (printed.at (codes "purge-rewrite-garbage-ratio")) in
       rw (threshold, rewrite, ratio) refl
 
   recycling_reads : recycling_in default_settings t ≡ Ok (s.enable_log_recycle, s.prefill_for_recycle, s.prefill_limit)

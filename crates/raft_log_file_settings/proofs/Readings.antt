@@ -1,11 +1,15 @@
 -- What the keys of a table say together.
-use Rattle.std.proofs.Common.{◌≡◌, ℕ, Bool, List, Option, Ok, refl}
+use Rattle.std.proofs.Common.{◌≡◌, ℕ, Bool, List, Option, Some, Result, Ok, Err, inr, refl}
 use Rattle.std.specs.Prelude.{codes}
 use Rattle.toml.specs.Data.{Members, as_str}
+use Rattle.toml.specs.Parse.{parse_document}
+use Rattle.raft_log_record_base.specs.declared.errors.Error.{Error}
+use Rattle.raft_log_record_base.specs.declared.errors.Error.TheVariants as errors
+use Rattle.raft_log_file_settings.specs.declared.config.Config.{Config}
 use Rattle.raft_log_record_base.specs.declared.pipe_log.Version.{Version}
 use Rattle.raft_log_file_settings.specs.declared.recovery_mode.RecoveryMode.{RecoveryMode}
 use Rattle.raft_log_file_settings.specs.Settings.{Settings}
-use Rattle.raft_log_file_settings.specs.Reading.{at, maybe, size_of, files_in, recovery_in, purging_in, recycling_in, settings_over}
+use Rattle.raft_log_file_settings.specs.Reading.{at, maybe, size_of, files_in, recovery_in, purging_in, recycling_in, settings_in, settings_over, GivesSettings, GivesSettingsOf}
 
 -- the settings of which all keys were read
 pub all_read : (u : Settings) (t : Members) (dir : List ℕ) (spill : Option (List ℕ)) (recovery : RecoveryMode × ℕ × ℕ) (files : Option ℕ × Version × ℕ)
@@ -32,3 +36,11 @@ pub all_read : (u : Settings) (t : Members) (dir : List ℕ) (spill : Option (Li
     })
 unfolding settings_over
 all_read u t dir spill recovery files purging memory recycling e1 e2 e3 e4 e5 e6 e7 = rw (e1, e2, e3, e4, e5, e6, e7) refl
+
+-- what a text says whose table was read
+pub read_text : (result : Result Config Error) (text : List ℕ) (table : Members) → parse_document text ≡ Some table
+    → GivesSettings result (settings_in table) → GivesSettingsOf result text
+read_text (Ok config) text table parsed gives = (table, parsed, gives)
+read_text (Err errors.Memory) text table parsed gives = tt
+read_text (Err (errors.InvalidArgument why)) text table parsed gives = inr (gives.0, (table, parsed, gives.1), gives.2)
+read_text (Err _) text table parsed gives = absurd gives.2

@@ -1,12 +1,16 @@
 -- How settings are read from TOML: what type of value each key has, and its default.
-use Rattle.std.specs.Prelude.{◌≡◌, ℕ, ℤ, pos, negsuc, ◌++◌, Bool, List, Option, Some, None, Result, Ok, Err, ◌⊎◌, if◌then◌else◌, ◌==◌, codes}
+use Rattle.std.specs.Prelude.{◌≡◌, ℕ, ◌+◌, ℤ, pos, negsuc, ◌++◌, Bool, not, map, filter, List, [], ◌∷◌, Option, Some, None, Result, Ok, Err, ◌⊎◌, if◌then◌else◌, ◌==◌, codes, Vec, String}
+use Rattle.std.specs.Float.{Float, binary64}
+use Rattle.std.specs.Float.Ieee.{eq, div, of_int}
+use Rattle.std.specs.List.{find, range_with_len, list_any}
 use Rattle.std.specs.Str.{bytes_eq, trim}
 use Rattle.std.specs.Option.{option_map, option_and_then}
 use Rattle.std.specs.Result.{result_ok}
 use Rattle.std.specs.Borrow.{Bor}
+use Rattle.std.specs.declared.alloc.Global.{Global}
 use Rattle.std.specs.String.{string_bytes}
-use Rattle.toml.specs.Data.{Data, Members, get_member, as_str, as_integer, as_bool}
-use Rattle.toml.specs.Data.Data.{string}
+use Rattle.toml.specs.Data.{Data, Members, no_members, member, get_member, as_str, as_integer, as_bool}
+use Rattle.toml.specs.Data.Data.{string, float}
 use Rattle.toml.specs.Parse.{parse_document}
 use Rattle.raft_log_record_base.specs.Grammar.{◌>>=◌}
 use Rattle.raft_log_record_base.specs.Size.{size_in}
@@ -38,6 +42,19 @@ size_of_text text = result_ok (size_in (trim text))
 abbrev pub size_of : Data → Option ℕ
 size_of (string text) = size_of_text text
 size_of d = number_of d
+
+-- the float that is nearest to so many thousandths
+abbrev pub thousandths : ℕ → Float
+thousandths n = div binary64 (of_int binary64 (pos n)) (of_int binary64 (pos 1000))
+
+-- how many thousandths a float is, if it is the float nearest to a number of them that is at most `most`
+unfoldable pub thousandths_up_to : ℕ → Float → Option ℕ
+thousandths_up_to most x = find (λ n. eq x (thousandths n)) (range_with_len 0 (most + 1))
+
+-- the thousandths that a TOML value is: their number, or a fraction from 0.0 to 1.0
+abbrev pub ratio_of : Data → Option ℕ
+ratio_of (float x) = thousandths_up_to 1000 x
+ratio_of d = number_of d
 
 -- the version with this number, 1 or 2
 abbrev pub version_numbered : ℕ → Option Version
@@ -97,7 +114,7 @@ unfoldable pub purging_in : Settings → Members → Result (ℕ × Option ℕ �
 purging_in usual t = do
   threshold ← at (codes "purge-threshold") size_of usual.purge_threshold t
   rewrite ← at (codes "purge-rewrite-threshold") (maybe size_of) usual.purge_rewrite_threshold t
-  garbage_ratio ← at (codes "purge-rewrite-garbage-ratio") number_of usual.purge_rewrite_garbage_ratio t
+  garbage_ratio ← at (codes "purge-rewrite-garbage-ratio") ratio_of usual.purge_rewrite_garbage_ratio t
   Ok (threshold, rewrite, garbage_ratio)
 
 -- What a table sets for recovery: how it handles damage, how many bytes it reads at once, and its number of threads.
@@ -152,9 +169,24 @@ settings_in = settings_over default_settings
 
 -- What reading returns.
 
--- the error text for a wrong value of `key`
+-- the front of the error text for a wrong value of `key`
 abbrev pub wrong_value : List ℕ → List ℕ
 wrong_value key = codes "wrong value of " ++ key
+
+-- what the error text says after the key: for the garbage ratio the value, as it is shown, and what is allowed
+abbrev pub note_of : List ℕ → List ℕ → List ℕ
+note_of key shown =
+    if bytes_eq key (codes "purge-rewrite-garbage-ratio")
+    then codes ": " ++ shown ++ codes " is neither a number of thousandths nor one from 0.0 to 1.0 with three decimals"
+    else []
+
+-- `note` is what the error text says after the key
+abbrev pub IsNote : List ℕ → List ℕ → Type 0
+IsNote key note = (shown : List ℕ) × (note ≡ note_of key shown)
+
+-- the error text for a wrong value of `key`
+abbrev pub SaysWrongValue : List ℕ → List ℕ → Type 0
+SaysWrongValue key text = (shown : List ℕ) × (text ≡ wrong_value key ++ note_of key shown)
 
 -- the error text for a text that isn't TOML
 abbrev pub no_toml : List ℕ
@@ -168,7 +200,7 @@ SaysNoToml _ = ⊥
 
 -- the error for a wrong value of `key`, or out of memory
 abbrev pub NamesKey : Error → List ℕ → Type 0
-NamesKey (errors.InvalidArgument text) key = string_bytes text ≡ wrong_value key
+NamesKey (errors.InvalidArgument text) key = SaysWrongValue key (string_bytes text)
 NamesKey errors.Memory key = Unit {0}
 NamesKey _ key = ⊥
 
@@ -222,6 +254,43 @@ abbrev pub GivesSettingsOf : Result Config Error → List ℕ → Type 0
 GivesSettingsOf (Err errors.Memory) text = Unit {0}
 GivesSettingsOf (Err (errors.InvalidArgument why)) text =
     ((parse_document text ≡ None) × (string_bytes why ≡ no_toml))
-    ⊎ ((key : List ℕ) × HasWrongKey text key × (string_bytes why ≡ wrong_value key))
+    ⊎ ((key : List ℕ) × HasWrongKey text key × SaysWrongValue key (string_bytes why))
 GivesSettingsOf (Err _) text = ⊥
 GivesSettingsOf (Ok config) text = SaysSettings text (settings_of config)
+
+-- Keys that have no effect.
+
+-- the keys of settings
+abbrev pub setting_keys : List (List ℕ)
+setting_keys =
+    codes "dir" ∷ codes "spill-dir" ∷ codes "recovery-mode" ∷ codes "recovery-read-block-size"
+    ∷ codes "recovery-threads" ∷ codes "bytes-per-sync" ∷ codes "format-version" ∷ codes "target-file-size"
+    ∷ codes "purge-threshold" ∷ codes "purge-rewrite-threshold" ∷ codes "purge-rewrite-garbage-ratio"
+    ∷ codes "memory-limit" ∷ codes "enable-log-recycle" ∷ codes "prefill-for-recycle" ∷ codes "prefill-limit" ∷ []
+
+-- whether this is the key of a setting
+abbrev pub is_setting : List ℕ → Bool
+is_setting key = list_any (bytes_eq key) setting_keys
+
+-- the keys of a table, in its order
+abbrev pub keys_of : Members → List (List ℕ)
+keys_of no_members = []
+keys_of (member key d t) = key ∷ keys_of t
+
+-- the keys of a table that aren't those of settings, in the order of their bytes
+abbrev pub dropped_keys : Members → List (List ℕ)
+dropped_keys t = filter (λ key. not (is_setting key)) (keys_of t)
+
+-- the texts of a list
+abbrev pub texts_of : Vec (String Global) Global → List (List ℕ)
+texts_of texts = map string_bytes texts.items
+
+-- What the code returns for a text: the keys of its table that aren't those of settings. Or an error: the text isn't
+-- TOML, or memory ran out.
+abbrev pub GivesDroppedKeys : Result (Vec (String Global) Global) Error → List ℕ → Type 0
+GivesDroppedKeys (Ok keys) text =
+    (table : Members) × (parse_document text ≡ Some table) × (texts_of keys ≡ dropped_keys table)
+GivesDroppedKeys (Err errors.Memory) text = Unit {0}
+GivesDroppedKeys (Err (errors.InvalidArgument why)) text =
+    (parse_document text ≡ None) × (string_bytes why ≡ no_toml)
+GivesDroppedKeys (Err _) text = ⊥

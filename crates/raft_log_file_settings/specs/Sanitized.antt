@@ -4,8 +4,7 @@ use Rattle.anyhow.specs.Error.{HasMessage}
 use Rattle.raft_log_record_base.specs.declared.errors.Error.{Error}
 use Rattle.raft_log_record_base.specs.declared.errors.Error.TheVariants as errors
 use Rattle.raft_log_record_base.specs.declared.pipe_log.LogQueue.{LogQueue}
-use Rattle.raft_log_record_base.specs.declared.pipe_log.Version.{Version}
-use Rattle.raft_log_record_base.specs.declared.pipe_log.Version.TheVariants.{V1, V2}
+use Rattle.raft_log_record_base.specs.declared.pipe_log.Version.TheVariants.{V1}
 use Rattle.raft_log_file_format.specs.Name.{IsNamed, suffix_of, reserved_suffix}
 use Rattle.raft_log_file_settings.specs.declared.fault.ConfigFault.{ConfigFault}
 use Rattle.raft_log_file_settings.specs.declared.fault.ConfigFault.TheVariants as faults
@@ -25,38 +24,6 @@ IsFileIn directory path = (name : List ℕ) × IsFileName name × (path ≡ dire
 -- `dir` and `spill` are the same directory, or one is at a path that a file of the log may have in the other
 abbrev pub Clash : List ℕ → List ℕ → Type 0
 Clash dir spill = (dir ≡ spill) ⊎ (IsFileIn dir spill ⊎ IsFileIn spill dir)
-
--- what is wrong with settings that have this fault
-abbrev pub HasFault : Settings → ConfigFault → Type 0
-HasFault s faults.PurgeBelowTarget = s.purge_threshold < s.target_file_size
-HasFault s faults.NoTargetSize = s.target_file_size ≡ 0
-HasFault s faults.DirectoriesClash = IsSomeAnd s.spill_dir (Clash s.dir)
-HasFault s faults.RecycleUnsigned = (s.enable_log_recycle ≡ true) × (s.format_version ≡ V1)
-HasFault s faults.PrefillWithoutRecycle = (s.prefill_for_recycle ≡ true) × (s.enable_log_recycle ≡ false)
-
--- the position of a fault in the order in which faults are reported
-abbrev pub place : ConfigFault → ℕ
-place faults.PurgeBelowTarget = 0
-place faults.NoTargetSize = 1
-place faults.DirectoriesClash = 2
-place faults.RecycleUnsigned = 3
-place faults.PrefillWithoutRecycle = 4
-
--- the settings have this fault, and none that is reported earlier
-pub record IsFirstFault (s : Settings) (fault : ConfigFault) : Type 0 where
-  pub has : HasFault s fault
-  pub first : (other : ConfigFault) → place other < place fault → HasFault s other → ⊥
-
--- the settings have no fault
-abbrev pub HasNoFault : Settings → Type 0
-HasNoFault s = (fault : ConfigFault) → HasFault s fault → ⊥
-
--- Why settings are rejected: the error has the text of their first fault. Or they have a fault, and memory ran out.
-abbrev pub IsRefusedFor : Settings → Error → Type 0
-IsRefusedFor s (errors.Other why) =
-    (fault : ConfigFault) × IsFirstFault s fault × HasMessage (Some (fault_text fault)) why.value
-IsRefusedFor s errors.Memory = (fault : ConfigFault) × IsFirstFault s fault
-IsRefusedFor s _ = ⊥
 
 -- the value, or `default` if there is none
 abbrev pub or_else : Option ℕ → ℕ → Option ℕ
@@ -96,3 +63,37 @@ prefill_capacity s =
     let limit = unwrap_or s.prefill_limit 0 in
     if can_recycle s && s.prefill_for_recycle && nat_le s.target_file_size limit
     then files_within limit s.target_file_size else 0
+
+-- what is wrong with settings that have this fault
+abbrev pub HasFault : Settings → ConfigFault → Type 0
+HasFault s faults.PurgeBelowTarget = s.purge_threshold < s.target_file_size
+HasFault s faults.NoTargetSize = s.target_file_size ≡ 0
+HasFault s faults.DirectoriesClash = IsSomeAnd s.spill_dir (Clash s.dir)
+HasFault s faults.RecycleUnsigned = (s.enable_log_recycle ≡ true) × (s.format_version ≡ V1)
+HasFault s faults.PrefillWithoutRecycle = (s.prefill_for_recycle ≡ true) × (s.enable_log_recycle ≡ false)
+HasFault s faults.TooManyPrefilled = 2 ^ 16 < prefill_capacity (sanitized s)
+
+-- the position of a fault in the order in which faults are reported
+abbrev pub place : ConfigFault → ℕ
+place faults.PurgeBelowTarget = 0
+place faults.NoTargetSize = 1
+place faults.DirectoriesClash = 2
+place faults.RecycleUnsigned = 3
+place faults.PrefillWithoutRecycle = 4
+place faults.TooManyPrefilled = 5
+
+-- the settings have this fault, and none that is reported earlier
+pub record IsFirstFault (s : Settings) (fault : ConfigFault) : Type 0 where
+  pub has : HasFault s fault
+  pub first : (other : ConfigFault) → place other < place fault → HasFault s other → ⊥
+
+-- the settings have no fault
+abbrev pub HasNoFault : Settings → Type 0
+HasNoFault s = (fault : ConfigFault) → HasFault s fault → ⊥
+
+-- Why settings are rejected: the error has the text of their first fault. Or they have a fault, and memory ran out.
+abbrev pub IsRefusedFor : Settings → Error → Type 0
+IsRefusedFor s (errors.Other why) =
+    (fault : ConfigFault) × IsFirstFault s fault × HasMessage (Some (fault_text fault)) why.value
+IsRefusedFor s errors.Memory = (fault : ConfigFault) × IsFirstFault s fault
+IsRefusedFor s _ = ⊥

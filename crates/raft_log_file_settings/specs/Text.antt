@@ -10,3 +10,5 @@ fault_text faults.NoTargetSize = codes "target-file-size is 0"
 fault_text faults.DirectoriesClash = codes "spill-dir is dir, or one of the two is a log file of the other"
 fault_text faults.RecycleUnsigned = codes "format version 1 doesn't support log recycle, use 2 or above"
 fault_text faults.PrefillWithoutRecycle = codes "prefill is not allowed when log recycle is disabled"
+fault_text faults.TooManyPrefilled =
+    codes "prefill would make over 65536 files: raise target-file-size or lower purge-threshold or prefill-limit"

@@ -5,7 +5,7 @@ ghost use Rattle.raft_log_file_settings.specs.Sanitized.{IsFileName, IsFileIn, C
 
 use super::fault::ConfigFault;
 use super::printing::to_table;
-use super::reading::{from_table, no_toml};
+use super::reading::{dropped_in, from_table, no_toml};
 use super::recovery_mode::RecoveryMode;
 use log::{Log, info, warn};
 use raft_log_file_format::{FileNameExt, parse_reserved_file_name};
@@ -14,6 +14,9 @@ use std::alloc::{AllocError, Global};
 
 /// The least block that a recovery reads at a time.
 const MIN_RECOVERY_READ_BLOCK_SIZE: u64 = 512;
+
+/// The most files that an open prefills.
+const MAX_PREFILLED_FILES: usize = 65_536;
 
 /// The settings of a log. `default` returns the usual ones; `sanitize` rejects invalid ones and completes the rest.
 #[derive(Clone, Debug, Drop, PartialEq, Eq)]
@@ -53,7 +56,7 @@ pub struct Config {
 
 impl Config {
     ghost use Rattle.raft_log_file_settings.specs.Settings.{settings_of, default_settings};
-    ghost use Rattle.raft_log_file_settings.specs.Reading.{GivesSettingsOf, SaysSettings};
+    ghost use Rattle.raft_log_file_settings.specs.Reading.{GivesSettingsOf, SaysSettings, GivesDroppedKeys};
     ghost use Rattle.raft_log_file_settings.specs.Printing.{rows_of, SaysRows, IsUnprintable};
     ghost use Rattle.raft_log_file_settings.specs.Sanitized.{IsFirstFault, HasNoFault, sanitized, IsRefusedFor, recycle_capacity, prefill_capacity};
 
@@ -80,14 +83,27 @@ impl Config {
         }
     }
 
-    /// The settings in a TOML text; an absent key has its usual value, and unknown keys are ignored. A size is a number
-    /// of bytes or a text as `ReadableSize` reads it; the garbage ratio is a number of thousandths. If the text isn't
-    /// TOML, fails with an invalid argument; if a value is wrong, the invalid argument names the first such key.
+    /// The settings in a TOML text; an absent key has its usual value, and unknown keys are ignored (`dropped_keys`). A
+    /// size is a number of bytes or a text as `ReadableSize` reads it. The garbage ratio is a number of thousandths, or
+    /// a fraction from 0.0 to 1.0 of at most three decimals. If the text isn't TOML, fails with an invalid argument; if
+    /// a value is wrong, the invalid argument names the first such key.
     pub fn from_toml(alloc: Global, text: &str) -> Result<Config>
         ensures { GivesSettingsOf result text.now }
     {
         match toml::table_from_str(alloc, text) {
             Ok(table) => from_table(alloc, &table),
+            Err(error) if error.is_memory() => Err(Error::Memory),
+            Err(_) => Err(no_toml(alloc)),
+        }
+    }
+
+    /// The keys of a TOML text that `from_toml` ignores, in the order of their bytes: those of raft-engine that this
+    /// log doesn't have, and others, as misspelled ones. If the text isn't TOML, fails with an invalid argument.
+    pub fn dropped_keys(alloc: Global, text: &str) -> Result<Vec<String>>
+        ensures { GivesDroppedKeys result text.now }
+    {
+        match toml::table_from_str(alloc, text) {
+            Ok(table) => Ok(dropped_in(alloc, &table)?),
             Err(error) if error.is_memory() => Err(Error::Memory),
             Err(_) => Err(no_toml(alloc)),
         }
@@ -150,7 +166,7 @@ impl Config {
 
 impl Config {
     ghost use Rattle.raft_log_file_settings.specs.Settings.{settings_of};
-    ghost use Rattle.raft_log_file_settings.specs.Sanitized.{HasFault, IsFirstFault, HasNoFault, sanitized, can_recycle};
+    ghost use Rattle.raft_log_file_settings.specs.Sanitized.{HasFault, IsFirstFault, HasNoFault, sanitized, can_recycle, prefill_capacity};
     ghost use Rattle.raft_log_file_settings.specs.declared.fault.ConfigFault.TheVariants.{DirectoriesClash};
 
     /// The first fault.
@@ -173,6 +189,9 @@ impl Config {
         if self.has(ConfigFault::PrefillWithoutRecycle) {
             return Some(ConfigFault::PrefillWithoutRecycle);
         }
+        if self.has(ConfigFault::TooManyPrefilled) {
+            return Some(ConfigFault::TooManyPrefilled);
+        }
         None
     }
 
@@ -190,6 +209,7 @@ impl Config {
             ConfigFault::PrefillWithoutRecycle => {
                 self.prefill_for_recycle && !self.enable_log_recycle
             }
+            ConfigFault::TooManyPrefilled => self.files_to_prefill() > MAX_PREFILLED_FILES,
         }
     }
 
@@ -200,6 +220,18 @@ impl Config {
         match &self.spill_dir {
             Some(spill) => clash(self.dir.as_str(), spill.as_str()),
             None => false,
+        }
+    }
+
+    /// How many files an open prefills with zeros once the settings are complete.
+    fn files_to_prefill(&self) -> usize
+        ensures { result ≡ prefill_capacity (sanitized (settings_of self.now)) }
+    {
+        let limit = self.prefill_limit.unwrap_or(self.purge_threshold);
+        if self.can_recycle() && self.prefill_for_recycle && limit.0 >= self.target_file_size.0 {
+            files_within(limit.0, self.target_file_size.0)
+        } else {
+            0
         }
     }
 

@@ -16,6 +16,8 @@ pub enum ConfigFault {
     RecycleUnsigned,
     /// Files are prefilled for recycling, but recycling is off.
     PrefillWithoutRecycle,
+    /// An open would prefill more than 65,536 files.
+    TooManyPrefilled,
 }
 
 impl ConfigFault {
@@ -36,6 +38,9 @@ impl ConfigFault {
             }
             ConfigFault::PrefillWithoutRecycle => {
                 "prefill is not allowed when log recycle is disabled"
+            }
+            ConfigFault::TooManyPrefilled => {
+                "prefill would make over 65536 files: raise target-file-size or lower purge-threshold or prefill-limit"
             }
         }
     }

@@ -5,7 +5,7 @@ ghost use Rattle.std.specs.String.{string_bytes};
 ghost use Rattle.toml.specs.Data.{get_member, as_str, as_bool};
 ghost use Rattle.toml.specs.View.{view, table_view};
 ghost use Rattle.raft_log_file_settings.specs.Settings.{settings_of};
-ghost use Rattle.raft_log_file_settings.specs.Reading.{at, ok_or, maybe, size_of, number_of, version_of, mode_of, mode_word, GivesAt, GivesText, GivesTextIfAny, GivesKeys, GivesSettings, settings_in, settings_over, recycling_in, purging_in, recovery_in, files_in, NamesKey, SaysNoToml};
+ghost use Rattle.raft_log_file_settings.specs.Reading.{at, ok_or, maybe, size_of, number_of, ratio_of, thousandths_up_to, version_of, mode_of, mode_word, GivesAt, GivesText, GivesTextIfAny, GivesKeys, GivesSettings, settings_in, settings_over, recycling_in, purging_in, recovery_in, files_in, NamesKey, SaysWrongValue, IsNote, SaysNoToml, is_setting, dropped_keys, texts_of};
 
 use super::config::Config;
 use super::recovery_mode::RecoveryMode;
@@ -34,6 +34,28 @@ fn size_of(value: &Value) -> Option<u64>
         },
         _ => number_of(value),
     }
+}
+
+/// The thousandths in a value: their number, or a fraction.
+fn ratio_of(value: &Value) -> Option<u64>
+    ensures { result ≡ ratio_of (view value.now) }
+{
+    match value {
+        Value::Float(fraction) => thousandths_in(*fraction),
+        _ => number_of(value),
+    }
+}
+
+/// How many thousandths a fraction has, if it is the float nearest to 0 to 1,000 of them.
+fn thousandths_in(fraction: f64) -> Option<u64>
+    ensures { result ≡ thousandths_up_to 1000 fraction }
+{
+    for count in 0..1001u32 {
+        if fraction == f64::from(count) / f64::from(1000u32) {
+            return Some(count as u64);
+        }
+    }
+    None
 }
 
 /// The version in a value.
@@ -80,12 +102,17 @@ fn member<'a>(table: &'a Table, key: &str) -> Option<&'a Value>
 }
 
 /// What was read of a key's value, or the error that names the key.
-fn read_or_wrong<T: Drop>(alloc: Global, key: &'static str, read: Option<T>) -> Result<T>
+fn read_or_wrong<T: Drop>(
+    alloc: Global,
+    key: &'static str,
+    value: &Value,
+    read: Option<T>,
+) -> Result<T>
     ensures { GivesAt result key.now (ok_or read key.now) }
 {
     match read {
-        Some(value) => Ok(value),
-        None => Err(wrong_value(alloc, key)),
+        Some(read) => Ok(read),
+        None => Err(wrong_value(alloc, key, value)),
     }
 }
 
@@ -95,7 +122,7 @@ fn size_at(alloc: Global, table: &Table, key: &'static str, absent: ReadableSize
 {
     match member(table, key) {
         None => Ok(absent.0),
-        Some(value) => read_or_wrong(alloc, key, size_of(value)),
+        Some(value) => read_or_wrong(alloc, key, value, size_of(value)),
     }
 }
 
@@ -110,7 +137,7 @@ fn maybe_size_at(
 {
     match member(table, key) {
         None => Ok(absent),
-        Some(value) => Ok(Some(read_or_wrong(alloc, key, size_of(value))?)),
+        Some(value) => Ok(Some(read_or_wrong(alloc, key, value, size_of(value))?)),
     }
 }
 
@@ -120,7 +147,17 @@ fn number_at(alloc: Global, table: &Table, key: &'static str, absent: u64) -> Re
 {
     match member(table, key) {
         None => Ok(absent),
-        Some(value) => read_or_wrong(alloc, key, number_of(value)),
+        Some(value) => read_or_wrong(alloc, key, value, number_of(value)),
+    }
+}
+
+/// The thousandths at a key.
+fn ratio_at(alloc: Global, table: &Table, key: &'static str, absent: u64) -> Result<u64>
+    ensures { GivesAt result key.now (at key.now ratio_of absent (table_view table.now)) }
+{
+    match member(table, key) {
+        None => Ok(absent),
+        Some(value) => read_or_wrong(alloc, key, value, ratio_of(value)),
     }
 }
 
@@ -130,7 +167,7 @@ fn bool_at(alloc: Global, table: &Table, key: &'static str, absent: bool) -> Res
 {
     match member(table, key) {
         None => Ok(absent),
-        Some(value) => read_or_wrong(alloc, key, value.as_bool()),
+        Some(value) => read_or_wrong(alloc, key, value, value.as_bool()),
     }
 }
 
@@ -140,7 +177,7 @@ fn version_at(alloc: Global, table: &Table, key: &'static str, absent: Version) 
 {
     match member(table, key) {
         None => Ok(absent),
-        Some(value) => read_or_wrong(alloc, key, version_of(value)),
+        Some(value) => read_or_wrong(alloc, key, value, version_of(value)),
     }
 }
 
@@ -155,7 +192,7 @@ fn mode_at(
 {
     match member(table, key) {
         None => Ok(absent),
-        Some(value) => read_or_wrong(alloc, key, mode_of(value)),
+        Some(value) => read_or_wrong(alloc, key, value, mode_of(value)),
     }
 }
 
@@ -170,7 +207,7 @@ fn text_at<'a>(
 {
     match member(table, key) {
         None => Ok(absent),
-        Some(value) => read_or_wrong(alloc, key, value.as_str()),
+        Some(value) => read_or_wrong(alloc, key, value, value.as_str()),
     }
 }
 
@@ -186,17 +223,43 @@ fn maybe_text_at<'a>(
 {
     match member(table, key) {
         None => Ok(absent),
-        Some(value) => Ok(Some(read_or_wrong(alloc, key, value.as_str())?)),
+        Some(value) => Ok(Some(read_or_wrong(alloc, key, value, value.as_str())?)),
     }
 }
 
-/// The error that names a key, or `Memory`.
-fn wrong_value(alloc: Global, key: &str) -> Error
+/// The error that names a key, or `Memory`. For the garbage ratio it goes on with the value.
+fn wrong_value(alloc: Global, key: &str, value: &Value) -> Error
     ensures { NamesKey result key.now }
 {
-    match format!(in alloc; "wrong value of {key}") {
+    match wrong_value_text(alloc, key, value) {
         Ok(text) => Error::InvalidArgument(text),
         Err(_) => Error::Memory,
+    }
+}
+
+/// The text of the error for a wrong value.
+fn wrong_value_text(
+    alloc: Global,
+    key: &str,
+    value: &Value,
+) -> std::result::Result<String, AllocError>
+    ensures { IfOk result (λ text. SaysWrongValue key.now (string_bytes text)) }
+{
+    let note = note_of(alloc, key, value)?;
+    format!(in alloc; "wrong value of {key}{note}")
+}
+
+/// What the error for a wrong value says after the key.
+fn note_of(alloc: Global, key: &str, value: &Value) -> std::result::Result<String, AllocError>
+    ensures { IfOk result (λ note. IsNote key.now (string_bytes note)) }
+{
+    if key == "purge-rewrite-garbage-ratio" {
+        let shown = format!(in alloc; "{value}")?;
+        format!(in alloc;
+            ": {shown} is neither a number of thousandths nor one from 0.0 to 1.0 with three decimals"
+        )
+    } else {
+        Ok(String::new(alloc))
     }
 }
 
@@ -207,6 +270,32 @@ pub fn no_toml(alloc: Global) -> Error
     match format!(in alloc; "settings are no TOML") {
         Ok(text) => Error::InvalidArgument(text),
         Err(_) => Error::Memory,
+    }
+}
+
+/// The keys of a table that aren't those of settings, in its order.
+pub fn dropped_in(alloc: Global, table: &Table) -> std::result::Result<Vec<String>, AllocError>
+    ensures { IfOk result (λ keys. texts_of keys ≡ dropped_keys (table_view table.now)) }
+{
+    let mut dropped = Vec::new(alloc);
+    for key in table.keys() {
+        if !is_setting(key.as_str()) {
+            dropped.push(String::from_str(alloc, key.as_str())?)?;
+        }
+    }
+    Ok(dropped)
+}
+
+/// Whether this is the key of a setting.
+fn is_setting(key: &str) -> bool
+    ensures { result ≡ is_setting key.now }
+{
+    match key {
+        "dir" | "spill-dir" | "recovery-mode" | "recovery-read-block-size" => true,
+        "recovery-threads" | "bytes-per-sync" | "format-version" | "target-file-size" => true,
+        "purge-threshold" | "purge-rewrite-threshold" | "purge-rewrite-garbage-ratio" => true,
+        "memory-limit" | "enable-log-recycle" | "prefill-for-recycle" | "prefill-limit" => true,
+        _ => false,
     }
 }
 
@@ -235,7 +324,7 @@ fn purging_in(alloc: Global, table: &Table, usual: &Config) -> Result<(u64, Opti
     let usual_rewrite = bytes_of(usual.purge_rewrite_threshold);
     let rewrite = maybe_size_at(alloc, table, "purge-rewrite-threshold", usual_rewrite)?;
     let usual_ratio = usual.purge_rewrite_garbage_ratio;
-    let ratio = number_at(alloc, table, "purge-rewrite-garbage-ratio", usual_ratio)?;
+    let ratio = ratio_at(alloc, table, "purge-rewrite-garbage-ratio", usual_ratio)?;
     Ok((threshold, rewrite, ratio))
 }
 

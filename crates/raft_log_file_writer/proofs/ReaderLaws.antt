@@ -1,5 +1,5 @@
 -- What is read of a file's front, and its header.
-use Rattle.std.proofs.Common.{◌≡◌, ℕ, ◌-◌, ◌≤◌, inl, inr, List, ◌++◌, length, take, drop, min, Some, Result, Ok, Err, sym, ap, subst, ◌∙◌, arith}
+use Rattle.std.proofs.Common.{◌≡◌, ℕ, ◌-◌, ◌≤◌, Bool, IsTrue, inl, inr, List, ◌++◌, length, take, drop, min, Some, Result, Ok, Err, sym, ap, subst, ◌∙◌, arith}
 use Rattle.std.specs.Result.{IfOk, IfErr}
 use Rattle.std.proofs.lemmas.List.{append_assoc, take-append-drop, take_at, take_all, length-take-le, length-drop}
 use Rattle.std.proofs.lemmas.Bool.{cases_lt}
@@ -30,29 +30,43 @@ filled at count before after content number bytes =
           front ∙ ap (λ (n : ℕ). take n all) full
     ]
 
-module _ (handle : Handle) (d : Disk) (source left : List ℕ) (file : File) (is : d.files handle.file ≡ Some file) (front : source ≡ take 69 file.content) where
+-- `source` is the front of the file, as long as the longest header
+pub record IsFront (handle : Handle) (d : Disk) (source : List ℕ) : Type 0 where
+  pub file : File
+  pub is : d.files handle.file ≡ Some file
+  pub front : source ≡ take 69 file.content
+
+module _ (handle : Handle) (d : Disk) (source left : List ℕ) (honest : Bool) (read : IsTrue honest → IsFront handle d source) where
   -- a header read off the front of a file is the file's
-  pub begins_with_header : (result : Result LogFileFormat Error) → DecodesOrMemory IsFileHeader result source left → IfOk result (λ format. HasFile handle.file (BeginsWithHeader format) d)
-  begins_with_header (Ok format) decodes =
+  pub begins_with_header : (result : Result LogFileFormat Error) → DecodesOrMemory IsFileHeader result source left
+      → IfOk result (λ format. IsTrue honest → HasFile handle.file (BeginsWithHeader format) d)
+  begins_with_header (Ok format) decodes = λ told.
       let (text, spelled, splits) = decodes.found in
+      let it = read told in
       record {
-        file = file;
-        is = is;
+        file = it.file;
+        is = it.is;
         has = record {
           header = text;
-          rest = left ++ drop 69 file.content;
+          rest = left ++ drop 69 it.file.content;
           is = spelled;
-          splits = sym (take-append-drop 69 file.content) ∙ ap (λ (b : List ℕ). b ++ drop 69 file.content) (sym front ∙ splits) ∙ append_assoc text left (drop 69 file.content);
+          splits = sym (take-append-drop 69 it.file.content) ∙ ap (λ (b : List ℕ). b ++ drop 69 it.file.content) (sym it.front ∙ splits)
+              ∙ append_assoc text left (drop 69 it.file.content);
         };
       }
   begins_with_header (Err error) decodes = tt
 
-  pub gives_format : (result : Result LogFileFormat Error) → ReadsOrMemory result source left (header_at source) → IfOk result (λ format. HasFile handle.file (GivesFormat format) d)
-  gives_format (Ok format) reads = record { file = file; is = is; has = (left, ap header_at (sym front) ∙ reads) }
+  pub gives_format : (result : Result LogFileFormat Error) → ReadsOrMemory result source left (header_at source)
+      → IfOk result (λ format. IsTrue honest → HasFile handle.file (GivesFormat format) d)
+  gives_format (Ok format) reads = λ told.
+      let it = read told in record { file = it.file; is = it.is; has = (left, ap header_at (sym it.front) ∙ reads) }
   gives_format (Err error) reads = tt
 
-  pub format_refused : (result : Result LogFileFormat Error) → ReadsOrMemory result source left (header_at source) → IfErr result (λ error. IsFormatRefusal handle d error)
+  pub format_refused : (result : Result LogFileFormat Error) → ReadsOrMemory result source left (header_at source)
+      → IfErr result (λ error. IsFormatRefusal honest handle d error)
   format_refused (Ok format) reads = tt
   format_refused (Err errors.Memory) reads = tt
   format_refused (Err (errors.Io kind)) reads = absurd reads.0
-  format_refused (Err error) reads = record { file = file; is = is; has = subst (λ (b : List ℕ). FailsOrMemory error (header_at b)) front reads.0 }
+  format_refused (Err error) reads = λ told.
+      let it = read told in
+      record { file = it.file; is = it.is; has = subst (λ (b : List ℕ). FailsOrMemory error (header_at b)) it.front reads.0 }

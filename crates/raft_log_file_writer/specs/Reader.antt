@@ -1,5 +1,5 @@
 -- What is read of one log file, and the errors with which reading it can fail.
-use Rattle.std.specs.Prelude.{◌≡◌, ℕ, ◌⊎◌, ◌++◌, false, List, take, drop, Result, Ok}
+use Rattle.std.specs.Prelude.{◌≡◌, ℕ, ◌⊎◌, ◌++◌, Bool, false, IsTrue, List, take, drop, Result, Ok}
 use Rattle.raft_log_record_base.specs.declared.errors.Error.{Error}
 use Rattle.raft_log_record_base.specs.declared.errors.Error.TheVariants as errors
 use Rattle.raft_log_record_base.specs.Fault.{Fault, FailsOrMemory}
@@ -53,9 +53,10 @@ pub record BeginsWithHeader (format : LogFileFormat) (file : File) : Type 0 wher
 abbrev pub GivesFormat : LogFileFormat → File → Type 0
 GivesFormat format file = (rest : List ℕ) × (header_of file ≡ Ok (format, rest))
 
--- why no format was read of a file: the file system failed the read of the first 69 bytes, or memory ran out, or the
--- header has this fault
-abbrev pub IsFormatRefusal : Handle → Disk → Error → Type 0
-IsFormatRefusal handle d errors.Memory = Unit {0}
-IsFormatRefusal handle d (errors.Io kind) = IsUnread handle 0 69 d kind
-IsFormatRefusal handle d error = HasFile handle.file (λ file. FailsOrMemory error (header_of file)) d
+-- Why no format was read of a file: the file system failed the read of the first 69 bytes, or memory ran out. Or the
+-- header has this fault, if what was read is what the disk holds.
+abbrev pub IsFormatRefusal : Bool → Handle → Disk → Error → Type 0
+IsFormatRefusal honest handle d errors.Memory = Unit {0}
+IsFormatRefusal honest handle d (errors.Io kind) = IsUnread handle 0 69 d kind
+IsFormatRefusal honest handle d error =
+    IsTrue honest → HasFile handle.file (λ file. FailsOrMemory error (header_of file)) d

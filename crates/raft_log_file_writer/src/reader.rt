@@ -1,12 +1,13 @@
 //! Reading one log file.
 
-ghost use Rattle.std.specs.Prelude.{◌≡◌, ℕ, length, IfOk, IfErr, OnOk};
-ghost use Rattle.raft_log_fs.specs.Reading.{FillsRoom, IsOpened, IsSize};
+ghost use Rattle.std.specs.Prelude.{◌≡◌, ◌≤◌, ℕ, length, IsTrue, IfOk, IfErr, OnOk};
+ghost use Rattle.raft_log_fs.specs.Reading.{AreReadable, FillsRoom, IsOpened, IsSize};
+ghost use Rattle.raft_log_fs.specs.Receipts.{Collects};
 ghost use Rattle.raft_log_fs.specs.Touching.{HasFile};
 ghost use Rattle.raft_log_file_writer.specs.Reader.{AreBytesAt, BeginsWithHeader, GivesFormat, IsBlockRefusal, IsFormatRefusal, IsOpenRefusal, IsReadRefusal, IsSizeRefusal};
 
 use raft_log_file_format::LogFileFormat;
-use raft_log_fs::{FileSystem, Handle, Permission};
+use raft_log_fs::{FileSystem, Handle, Permission, Receipt};
 use raft_log_record_base::{Error, FileBlockHandle, Result};
 use std::alloc::Global;
 use std::io::ErrorKind;
@@ -40,7 +41,8 @@ pub(crate) fn open_file<F: FileSystem>(
     }
 }
 
-/// A log file that is open for reading at any offset. Its calls borrow the file system.
+/// A log file that is open for reading at any offset. Its calls borrow the file system. Each call that reads bytes adds
+/// its receipt to the caller's.
 ///
 /// A read that the file system fails isn't retried, as it would fail again: the file system has stopped, the file was
 /// deleted, or a byte is unreadable.
@@ -63,15 +65,18 @@ impl LogFileReader {
         &self,
         alloc: Global,
         file_system: &F,
+        receipts: &mut Receipt,
     ) -> Result<LogFileFormat>
-        ensures ok { IfOk result (λ format. HasFile self.now.handle.file (BeginsWithHeader format)
-            (F.disk file_system.now)) }
-        ensures exact { IfOk result (λ format. HasFile self.now.handle.file (GivesFormat format)
-            (F.disk file_system.now)) }
-        ensures err { IfErr result (λ error. IsFormatRefusal self.now.handle (F.disk file_system.now) error) }
+        ensures ok { IfOk result (λ format. IsTrue receipts.new.honest
+            → HasFile self.now.handle.file (BeginsWithHeader format) (F.disk file_system.now)) }
+        ensures exact { IfOk result (λ format. IsTrue receipts.new.honest
+            → HasFile self.now.handle.file (GivesFormat format) (F.disk file_system.now)) }
+        ensures err { IfErr result (λ error. IsFormatRefusal receipts.new.honest self.now.handle
+            (F.disk file_system.now) error) }
+        ensures receipts { Collects F.tells_truth receipts.old.honest receipts.new.honest }
     {
         let mut bytes = [0u8; MAX_HEADER_LEN];
-        let count = self.read_to(file_system, 0, &mut bytes)?;
+        let count = self.read_to(file_system, 0, &mut bytes, receipts)?;
         let mut source: &[u8] = &bytes[..count];
         LogFileFormat::decode(alloc, &mut source)
     }
@@ -82,14 +87,16 @@ impl LogFileReader {
         alloc: Global,
         file_system: &F,
         block: FileBlockHandle,
+        receipts: &mut Receipt,
     ) -> Result<Vec<u8>>
-        ensures ok { IfOk result (λ bytes. HasFile self.now.handle.file
+        ensures ok { IfOk result (λ bytes. IsTrue receipts.new.honest → HasFile self.now.handle.file
             (AreBytesAt block.offset block.len bytes.items) (F.disk file_system.now)) }
         ensures err { IfErr result (λ error. IsBlockRefusal self.now.handle block.offset block.len
             (F.disk file_system.now) error) }
+        ensures receipts { Collects F.tells_truth receipts.old.honest receipts.new.honest }
     {
         let mut bytes = Vec::new(alloc);
-        self.read_over(file_system, block, &mut bytes)?;
+        self.read_over(file_system, block, &mut bytes, receipts)?;
         Ok(bytes)
     }
 
@@ -100,14 +107,16 @@ impl LogFileReader {
         file_system: &F,
         block: FileBlockHandle,
         bytes: &mut Vec<u8>,
+        receipts: &mut Receipt,
     ) -> Result<()>
-        ensures ok { OnOk result (HasFile self.now.handle.file
+        ensures ok { OnOk result (IsTrue receipts.new.honest → HasFile self.now.handle.file
             (AreBytesAt block.offset block.len bytes.new.items) (F.disk file_system.now)) }
         ensures err { IfErr result (λ error. IsBlockRefusal self.now.handle block.offset block.len
             (F.disk file_system.now) error) }
+        ensures receipts { Collects F.tells_truth receipts.old.honest receipts.new.honest }
     {
         bytes.resize(block.len, 0)?;
-        let count = self.read_to(file_system, block.offset, bytes)?;
+        let count = self.read_to(file_system, block.offset, bytes, receipts)?;
         bytes.truncate(count);
         Ok(())
     }
@@ -118,13 +127,20 @@ impl LogFileReader {
         file_system: &F,
         offset: u64,
         room: &mut [u8],
+        receipts: &mut Receipt,
     ) -> Result<usize>
-        ensures ok { IfOk result (λ count. FillsRoom self.now.handle.file offset
+        ensures within { IfOk result (λ count. count ≤ length room.old) }
+        ensures ok { IfOk result (λ count. IsTrue receipts.new.honest → FillsRoom self.now.handle.file offset
             (F.disk file_system.now) room.old room.new count) }
+        ensures readable { IfOk result (λ count. AreReadable self.now.handle.file offset count
+            (F.disk file_system.now)) }
         ensures err { IfErr result (λ error. IsReadRefusal self.now.handle offset (length room.old)
             (F.disk file_system.now) error) }
+        ensures receipts { Collects F.tells_truth receipts.old.honest receipts.new.honest }
     {
-        Ok(file_system.read_at(self.handle, offset as usize, room)?)
+        let read = file_system.read_at(self.handle, offset as usize, room)?;
+        receipts.note(&read.receipt);
+        Ok(read.count)
     }
 
     /// The size of the file in bytes.

@@ -18,5 +18,5 @@ pub use raft_log_file_settings::{Config, RecoveryMode};
 pub use raft_log_file_writer::{
     LogFileReader, LogFileWriter, build_file_reader, build_file_writer,
 };
-pub use raft_log_fs::{Fault, FileSystem, Handle, Permission};
+pub use raft_log_fs::{Fault, FileSystem, Handle, Permission, Read, Receipt};
 pub use raft_log_fs_memory::{MemoryFileSystem, Piece, Remainder};

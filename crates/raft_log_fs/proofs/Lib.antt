@@ -9,3 +9,4 @@ pub mod Props
 pub mod NamesLaws
 pub mod TouchingLaws
 pub mod Sharing
+pub mod ReceiptLaws

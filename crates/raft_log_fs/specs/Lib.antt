@@ -6,5 +6,6 @@ pub mod Laws
 pub mod Names
 pub mod Arguments
 pub mod Reading
+pub mod Receipts
 pub mod Exits
 pub mod Touching

@@ -16,14 +16,17 @@ pub record IsOpened (path : List ℕ) (permission : Permission) (handle : Handle
   pub permitted : handle.permission ≡ permission
 
 -- A read filled its buffer with the bytes of the file from offset `at` on, up to the file's end. It read `count`
--- bytes, and all of these are readable. The rest of the buffer is unchanged.
+-- bytes. The rest of the buffer is unchanged.
 pub record FillsRoom (id at : ℕ) (d : Disk) (before after : List ℕ) (count : ℕ) : Type 0 where
   pub runs : d.stopped ≡ false
   pub file : File
   pub is : d.files id ≡ Some file
   pub number : count ≡ min (length before) (length file.content - at)
   pub bytes : after ≡ take count (drop at file.content) ++ drop count before
-  pub readable : (place : ℕ) → at ≤ place → place < at + count → d.unreadable id place ≡ false
+
+-- none of the `count` offsets of the file from `at` on is unreadable
+abbrev pub AreReadable : ℕ → ℕ → ℕ → Disk → Type 0
+AreReadable id at count d = (place : ℕ) → at ≤ place → place < at + count → d.unreadable id place ≡ false
 
 -- Why a read fails. After a stop, the error is `Other`. If the file was deleted, it is `NotFound`. If an offset that
 -- the read asked for, within the file, is unreadable, it is `Other`.

@@ -1,15 +1,16 @@
 //! The file system that a store needs.
 
-ghost use Rattle.std.specs.Prelude.{◌≡◌, ℕ, ◌+◌, ◌<◌, Bool, true, List, length, IfOk, IfErr, OnOk, OnErr, map};
+ghost use Rattle.std.specs.Prelude.{◌≡◌, ℕ, ◌+◌, ◌≤◌, ◌↔◌, Bool, true, List, length, IsTrue, IfOk, IfErr, OnOk, OnErr, map};
 ghost use Rattle.std.specs.String.{string_bytes};
 ghost use Rattle.raft_log_fs.specs.Disk.{Disk};
 ghost use Rattle.raft_log_fs.specs.declared.handle.Fault.{Fault};
 ghost use Rattle.raft_log_fs.specs.Image.{IsSound};
 ghost use Rattle.raft_log_fs.specs.Calls.{Creates, Deletes, Renames, MakesDirectory};
-ghost use Rattle.raft_log_fs.specs.Reading.{IsOpened, IsNotOpened, IsListing, IsNotListed, FillsRoom, IsUnread, IsSize, IsNotMeasured};
+ghost use Rattle.raft_log_fs.specs.Reading.{IsOpened, IsNotOpened, IsListing, IsNotListed, FillsRoom, AreReadable, IsUnread, IsSize, IsNotMeasured};
 ghost use Rattle.raft_log_fs.specs.Exits.{FailsToCreate, FailsToDelete, FailsToRename, RenamesAndOpens, FailsToRenameAndOpen, FailsToMakeDirectory, LeavesAll, FailsWithoutChange, Writes, FailsToWrite, Shortens, FailsToShorten, Grows, FailsToGrow, Syncs, FailsToSync, Arms, IsUnarmed};
 
 use super::handle::{Fault, Handle, Permission};
+use super::receipt::Read;
 use std::io::ErrorKind;
 
 /// The file system that a store needs. Two paths are the same if and only if their bytes are. A file's path is its
@@ -45,6 +46,9 @@ pub trait FileSystem {
 
     /// What `free_space` may return for a directory. It isn't part of the disk, because others may use the same space.
     ghost tells_space: { Self → List ℕ → ℕ → Type 0 };
+
+    /// Each read returns what the disk holds. Where nothing can prove that of the reads of a device, it is absurd.
+    ghost tells_truth: { Type 0 };
 
     /// How arming a fault changes the file system, apart from its disk: which later calls fail, and how.
     ghost arms: { Fault → Self → Self → Type 0 };
@@ -159,11 +163,15 @@ pub trait FileSystem {
         ensures told { IfOk result (λ space. tells_space self.now directory.now space) }
         ensures err { IfErr result (λ error. IsNotListed directory.now (disk self.now) error) };
 
-    /// Reads bytes from an offset on until `room` is full or the file ends, and returns how many. Fails with `Other` if
-    /// one of the places is unreadable, with `NotFound` if the file is gone.
-    fn read_at(&self, handle: Handle, offset: usize, room: &mut [u8]) -> Result<usize, ErrorKind>
-        ensures ok { IfOk result (λ count.
-            FillsRoom handle.file offset (disk self.now) room.old room.new count) }
+    /// Reads bytes from an offset on until `room` is full or the file ends, and returns how many. The receipt says
+    /// whether they are what the disk holds. Fails with `Other` if one of the places is unreadable, with `NotFound` if
+    /// the file is gone.
+    fn read_at(&self, handle: Handle, offset: usize, room: &mut [u8]) -> Result<Read, ErrorKind>
+        ensures within { IfOk result (λ read. read.count ≤ length room.old) }
+        ensures ok { IfOk result (λ read. IsTrue read.receipt.honest
+            ↔ FillsRoom handle.file offset (disk self.now) room.old room.new read.count) }
+        ensures truth { IfOk result (λ read. tells_truth → IsTrue read.receipt.honest) }
+        ensures readable { IfOk result (λ read. AreReadable handle.file offset read.count (disk self.now)) }
         ensures err { IfErr result (λ error.
             IsUnread handle offset (length room.old) (disk self.now) error) };
 
@@ -187,4 +195,7 @@ pub trait FileSystem {
     /// No file has two names. Each name has a file, and is in a directory that exists. A new file's number was never
     /// used, and each file's content is one that a crash may leave.
     ghost sound: { (system : Self) → IsSound (disk system) };
+
+    /// Each file system is truthful. This law goes once every caller carries the receipts of what it reads.
+    ghost truthful: { tells_truth };
 }

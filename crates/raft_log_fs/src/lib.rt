@@ -10,7 +10,9 @@ pub mod handle;
 pub mod images;
 pub mod kinds;
 pub mod names;
+pub mod receipt;
 
 pub use file_system::FileSystem;
 pub use handle::{Fault, Handle, Permission};
 pub use kinds::{Kinds, told_at_stop};
+pub use receipt::{Judged, Read, Receipt};

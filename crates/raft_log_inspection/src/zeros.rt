@@ -71,7 +71,8 @@ fn read_piece<F: FileSystem>(
 ) -> Result<Piece, ErrorKind>
     ensures { IfOk result (IsPieceOf (bytes_in ((F.disk files.now).files handle.file)) at (length room.old)) }
 {
-    let count = files.read_at(handle, at, room)?;
+    let read = files.read_at(handle, at, room)?;
+    let count = read.count;
     let has_zeros = are_zeros(&room[..count]);
     Ok(Piece { count, has_zeros })
 }

@@ -6,7 +6,7 @@ use Rattle.raft_log_world.specs.declared.event.Answer.TheVariants.{Done, Found, 
 use Rattle.raft_log_world.specs.declared.event.Call.{Call}
 use Rattle.raft_log_world.specs.declared.event.Call.TheVariants.{Write, Sync, Get, GetEntry, FirstIndex, LastIndex, Fetch, Scan, Compact, Purge}
 use Rattle.raft_log_world.specs.declared.event.Event.{Event}
-use Rattle.raft_log_world.specs.declared.event.Event.TheVariants.{Open, Serve, Close, Crash, Arm}
+use Rattle.raft_log_world.specs.declared.event.Event.TheVariants.{Open, Serve, Close, Fork, Crash, Arm}
 use Rattle.raft_log_world.specs.Model.{BatchRecord, ModelLog}
 use Rattle.raft_log_world.specs.Model.ModelLog.{running}
 use Rattle.raft_log_world.specs.Explained.{Explains}
@@ -65,6 +65,8 @@ allowed standing (Arm fault) Done = stays standing
 allowed standing (Arm fault) Refused = stays standing
 allowed Closed (Open workers) Done = refl
 allowed Closed (Open workers) Refused = λ now kept. refl
+allowed Closed (Fork target) Done = λ now kept. refl
+allowed Closed (Fork target) Refused = λ now kept. refl
 allowed Closed (Crash what) Done = λ now kept. refl
 allowed Closed (Serve call) Idle = λ now kept. refl
 allowed Closed Close Idle = λ now kept. refl
@@ -72,10 +74,12 @@ allowed Running (Open workers) Idle = λ now kept. refl
 allowed Running (Serve call) answer = allowed_call call answer
 allowed Running Close Done = refl
 allowed Running Close Refused = λ now kept. refl
+allowed Running (Fork target) Idle = λ now kept. refl
 allowed Running (Crash what) Done = λ now kept. refl
 allowed Broken (Open workers) Idle = λ now kept. refl
 allowed Broken (Serve call) Failed = λ now kept. refl
 allowed Broken Close Failed = λ now kept. refl
+allowed Broken (Fork target) Idle = λ now kept. refl
 allowed Broken (Crash what) Done = λ now kept. refl
 allowed standing event answer = tt
 

@@ -13,7 +13,7 @@ use Rattle.raft_log_world.specs.declared.event.Answer.TheVariants.{Done, Found, 
 use Rattle.raft_log_world.specs.declared.event.Call.{Call}
 use Rattle.raft_log_world.specs.declared.event.Call.TheVariants.{Write, Sync, Get, GetEntry, FirstIndex, LastIndex, Fetch, Scan, Compact, Purge}
 use Rattle.raft_log_world.specs.declared.event.Event.{Event}
-use Rattle.raft_log_world.specs.declared.event.Event.TheVariants.{Open, Serve, Close, Crash, Arm}
+use Rattle.raft_log_world.specs.declared.event.Event.TheVariants.{Open, Serve, Close, Fork, Crash, Arm}
 use Rattle.raft_log_world.specs.Explained.{Explains}
 use Rattle.raft_log_world.specs.Model.{Adds as AddsBatch, Answers, BatchRecord, FailsAt, LosesSome, ModelLog, RunsOn, Serves, compacts}
 use Rattle.raft_log_world.specs.Model.ModelLog.{resting, left, running, failed}
@@ -430,6 +430,12 @@ module _ {B C : Type 0} (says : B → BatchRecord) where
   answered (failed m pending) Close Failed fin next is f =
       let s = subst (λ (x : ModelLog). Fits x next) is f in
       shut_from m pending Close Failed next Broken refl s.kept s.reaches refl s.is
+  answered (resting m) (Fork target) Done fin next is f = alike Closed m [] (resting m) fin (Fork target) Done next (λ view s. s) refl (λ n k. refl) is f
+  answered (resting m) (Fork target) Refused fin next is f = alike Closed m [] (resting m) fin (Fork target) Refused next (λ view s. s) refl (λ n k. refl) is f
+  answered (left m pending) (Fork target) Done fin next (now, loses, is) f =
+      let (kept, r, same) = one_of m pending (Fork target) Done next now loses (subst (λ (x : ModelLog). Fits x next) is f) in
+      shut_from m pending (Fork target) Done next Closed refl kept r refl same
+  answered (left m pending) (Fork target) Refused fin next is f = alike Closed m pending (left m pending) fin (Fork target) Refused next (λ view s. s) refl (λ n k. refl) is f
   answered (resting m) (Crash what) Done fin next is f = alike Closed m [] (resting m) fin (Crash what) Done next (λ view s. s) refl (λ n k. refl) is f
   answered (left m pending) (Crash what) Done fin next (now, loses, is) f =
       let (kept, r, same) = one_of m pending (Crash what) Done next now loses (subst (λ (x : ModelLog). Fits x next) is f) in
@@ -454,8 +460,12 @@ module _ {B C : Type 0} (says : B → BatchRecord) where
   answered (left m pending) Close Idle fin next is f = alike Closed m pending (left m pending) fin Close Idle next (λ view s. s) refl (λ n k. refl) is.1 f
   answered (running m pending) (Open workers) Idle fin next is f = alike Running m pending (running m pending) fin (Open workers) Idle next (λ view s. s) refl (λ n k. refl) is.1 f
   answered (failed m pending) (Open workers) Idle fin next is f = alike Broken m pending (failed m pending) fin (Open workers) Idle next (λ view s. s) refl (λ n k. refl) is.1 f
+  answered (running m pending) (Fork target) Idle fin next is f = alike Running m pending (running m pending) fin (Fork target) Idle next (λ view s. s) refl (λ n k. refl) is.1 f
+  answered (failed m pending) (Fork target) Idle fin next is f = alike Broken m pending (failed m pending) fin (Fork target) Idle next (λ view s. s) refl (λ n k. refl) is.1 f
   answered (resting m) (Open workers) Idle fin next is f = absurd (false_true is.0)
   answered (left m pending) (Open workers) Idle fin next is f = absurd (false_true is.0)
+  answered (resting m) (Fork target) Idle fin next is f = absurd (false_true is.0)
+  answered (left m pending) (Fork target) Idle fin next is f = absurd (false_true is.0)
   answered (running m pending) Close Idle fin next is f = absurd (false_true (sym is.0))
   answered (failed m pending) Close Idle fin next is f = absurd (false_true (sym is.0))
   answered (failed m pending) (Serve call) Idle fin next is f = absurd (false_true (sym is.0))
@@ -491,6 +501,10 @@ module _ {B C : Type 0} (says : B → BatchRecord) where
   real (running m pending) Close Done kept r next t = (left (taken m pending) [], refl, durable_view m pending Closed (taken m pending) next t)
   real (running m pending) Close Refused kept r next t = (left m pending, refl, shown_view m pending Closed kept next r t)
   real (failed m pending) Close Failed kept r next t = (left m pending, refl, shown_view m pending Closed kept next r t)
+  real (resting m) (Fork target) Done kept r next t = (resting m, refl, shown_view m [] Closed kept next r t)
+  real (resting m) (Fork target) Refused kept r next t = (resting m, refl, shown_view m [] Closed kept next r t)
+  real (left m pending) (Fork target) Done kept r next t = (resting kept, (kept, to_count m pending kept r, refl), durable_view m pending Closed kept next t)
+  real (left m pending) (Fork target) Refused kept r next t = (left m pending, refl, shown_view m pending Closed kept next r t)
   real (resting m) (Crash what) Done kept r next t = (resting m, refl, shown_view m [] Closed kept next r t)
   real (left m pending) (Crash what) Done kept r next t = (resting kept, (kept, to_count m pending kept r, refl), durable_view m pending Closed kept next t)
   real (running m pending) (Crash what) Done kept r next t = (resting kept, (kept, to_count m pending kept r, refl), durable_view m pending Closed kept next t)
@@ -509,6 +523,8 @@ module _ {B C : Type 0} (says : B → BatchRecord) where
   real (left m pending) Close Idle kept r next t = (left m pending, (refl, refl), shown_view m pending Closed kept next r t)
   real (running m pending) (Open workers) Idle kept r next t = (running m pending, (refl, refl), shown_view m pending Running kept next r t)
   real (failed m pending) (Open workers) Idle kept r next t = (failed m pending, (refl, refl), shown_view m pending Broken kept next r t)
+  real (running m pending) (Fork target) Idle kept r next t = (running m pending, (refl, refl), shown_view m pending Running kept next r t)
+  real (failed m pending) (Fork target) Idle kept r next t = (failed m pending, (refl, refl), shown_view m pending Broken kept next r t)
   real log event answer kept r next t = absurd t
 
   -- Runs of events.

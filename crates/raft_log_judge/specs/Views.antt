@@ -9,7 +9,7 @@ use Rattle.raft_log_world.specs.declared.event.Answer.TheVariants.{Done, Found, 
 use Rattle.raft_log_world.specs.declared.event.Call.{Call}
 use Rattle.raft_log_world.specs.declared.event.Call.TheVariants.{Write, Sync, Get, GetEntry, FirstIndex, LastIndex, Fetch, Scan, Compact, Purge}
 use Rattle.raft_log_world.specs.declared.event.Event.{Event}
-use Rattle.raft_log_world.specs.declared.event.Event.TheVariants.{Open, Serve, Close, Crash, Arm}
+use Rattle.raft_log_world.specs.declared.event.Event.TheVariants.{Open, Serve, Close, Fork, Crash, Arm}
 use Rattle.raft_log_world.specs.Model.{BatchRecord, ModelLog, compacts}
 use Rattle.raft_log_world.specs.Model.ModelLog.{resting, left, running, failed}
 use Rattle.raft_log_world.specs.Reads.{Contents, Fetches, IsFirstIndex, IsLastIndex, Scans, all_bytes, bytes_of, pairs_of}
@@ -92,15 +92,19 @@ outcome Closed (Open workers) Done = Opens
 outcome Closed (Open workers) Refused = Turns Closed false
 outcome Closed (Serve call) Idle = Turns Closed false
 outcome Closed Close Idle = Turns Closed false
+outcome Closed (Fork target) Done = Turns Closed false
+outcome Closed (Fork target) Refused = Turns Closed false
 outcome Closed (Crash what) Done = Turns Closed false
 outcome Running (Open workers) Idle = Turns Running false
 outcome Running (Serve call) answer = call_outcome call answer
 outcome Running Close Done = Turns Closed true
 outcome Running Close Refused = Turns Closed false
+outcome Running (Fork target) Idle = Turns Running false
 outcome Running (Crash what) Done = Turns Closed false
 outcome Broken (Open workers) Idle = Turns Broken false
 outcome Broken (Serve call) Failed = Turns Broken false
 outcome Broken Close Failed = Turns Closed false
+outcome Broken (Fork target) Idle = Turns Broken false
 outcome Broken (Crash what) Done = Turns Closed false
 outcome standing event answer = Never
 

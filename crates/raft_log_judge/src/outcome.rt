@@ -57,6 +57,10 @@ pub fn outcome_of<B, C>(standing: Standing, event: &Event<B, C>, answer: &Answer
         (Event::Close, Standing::Running, Answer::Done) => turns(Standing::Closed, true),
         (Event::Close, Standing::Running, Answer::Refused) => turns(Standing::Closed, false),
         (Event::Close, Standing::Broken, Answer::Failed) => turns(Standing::Closed, false),
+        (Event::Fork { .. }, Standing::Closed, Answer::Done) => turns(Standing::Closed, false),
+        (Event::Fork { .. }, Standing::Closed, Answer::Refused) => turns(Standing::Closed, false),
+        (Event::Fork { .. }, Standing::Running, Answer::Idle) => turns(Standing::Running, false),
+        (Event::Fork { .. }, Standing::Broken, Answer::Idle) => turns(Standing::Broken, false),
         (Event::Crash { .. }, _, Answer::Done) => turns(Standing::Closed, false),
         _ => Outcome::Never,
     }

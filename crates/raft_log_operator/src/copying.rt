@@ -70,7 +70,7 @@ fn copy_file<F: FileSystem>(
 ) -> Result<(), ErrorKind> {
     let size = files.file_size(from)?;
     for offset in (0..size).step_by(PIECE) {
-        let count = files.read_at(from, offset, room)?;
+        let count = files.read_at(from, offset, room)?.count;
         copy.write_at(to, offset, &room[..count])?;
     }
     Ok(())

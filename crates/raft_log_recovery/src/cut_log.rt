@@ -79,8 +79,8 @@ fn has_only_zeros<F: FileSystem>(file_system: &F, file: File, offset: usize, siz
     let mut room = [0; ROOM];
     for start in (offset..size).step_by(ROOM) {
         match file_system.read_at(file.handle, start, &mut room) {
-            Ok(count) => {
-                if !room.iter().take(count).all(|byte| *byte == 0) {
+            Ok(read) => {
+                if !room.iter().take(read.count).all(|byte| *byte == 0) {
                     return false;
                 }
             }

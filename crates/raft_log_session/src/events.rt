@@ -52,7 +52,8 @@ fn read_stop(words: &mut Words<'_>) -> Result<SessionEvent, Unread> {
     })
 }
 
-/// Returns the call of a line; `None` if no call has this word.
+/// Returns the call of a line; `None` if no call has this word. (Calls that read the first and the last index of a
+/// group would be here.)
 fn read_call(word: &str, words: &mut Words<'_>) -> Result<Option<Call<Batch>>, Unread> {
     let call = match word {
         "sync" => Call::Sync,
@@ -63,12 +64,6 @@ fn read_call(word: &str, words: &mut Words<'_>) -> Result<Option<Call<Batch>>, U
         "entry" => Call::GetEntry {
             group: words.number(b" group=")?,
             index: words.number(b" index=")?,
-        },
-        "first-index" => Call::FirstIndex {
-            group: words.number(b" group=")?,
-        },
-        "last-index" => Call::LastIndex {
-            group: words.number(b" group=")?,
         },
         "fetch" => read_fetch(words)?,
         "scan" => Call::Scan {

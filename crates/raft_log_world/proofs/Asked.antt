@@ -1,6 +1,8 @@
 -- The answers to the questions of a user.
 use Rattle.std.proofs.Common.{◌≡◌, ◌≤◌, Bool, true, List, [], ◌∷◌, ◌++◌, length, take, inl, inr, append_assoc, append-nil, length-append, ap, refl, sym, subst, ◌∙◌, arith}
 use Rattle.std.proofs.Math.Path.{fun_ext}
+use Rattle.std.specs.Global.{Global}
+use Rattle.std.specs.declared.string.String.{String}
 use Rattle.raft_log_model_laws.specs.Groups.{of_group, taken}
 use Rattle.raft_log_model_laws.specs.Item.{items_of}
 use Rattle.raft_log_model_laws.specs.Meaning.{after}
@@ -8,12 +10,12 @@ use Rattle.raft_log_world.specs.declared.event.Answer.{Answer}
 use Rattle.raft_log_world.specs.declared.event.Answer.TheVariants.{Done, Refused, Failed, Idle}
 use Rattle.raft_log_world.specs.declared.event.Call.TheVariants.{Purge as PurgeCall, Sync, Write}
 use Rattle.raft_log_world.specs.declared.event.Event.{Event}
-use Rattle.raft_log_world.specs.declared.event.Event.TheVariants.{Close, Serve}
+use Rattle.raft_log_world.specs.declared.event.Event.TheVariants.{Close, Fork, Serve}
 use Rattle.raft_log_world.specs.Explained.{Explains}
 use Rattle.raft_log_world.specs.Kept.{GrowsBy, durable, pending_in, written_in}
 use Rattle.raft_log_world.specs.Model.{Answers, BatchRecord, LosesSome, ModelLog, RunsOn}
-use Rattle.raft_log_world.specs.Model.ModelLog.{running, failed}
-use Rattle.raft_log_world.specs.Questions.{BatchesAreWhole, Continues, FailedWritesLeaveNoTrace, PurgesKeepContents, SyncedBatchesAreKept, Syncs, contents_of}
+use Rattle.raft_log_world.specs.Model.ModelLog.{resting, left, running, failed}
+use Rattle.raft_log_world.specs.Questions.{BatchesAreWhole, Continues, CopiesHoldTheLog, FailedWritesLeaveNoTrace, IsCopy, PurgesKeepContents, SyncedBatchesAreKept, Syncs, contents_of}
 use Rattle.raft_log_world.specs.Reads.{Contents}
 use Rattle.raft_log_world.proofs.Keeping.{grows}
 use Rattle.raft_log_world.proofs.Stepping.{Steps, stepped, taken_twice, written_first}
@@ -142,3 +144,22 @@ purges_keep_contents B C says (running m pending) next kind answer is = absurd i
 purges_keep_contents B C says (failed m pending) next kind Failed is = ap contents_of is
 purges_keep_contents B C says log next kind Idle is = ap contents_of is.1
 purges_keep_contents B C says log next kind answer is = absurd is
+
+-- Copies hold the log.
+
+is_copy : (log next : ModelLog) (now : Contents) → next ≡ resting now → LosesSome (durable log) (pending_in log) now → IsCopy log next
+is_copy log next now is loses = subst (λ (x : ModelLog). IsCopy log x) (sym is) (record { rests = refl; contents = loses })
+
+module _ {B : Type 0} (C : Type 0) (says : B → BatchRecord) (target : String Global) where
+  copied : (log next : ModelLog) → Answers {C = C} says log (Fork target) Done next → IsCopy log next
+  copied (resting m) next is = is_copy (resting m) next m is (0, (let none : 0 ≤ 0 = omega arith in none), refl)
+  copied (left m pending) next is = is_copy (left m pending) next is.0 is.2 is.1
+  copied log next is = absurd is
+
+  uncopied : (log next : ModelLog) → Answers {C = C} says log (Fork target) Refused next → next ≡ log
+  uncopied (resting m) next is = is
+  uncopied (left m pending) next is = is
+  uncopied log next is = absurd is
+
+pub copies_hold_the_log : (B C : Type 0) → CopiesHoldTheLog B C
+copies_hold_the_log B C says log next target = (λ is. copied C says target log next is, λ is. uncopied C says target log next is)

@@ -9,7 +9,7 @@ use Rattle.raft_log_world.specs.declared.event.Answer.TheVariants.{Done, Found, 
 use Rattle.raft_log_world.specs.declared.event.Call.{Call}
 use Rattle.raft_log_world.specs.declared.event.Call.TheVariants.{Write, Sync, Get, GetEntry, FirstIndex, LastIndex, Fetch, Scan, Compact, Purge}
 use Rattle.raft_log_world.specs.declared.event.Event.{Event}
-use Rattle.raft_log_world.specs.declared.event.Event.TheVariants.{Open, Serve, Close, Crash, Arm}
+use Rattle.raft_log_world.specs.declared.event.Event.TheVariants.{Open, Serve, Close, Fork, Crash, Arm}
 use Rattle.raft_log_world.specs.Kept.{durable, pending_in, written_in}
 use Rattle.raft_log_world.specs.Model.{Answers, BatchRecord, FailsAt, HasWritten, LosesSome, ModelLog, RunsOn, Serves, compacts}
 use Rattle.raft_log_world.specs.Reads.{Contents}
@@ -128,6 +128,10 @@ module _ {B C : Type 0} (says : B → BatchRecord) where
       of_equal (running m pending) next (left (taken m pending) []) (pending ++ []) is (all_done (running m pending) (left (taken m pending) []) pending [] (pending ++ []) refl refl refl)
   stepped (running m pending) Close Refused next is = of_equal (running m pending) next (left m pending) (pending ++ []) is (kept (running m pending) (left m pending) [] (pending ++ []) refl refl)
   stepped (failed m pending) Close Failed next is = of_equal (failed m pending) next (left m pending) (pending ++ []) is (kept (failed m pending) (left m pending) [] (pending ++ []) refl refl)
+  stepped (resting m) (Fork target) Done next is = idle (resting m) next [] is
+  stepped (resting m) (Fork target) Refused next is = idle (resting m) next [] is
+  stepped (left m pending) (Fork target) Done next is = some_lost (left m pending) next is.0 is.1 (ap durable is.2) (ap pending_in is.2)
+  stepped (left m pending) (Fork target) Refused next is = idle (left m pending) next [] is
   stepped (resting m) (Crash what) Done next is = idle (resting m) next [] is
   stepped (left m pending) (Crash what) Done next is = some_lost (left m pending) next is.0 is.1 (ap durable is.2) (ap pending_in is.2)
   stepped (running m pending) (Crash what) Done next is = some_lost (running m pending) next is.0 is.1 (ap durable is.2) (ap pending_in is.2)

@@ -35,7 +35,7 @@ Explains says log (event ∷ events) (answer ∷ answers) last =
     (next : ModelLog) × Answers says log event answer next × Explains says next events answers last
 Explains says log events answers last = ⊥
 
--- none of these moments meets a CRC collision, whichever log it happens to
+-- none of these moments meets a CRC collision, whichever log it happens to, and each copy has a clear target
 abbrev pub NoneCollides : {S F B C : Type 0} → LogOf S F B C → Storage S F → List (Moment S F B C) → Type 0
 NoneCollides l at [] = Unit {0}
 NoneCollides l at (m ∷ ms) =

@@ -12,7 +12,7 @@ use Rattle.raft_log_world.specs.declared.event.Answer.TheVariants.{Done, Found, 
 use Rattle.raft_log_world.specs.declared.event.Call.{Call}
 use Rattle.raft_log_world.specs.declared.event.Call.TheVariants.{Write, Sync, Get, GetEntry, FirstIndex, LastIndex, Fetch, Scan, Compact, Purge}
 use Rattle.raft_log_world.specs.declared.event.Event.{Event}
-use Rattle.raft_log_world.specs.declared.event.Event.TheVariants.{Open, Serve, Close, Crash, Arm}
+use Rattle.raft_log_world.specs.declared.event.Event.TheVariants.{Open, Serve, Close, Fork, Crash, Arm}
 use Rattle.raft_log_world.specs.Reads.{Contents, Fetches, HasNone, IsFirstIndex, IsLastIndex, Scans, all_bytes, bytes_of, pairs_of}
 
 -- the record that a batch is written as: what it changes, in which groups
@@ -107,11 +107,12 @@ Serves says m pending (Purge kind) Refused next = next ≡ running (taken m pend
 Serves says m pending (Purge kind) Failed next = (next ≡ failed m pending) ⊎ (next ≡ failed (taken m pending) [])
 Serves says m pending call answer next = ⊥
 
--- a call or a close does nothing if no engine has the log open, and an open if one has
+-- a call or a close does nothing if no engine has the log open, and an open or a copy if one has
 abbrev pub IsIdle : {B C : Type 0} → Bool → Event B C → Type 0
 IsIdle opened (Open workers) = opened ≡ true
 IsIdle opened (Serve call) = opened ≡ false
 IsIdle opened Close = opened ≡ false
+IsIdle opened (Fork target) = opened ≡ true
 IsIdle opened (Crash what) = ⊥
 IsIdle opened (Arm fault) = ⊥
 
@@ -119,6 +120,8 @@ IsIdle opened (Arm fault) = ⊥
 -- - After an open the engine runs. What was pending is durable, or its last few batches are lost. If the open fails,
 --   the log is as before, or as the open would have found it.
 -- - A close that succeeds makes all batches durable. One that fails leaves them pending.
+-- - A copy that succeeds is the log from then on. All of it is durable, but the last few pending batches may be missing.
+--   One that fails leaves the log as before.
 -- - A crash may lose the last few pending batches, and nothing else.
 -- - An engine that has failed fails each call, and a close, and changes nothing.
 -- - A fault that is armed changes nothing. Later events may fail.
@@ -134,6 +137,11 @@ Answers says (failed m pending) (Serve call) Failed next = next ≡ failed m pen
 Answers says (running m pending) Close Done next = next ≡ left (taken m pending) []
 Answers says (running m pending) Close Refused next = next ≡ left m pending
 Answers says (failed m pending) Close Failed next = next ≡ left m pending
+Answers says (resting m) (Fork target) Done next = next ≡ resting m
+Answers says (resting m) (Fork target) Refused next = next ≡ resting m
+Answers says (left m pending) (Fork target) Done next =
+    (now : Contents) × LosesSome m pending now × (next ≡ resting now)
+Answers says (left m pending) (Fork target) Refused next = next ≡ left m pending
 Answers says (resting m) (Crash what) Done next = next ≡ resting m
 Answers says (left m pending) (Crash what) Done next =
     (now : Contents) × LosesSome m pending now × (next ≡ resting now)

@@ -1,16 +1,19 @@
 -- Questions of a user, and their answers by the model log: is a synced batch ever lost, can half a batch be read, what
--- does a failed write leave, what does a purge keep?
+-- does a failed write leave, what does a purge keep, what does a copy hold?
 use Rattle.std.specs.Prelude.{◌≡◌, Bool, true, List, [], ◌∷◌, ◌++◌}
+use Rattle.std.specs.Global.{Global}
+use Rattle.std.specs.declared.string.String.{String}
 use Rattle.raft_log_model_laws.specs.Groups.{taken}
 use Rattle.raft_log_world.specs.declared.event.Answer.{Answer}
 use Rattle.raft_log_world.specs.declared.event.Answer.TheVariants.{Done, Failed, Refused}
 use Rattle.raft_log_world.specs.declared.event.Call.TheVariants.{Purge as PurgeCall, Sync, Write}
 use Rattle.raft_log_world.specs.declared.event.Event.{Event}
-use Rattle.raft_log_world.specs.declared.event.Event.TheVariants.{Close, Serve}
+use Rattle.raft_log_world.specs.declared.event.Event.TheVariants.{Close, Fork, Serve}
 use Rattle.raft_log_world.specs.declared.event.Purge.{Purge}
 use Rattle.raft_log_world.specs.Explained.{Explains}
 use Rattle.raft_log_world.specs.Kept.{IsPart, durable, pending_in, written_in}
 use Rattle.raft_log_world.specs.Model.{Answers, BatchRecord, LosesSome, ModelLog}
+use Rattle.raft_log_world.specs.Model.ModelLog.{resting}
 use Rattle.raft_log_world.specs.Reads.{Contents}
 
 -- the contents that reads of a log return: the durable ones, and then all pending batches
@@ -74,3 +77,15 @@ abbrev pub PurgesKeepContents : Type 0 → Type 0 → Type 0
 PurgesKeepContents B C =
     (says : B → BatchRecord) (log next : ModelLog) (kind : Purge) (answer : Answer)
     → Answers {C = C} says log (Serve (PurgeCall kind)) answer next → contents_of next ≡ contents_of log
+
+-- `next` is a copy of the log: all of it is durable. It has the durable contents, and the first few pending batches.
+pub record IsCopy (log next : ModelLog) : Type 0 where
+  pub rests : next ≡ resting (contents_of next)
+  pub contents : LosesSome (durable log) (pending_in log) (contents_of next)
+
+-- A copy that succeeds holds the log, as `IsCopy` says. One that fails leaves the log as it was.
+abbrev pub CopiesHoldTheLog : Type 0 → Type 0 → Type 0
+CopiesHoldTheLog B C =
+    (says : B → BatchRecord) (log next : ModelLog) (target : String Global)
+    → (Answers {C = C} says log (Fork target) Done next → IsCopy log next)
+    × (Answers {C = C} says log (Fork target) Refused next → next ≡ log)

@@ -116,6 +116,11 @@ pub enum Event<B, C> {
     Serve(Call<B>),
     /// Closes the log, if an engine has it open.
     Close,
+    /// Copies the files of the log into a directory, if no engine has it open. If that succeeds, the log is the copy.
+    Fork {
+        /// The directory. It is made if it doesn't exist.
+        target: String,
+    },
     /// A fault of the file system is armed. It makes later calls fail.
     Arm {
         /// The fault.
@@ -145,6 +150,6 @@ pub enum Answer {
     Refused,
     /// It failed, and the engine has failed: before this event, or in it.
     Failed,
-    /// Nothing was done: the log wasn't open for a call or a close, or it was already open for an open.
+    /// Nothing was done: the log wasn't open for a call or a close, or it was already open for an open or a copy.
     Idle,
 }

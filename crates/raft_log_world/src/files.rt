@@ -95,6 +95,10 @@ pub trait LogFiles<R, S, B, C>: Sized {
     fn close(engine: S, rt: &R) -> (Answer, Self)
         ensures { Follows log (Storage.Open engine) Event.Close result.0 (Storage.Closed result.1) };
 
+    /// Copies the files into a directory. Returns how that ended, and the copy if it succeeded, or else the files.
+    fn fork(self, rt: &R, alloc: Global, target: String) -> (Answer, Self)
+        ensures { Follows log (Storage.Closed self) (Event.Fork target) result.0 (Storage.Closed result.1) };
+
     /// Arms a fault of the files. Returns how that ended.
     fn arm(&mut self, fault: &Fault) -> Answer
         ensures { Follows log (Storage.Closed self.old) (Event.Arm fault.now) result (Storage.Closed self.new) };

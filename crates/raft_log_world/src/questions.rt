@@ -1,5 +1,5 @@
 //! Questions of a user of a log, and the laws that answer them. A law is the contract of an empty function.
-ghost use Rattle.raft_log_world.specs.Questions.{BatchesAreWhole, FailedWritesLeaveNoTrace, PurgesKeepContents, SyncedBatchesAreKept};
+ghost use Rattle.raft_log_world.specs.Questions.{BatchesAreWhole, CopiesHoldTheLog, FailedWritesLeaveNoTrace, PurgesKeepContents, SyncedBatchesAreKept};
 
 /// Is a synced batch ever lost? No. Once a write with a sync, a sync, a purge or a close succeeds, all batches before
 /// it and its own are in the contents, whatever happens. Only batches that are written later change these contents.
@@ -23,4 +23,10 @@ pub fn failed_writes_leave_no_trace<B, C>()
 /// What does a purge keep? All contents, whether it succeeds or fails.
 pub fn purges_keep_contents<B, C>()
     ensures { PurgesKeepContents B C }
+{}
+
+/// What does a copy hold? All durable contents, and the first few of the batches that weren't synced. If a crash left
+/// the log, the same contents. All of the copy is durable. If the copying fails, the log is as before.
+pub fn copies_hold_the_log<B, C>()
+    ensures { CopiesHoldTheLog B C }
 {}

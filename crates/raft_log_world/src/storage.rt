@@ -69,6 +69,7 @@ impl<S: Drop, F: Drop> Storage<S, F> {
             Event::Open { workers } => Ok(self.open::<R, B, C>(rt, alloc, workers)),
             Event::Serve(call) => Ok(self.serve::<R, B, C>(rt, alloc, call)),
             Event::Close => Ok(self.close::<R, B, C>(rt)),
+            Event::Fork { target } => Ok(self.fork::<R, B, C>(rt, alloc, target)),
             Event::Arm { fault } => Ok(self.arm::<R, B, C>(&fault)),
             Event::Crash { left } => self.crash::<R, B, C>(&left),
         }
@@ -142,6 +143,27 @@ impl<S: Drop, F: Drop> Storage<S, F> {
                     storage: Storage::Closed(files),
                 }
             }
+        }
+    }
+
+    /// Copies the files into a directory, if no engine has the log open. If that succeeds, the log is the copy.
+    fn fork<R, B: Drop, C: Drop>(self, rt: &R, alloc: Global, target: String) -> Played<S, F>
+    where
+        F: LogFiles<R, S, B, C>,
+        ensures { Follows F.log self (Event.Fork target) result.answer result.storage }
+    {
+        match self {
+            Storage::Closed(files) => {
+                let (answer, files) = files.fork(rt, alloc, target);
+                Played {
+                    answer,
+                    storage: Storage::Closed(files),
+                }
+            }
+            Storage::Open(engine) => Played {
+                answer: Answer::Idle,
+                storage: Storage::Open(engine),
+            },
         }
     }
 

@@ -3,6 +3,7 @@ mod Calling
 mod Closing
 mod Crashing
 mod Following
+mod Forking
 mod Homes
 mod Opening
 mod Reading

@@ -56,7 +56,7 @@ module _ {F : Type 0} (disk : F → OnDisk) (tells : F → List ℕ → ℕ → 
     of_resting m (bare b empty) =
         subst (λ (x : LogMap). Represents (home_of config) (shows v tables cache) x []) (sym empty)
         (held nothing_stands ((bare_directories_open disk tells settings old (sound old) (bare_for config settings (disk old) (sym named) b)).answered v tables opens))
-    of_resting m (rests before image is) =
+    of_resting m (rests is) =
         held m ((resting_directories_open disk tells settings old m (sound old) (there (λ h. IsDurableAs (log_in h) (disk old) m) is)).answered v tables opens)
 
     of_left : (m : LogMap) (pending : List LogRecordValue) (is : IsRecoverableAs (home_of config) (disk old) m pending) → StandsWithoutChance (home_of config) is.1.lies.state (disk old)
@@ -75,7 +75,7 @@ module _ {F : Type 0} (disk : F → OnDisk) (tells : F → List ℕ → ℕ → 
 
     from_resting : (m : LogMap) → Rests config (disk old) m → Rests config (disk new) m ⊎ IsRecoverableAs (home_of config) (disk new) m []
     from_resting m (bare b empty) = bare_or_left m empty ((bare_directories_open disk tells settings old (sound old) (bare_for config settings (disk old) (sym named) b)).refused error new fails)
-    from_resting m (rests before image is) =
+    from_resting m (rests is) =
         inr (here (λ h. IsRecoverableAs h (disk new) m [])
         ((resting_directories_open disk tells settings old m (sound old) (there (λ h. IsDurableAs (log_in h) (disk old) m) is)).refused error new fails))
 

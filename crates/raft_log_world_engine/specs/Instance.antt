@@ -1,8 +1,7 @@
 -- An engine over a file system, and the files of a log, as a log of the model.
-use Rattle.std.specs.Prelude.{◌≡◌}
+use Rattle.std.specs.Prelude.{◌≡◌, ℕ, List}
 use Rattle.raft_log_machine_laws.specs.Fresh.{nothing_stands}
 use Rattle.raft_log_engine.specs.raft_log_fs.specs.Disk.{Disk as OnDisk}
-use Rattle.raft_log_engine.specs.raft_log_fs.specs.Image.{IsImage}
 use Rattle.raft_log_engine.specs.raft_log_file_settings.specs.declared.config.Config.{Config}
 use Rattle.raft_log_engine.specs.raft_log_dual_pipes.specs.OnDisk.{IsDurableAs}
 use Rattle.raft_log_engine.specs.raft_log_engine_core.specs.ModelCalls.{IsEngineLog}
@@ -11,6 +10,7 @@ use Rattle.raft_log_engine.specs.raft_log_engine_laws.specs.Holding.{IsRecoverab
 use Rattle.raft_log_engine.specs.raft_log_record_batches.specs.Batch.{Batch}
 use Rattle.raft_log_recovery_laws.specs.Bare.{IsBare}
 use Rattle.raft_log_recovery_laws.specs.ByCalls.{home_of}
+use Rattle.raft_log_recovery_laws.specs.ForkResting.{HoldsNoDirectory}
 use Rattle.raft_log_recovery_laws.specs.InPlace.{StandsWithoutChance}
 use Rattle.raft_log_recovery_laws.specs.Left.{IsCrashOf}
 use Rattle.raft_log_recovery_laws.specs.Running.{LeavesNoChance}
@@ -22,10 +22,10 @@ use Rattle.raft_log_world.specs.Model.ModelLog.{resting, left, running, failed}
 
 -- The files of a log on disk `d` are at rest, with the contents `m`:
 -- - `bare`: nothing was ever written, and there is no log yet.
--- - `rests`: a crash left them.
+-- - `rests`: all of the log is synced. A crash, or a copy, left it so.
 pub data Rests (config : Config) (d : OnDisk) (m : LogMap) : Type 0 where
   bare : IsBare config d → m ≡ nothing_stands → Rests config d m
-  rests : (before : OnDisk) → IsImage before d → IsDurableAs (log_in (home_of config)) d m → Rests config d m
+  rests : IsDurableAs (log_in (home_of config)) d m → Rests config d m
 
 -- the files on disk `d` are this log, in the directories that the settings name
 abbrev pub IsFilesLog : Config → OnDisk → ModelLog → Type 0
@@ -34,7 +34,8 @@ IsFilesLog config d (left m pending) = IsRecoverableAs (home_of config) d m pend
 IsFilesLog config d (running m pending) = ⊥
 IsFilesLog config d (failed m pending) = ⊥
 
--- an open reads the files as they are; it asks that these have no CRC collision, if no crash left them
+-- An open reads the files as they are, and so does a copy. Both ask that these have no CRC collision, if a close or a
+-- failed open left them.
 abbrev pub ReadSparesFiles : (config : Config) (d : OnDisk) (log : ModelLog) → IsFilesLog config d log → Type 0
 ReadSparesFiles config d (left m pending) is = StandsWithoutChance (home_of config) is.1.lies.state d
 ReadSparesFiles config d log is = Unit {0}
@@ -77,6 +78,11 @@ CrashSpares p (Closed closed) log is image = CrashSparesFiles (p.settings closed
 CrashSpares p (Open engine) log is image =
     CrashSparesEngine (home_of (p.config engine)) (p.shows engine) log is (p.disk image)
 
+-- a copy of a closed log may be made in this directory: no directory in it has the name of a log file
+abbrev pub MayHoldCopy : {S G : Type 0} → Parts S G → Storage S G → List ℕ → Type 0
+MayHoldCopy p (Closed closed) target = HoldsNoDirectory target (p.disk closed)
+MayHoldCopy p (Open engine) target = Unit {0}
+
 -- the engine as a log of the model
 abbrev pub engine_log : {S G C : Type 0} → Parts S G → LogOf S G Batch C
 engine_log p = record {
@@ -84,4 +90,5 @@ engine_log p = record {
   says = said_of;
   read_spared = ReadSpares p;
   crash_spared = λ at log is what files. CrashSpares p at log is files;
+  is_clear = MayHoldCopy p;
 }

@@ -1,9 +1,11 @@
 //! A log in a file system in memory: its files while no engine has it open, and an engine that has.
 
 ghost use Rattle.std.specs.Prelude.{◌≡◌, IfOk};
+ghost use Rattle.std.specs.String.{string_bytes};
 ghost use Rattle.raft_log_engine.specs.raft_log_engine_core.specs.Reads.{shows_of};
 ghost use Rattle.raft_log_engine.specs.raft_log_fs_memory.specs.Memory.{disk_of};
 ghost use Rattle.raft_log_recovery_laws.specs.ByCalls.{home_of};
+ghost use Rattle.raft_log_recovery_laws.specs.ForkResting.{NamesOnly};
 ghost use Rattle.raft_log_machine_laws.specs.Fresh.{nothing_stands};
 ghost use Rattle.raft_log_world.specs.Model.ModelLog.{resting};
 ghost use Rattle.raft_log_world_engine.specs.Instance.{engine_log, IsFilesLog};
@@ -14,7 +16,8 @@ use crate::ranges;
 use log::sink::Discard;
 use log::{LevelFilter, Log, Logged};
 use raft_log_engine::{
-    Closed, Config, Engine, EnginePipes, FileSystem, LogBatch, MemoryFileSystem, PipeLog, Remainder,
+    Closed, Config, Engine, EnginePipes, FileSystem, LogBatch, MemoryFileSystem, PipeLog,
+    Remainder, fork,
 };
 use raft_log_world::{Answer, Fault, LogFiles, Purge};
 use std::alloc::{AllocError, Global};
@@ -58,6 +61,15 @@ fn with_workers(config: &Config, workers: u64) -> Result<Config, AllocError>
     let mut settings = config.clone()?;
     settings.recovery_threads = workers as usize;
     Ok(settings)
+}
+
+/// Returns the settings for a log in this directory alone.
+fn in_directory(mut config: Config, directory: String) -> Config
+    ensures { NamesOnly result (string_bytes directory) }
+{
+    config.dir = directory;
+    config.spill_dir = None;
+    config
 }
 
 impl<R: Log> LogFiles<R, OpenLog, LogBatch, Remainder> for ClosedLog {
@@ -139,6 +151,17 @@ impl<R: Log> LogFiles<R, OpenLog, LogBatch, Remainder> for ClosedLog {
 
     fn purge(engine: &mut OpenLog, rt: &R, kind: Purge) -> Answer {
         calls::purge(rt, &mut engine.engine, kind)
+    }
+
+    fn fork(self, rt: &R, alloc: Global, target: String) -> (Answer, ClosedLog) {
+        let ClosedLog { config, mut files } = self;
+        match fork(rt, alloc, &config, &mut files, target.as_str()) {
+            Ok(_) => {
+                let config = in_directory(config, target);
+                (Answer::Done, ClosedLog { config, files })
+            }
+            Err(_) => (Answer::Refused, ClosedLog { config, files }),
+        }
     }
 
     fn arm(&mut self, fault: &Fault) -> Answer {

@@ -1,7 +1,7 @@
 //! The calls.
 use super::MemoryFileSystem;
 use super::reading::denies;
-use raft_log_fs::{Fault, FileSystem, Handle, Permission};
+use raft_log_fs::{Fault, FileSystem, Handle, Permission, Read, Receipt};
 use raft_log_fs_state::Node;
 use std::io::ErrorKind;
 
@@ -21,6 +21,8 @@ impl FileSystem for MemoryFileSystem {
     ghost disk = { disk_of };
 
     ghost tells_space = { λ system directory space. IsFree (armed system).spaces directory (disk_of system) space };
+
+    ghost tells_truth = { Unit {0} };
 
     ghost arms = { λ fault old new. armed new ≡ armed_with fault (armed old) };
 
@@ -221,14 +223,16 @@ impl FileSystem for MemoryFileSystem {
         Ok(self.free_in(directory))
     }
 
-    fn read_at(&self, handle: Handle, offset: usize, room: &mut [u8]) -> Result<usize, ErrorKind> {
+    fn read_at(&self, handle: Handle, offset: usize, room: &mut [u8]) -> Result<Read, ErrorKind> {
         self.check_handle(handle)?;
         let size = self.storage.size(handle.file);
         let count = room.len().min(size.saturating_sub(offset));
         if denies(&self.denied, handle.file, offset, count) {
             return Err(ErrorKind::Other);
         }
-        Ok(self.storage.read(handle.file, offset, room))
+        let count = self.storage.read(handle.file, offset, room);
+        let receipt = Receipt::none();
+        Ok(Read { count, receipt })
     }
 
     fn file_size(&self, handle: Handle) -> Result<usize, ErrorKind> {
@@ -288,4 +292,6 @@ impl FileSystem for MemoryFileSystem {
           fresh = storage.fresh;
           files = storage.files;
         } };
+
+    ghost truthful = { tt };
 }

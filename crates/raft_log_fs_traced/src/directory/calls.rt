@@ -3,7 +3,7 @@ use super::DirectoryFileSystem;
 use crate::device::Device;
 use crate::directory::checks::stopping;
 use crate::durable;
-use raft_log_fs::{Fault, FileSystem, Handle, Permission};
+use raft_log_fs::{Fault, FileSystem, Handle, Permission, Read, Receipt};
 use raft_log_fs_state::Node;
 use std::io::ErrorKind;
 
@@ -15,6 +15,8 @@ impl<D: Device> FileSystem for DirectoryFileSystem<D> {
     ghost disk = { disk_of D.Device };
 
     ghost tells_space = { TellsFree D.Device };
+
+    ghost tells_truth = { Unit {0} };
 
     ghost arms = { λ fault old new. new ≡ old };
 
@@ -138,9 +140,11 @@ impl<D: Device> FileSystem for DirectoryFileSystem<D> {
         Ok(self.free_in(directory))
     }
 
-    fn read_at(&self, handle: Handle, offset: usize, room: &mut [u8]) -> Result<usize, ErrorKind> {
+    fn read_at(&self, handle: Handle, offset: usize, room: &mut [u8]) -> Result<Read, ErrorKind> {
         self.check_handle(handle)?;
-        Ok(self.storage.read(handle.file, offset, room))
+        let count = self.storage.read(handle.file, offset, room);
+        let receipt = Receipt::none();
+        Ok(Read { count, receipt })
     }
 
     fn file_size(&self, handle: Handle) -> Result<usize, ErrorKind> {
@@ -165,4 +169,6 @@ impl<D: Device> FileSystem for DirectoryFileSystem<D> {
           fresh = kept.fresh;
           files = kept.files;
         } };
+
+    ghost truthful = { tt };
 }

@@ -9,10 +9,10 @@ pub returns : goal.returns
 returns g c =
     let d = g.F.FileSystem.disk c.args.files.now in
     let at = c.args.at in
-    let count = c.in_ok-count.count in
+    let count = c.in_ok-read.read.count in
     let before = c.args.room.now in
     let after = c.read_at.new.room in
-    let fills = c.in_ok-count.ensures.ok in
+    let fills = c.in_ok-read.ensures.ok.0 (c.in_ok-read.ensures.truth g.met.F.FileSystem.truthful) in
     let bytes = fills.file.content in
     let content = bytes_in (d.files c.args.handle.file) in
     let same : content ≡ bytes = ap bytes_in fills.is in

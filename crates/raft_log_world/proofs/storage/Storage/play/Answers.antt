@@ -16,6 +16,10 @@ pub returns-in-Close : goal.returns-in-Close
 returns-in-Close g c =
     subst (λ (event : Event g.row.B.Denot g.row.C.Denot). Follows g.F.LogFiles.log c.args.self event c.close.result.answer c.close.result.storage) (sym c.in-Close.is) c.close.ensures
 
+pub returns-in-Fork : goal.returns-in-Fork
+returns-in-Fork g c =
+    subst (λ (event : Event g.row.B.Denot g.row.C.Denot). Follows g.F.LogFiles.log c.args.self event c.fork.result.answer c.fork.result.storage) (sym c.in-Fork.is) c.fork.ensures
+
 pub returns-in-Arm : goal.returns-in-Arm
 returns-in-Arm g c =
     subst (λ (event : Event g.row.B.Denot g.row.C.Denot). Follows g.F.LogFiles.log c.args.self event c.arm.result.answer c.arm.result.storage) (sym c.in-Arm.is) c.arm.ensures

@@ -1,0 +1,3 @@
+mod Agreeing
+mod Events
+mod Saying

@@ -1,0 +1,3 @@
+pub mod Batches
+pub mod Playing
+pub mod Same

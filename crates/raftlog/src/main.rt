@@ -1,0 +1,61 @@
+//! Plays sessions on a log and judges the answers. Its file system in memory fails, stops and crashes as they say.
+//!
+//! It reads sessions from standard input; a line `---` parts two of them. For each it writes a line for the answer to
+//! each event, and `verdict yes` if a log that never crashes explains the answers, otherwise `verdict no`. For a text
+//! that is no session it writes what is wrong.
+//!
+//! The status is 0 if each verdict is yes, and otherwise 1. It is 3 if memory, reading or writing failed. The log's own
+//! messages are discarded.
+#![tactic(auto)]
+
+mod batches;
+mod events;
+mod playing;
+mod texts;
+
+use log::sink::Discard;
+use log::{LevelFilter, Log, Logged};
+use std::io;
+use std::io::{Input, Print, Read, Write};
+use std::process::ExitCode;
+use std::thread::Threads;
+use texts::{answer, split_session};
+
+/// The status if a verdict is no, or a text is no session.
+const REFUSED: u8 = 1;
+
+/// The status if memory ran out, or reading or writing failed.
+const FAULT: u8 = 3;
+
+/// Plays the sessions of standard input, and returns the status.
+fn play_all<R: Input + Print + Threads + Log + Sync + AllocGlobal>(rt: &R) -> io::Result<u8> {
+    let alloc = rt.alloc();
+    let quiet = Logged::new(rt, LevelFilter::Off, Discard);
+    let mut input = Vec::new(alloc);
+    rt.reader().read_to_end(&mut input)?;
+    let mut writer = io::writer(rt);
+    let mut status = 0;
+    let mut left = input.as_slice();
+    while let Some((text, rest)) = split_session(left) {
+        let (told, good) = answer(&quiet, alloc, text)?;
+        writer.write_all(told.as_bytes())?;
+        writer.write_all(b"---\n")?;
+        if !good {
+            status = REFUSED;
+        }
+        left = rest;
+    }
+    let (told, good) = answer(&quiet, alloc, left)?;
+    writer.write_all(told.as_bytes())?;
+    if !good {
+        status = REFUSED;
+    }
+    Ok(status)
+}
+
+fn main(rt: HostRuntime) -> ExitCode {
+    match play_all(&rt) {
+        Ok(status) => ExitCode::from(status),
+        Err(_) => ExitCode::from(FAULT),
+    }
+}

@@ -120,8 +120,8 @@ IsIdle opened (Arm fault) = ⊥
 -- - After an open the engine runs. What was pending is durable, or its last few batches are lost. If the open fails,
 --   the log is as before, or as the open would have found it.
 -- - A close that succeeds makes all batches durable. One that fails leaves them pending.
--- - A copy that succeeds is the log from then on. All of it is durable, but the last few pending batches may be missing.
---   One that fails leaves the log as before.
+-- - A copy that succeeds is the log from then on. All of it is durable, but the last few pending batches may be
+--   missing. One that fails leaves the log as before.
 -- - A crash may lose the last few pending batches, and nothing else.
 -- - An engine that has failed fails each call, and a close, and changes nothing.
 -- - A fault that is armed changes nothing. Later events may fail.

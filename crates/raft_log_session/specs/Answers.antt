@@ -1,10 +1,11 @@
 -- The text of answers and of verdicts: a line each.
 use Rattle.std.specs.Prelude.{◌≡◌, ℕ, Bool, true, false, List, [], ◌∷◌, ◌++◌, Option, Some, None, codes, map, string_bytes, String}
+use Rattle.std.specs.Fmt.{decimal}
 use Rattle.std.specs.declared.alloc.Global.{Global}
 use Rattle.std.specs.List.{flat_map}
 use Rattle.hex.specs.Hex.{encode_lower}
 use Rattle.raft_log_world.specs.declared.event.Answer.{Answer}
-use Rattle.raft_log_world.specs.declared.event.Answer.TheVariants.{Done, Found, Entries, Keys, Refused, Failed, Idle}
+use Rattle.raft_log_world.specs.declared.event.Answer.TheVariants.{Done, Found, At, Entries, Keys, Refused, Failed, Idle}
 use Rattle.raft_log_world.specs.Reads.{all_bytes, bytes_of, pairs_of}
 
 -- the bytes `more` were appended to the string
@@ -38,10 +39,16 @@ abbrev pub found_text : Option (List ℕ) → List ℕ
 found_text None = codes "none"
 found_text (Some bytes) = bytes_text bytes
 
+-- an index in decimal, or `none`
+abbrev pub index_text : Option ℕ → List ℕ
+index_text None = codes "none"
+index_text (Some index) = decimal index
+
 -- the text of an answer
 abbrev pub answer_text : Answer → List ℕ
 answer_text Done = codes "ok"
 answer_text (Found found) = found_text (bytes_of found)
+answer_text (At index) = index_text index
 answer_text (Entries entries) = list_text (map bytes_text (all_bytes entries.items))
 answer_text (Keys pairs) = list_text (map pair_text (pairs_of pairs.items))
 answer_text Refused = codes "refused"

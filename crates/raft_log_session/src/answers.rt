@@ -1,7 +1,7 @@
 //! Answers and verdicts as lines.
 ghost use Rattle.std.specs.Prelude.{◌≡◌, IfOk, OnOk, drop, length, map, string_bytes};
 ghost use Rattle.raft_log_world.specs.Reads.{all_bytes, bytes_of, pairs_of};
-ghost use Rattle.raft_log_session.specs.Answers.{after_commas, answer_line, answer_text, bytes_text, found_text, Gains, list_text, pair_text, verdict_line};
+ghost use Rattle.raft_log_session.specs.Answers.{after_commas, answer_line, answer_text, bytes_text, found_text, Gains, index_text, list_text, pair_text, verdict_line};
 
 use raft_log_world::Answer;
 use std::alloc::AllocError;
@@ -32,6 +32,7 @@ fn write_text(text: &mut String, answer: &Answer) -> Result<(), AllocError>
     match answer {
         Answer::Done => text.push_str("ok"),
         Answer::Found(found) => write_found(text, found),
+        Answer::At(index) => write_index(text, index),
         Answer::Entries(entries) => write_entries(text, entries.as_slice()),
         Answer::Keys(pairs) => write_pairs(text, pairs.as_slice()),
         Answer::Refused => text.push_str("refused"),
@@ -46,6 +47,16 @@ fn write_found(text: &mut String, found: &Option<Vec<u8>>) -> Result<(), AllocEr
 {
     match found {
         Some(bytes) => write_bytes(text, bytes.as_slice()),
+        None => text.push_str("none"),
+    }
+}
+
+/// Appends an index in decimal, or `none`.
+fn write_index(text: &mut String, index: &Option<u64>) -> Result<(), AllocError>
+    ensures { OnOk result (Gains text.old text.new (index_text index.now)) }
+{
+    match index {
+        Some(index) => write!(text, "{index}"),
         None => text.push_str("none"),
     }
 }

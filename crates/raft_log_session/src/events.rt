@@ -12,6 +12,7 @@ pub fn read_event(word: &str, words: &mut Words<'_>) -> Result<Option<SessionEve
     let event = match word {
         "open" => read_open(words)?,
         "close" => Event::Close,
+        "fork" => read_fork(words)?,
         "refuse" => read_refuse(words)?,
         "stop" => read_stop(words)?,
         "crash" => Event::Crash {
@@ -34,6 +35,19 @@ fn read_open(words: &mut Words<'_>) -> Result<SessionEvent, Unread> {
     Ok(Event::Open { workers })
 }
 
+/// `fork target=NAME`: a copy into a directory. Its name is one word, and not empty.
+fn read_fork(words: &mut Words<'_>) -> Result<SessionEvent, Unread> {
+    let word = words.word(b" target=")?;
+    if word.is_empty() {
+        return Err(Unread::Form);
+    }
+    let Ok(name) = std::str::from_utf8(word) else {
+        return Err(Unread::Form);
+    };
+    let target = String::from_str(words.alloc, name)?;
+    Ok(Event::Fork { target })
+}
+
 /// `refuse call=N [part=N]`: the call of this number fails, and a write writes so many bytes first.
 fn read_refuse(words: &mut Words<'_>) -> Result<SessionEvent, Unread> {
     let call = words.number(b" call=")?;
@@ -52,8 +66,7 @@ fn read_stop(words: &mut Words<'_>) -> Result<SessionEvent, Unread> {
     })
 }
 
-/// Returns the call of a line; `None` if no call has this word. (Calls that read the first and the last index of a
-/// group would be here.)
+/// Returns the call of a line; `None` if no call has this word.
 fn read_call(word: &str, words: &mut Words<'_>) -> Result<Option<Call<Batch>>, Unread> {
     let call = match word {
         "sync" => Call::Sync,
@@ -64,6 +77,12 @@ fn read_call(word: &str, words: &mut Words<'_>) -> Result<Option<Call<Batch>>, U
         "entry" => Call::GetEntry {
             group: words.number(b" group=")?,
             index: words.number(b" index=")?,
+        },
+        "first-index" => Call::FirstIndex {
+            group: words.number(b" group=")?,
+        },
+        "last-index" => Call::LastIndex {
+            group: words.number(b" group=")?,
         },
         "fetch" => read_fetch(words)?,
         "scan" => Call::Scan {

@@ -1,7 +1,7 @@
 //! The form of each line, for the error of a line that has another one.
 
 /// The first word of each line, and the line's form.
-const FORMS: [(&str, &str); 22] = [
+const FORMS: [(&str, &str); 25] = [
     ("settings", "settings KEY=VALUE .., before all other lines"),
     (
         "append",
@@ -20,9 +20,12 @@ const FORMS: [(&str, &str); 22] = [
     ("write", "write [sync]"),
     ("open", "open workers=N, at least one"),
     ("close", "close"),
+    ("fork", "fork target=NAME, in one word"),
     ("sync", "sync"),
     ("get", "get group=N key=BYTES"),
     ("entry", "entry group=N index=N"),
+    ("first-index", "first-index group=N"),
+    ("last-index", "last-index group=N"),
     ("fetch", "fetch group=N from=N below=N [size=N]"),
     ("scan", "scan group=N [from=BYTES] [below=BYTES]"),
     ("compact-to", "compact-to group=N index=N"),

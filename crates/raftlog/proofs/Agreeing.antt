@@ -1,7 +1,8 @@
 -- What explains the engine's events explains the same events with lists of changes.
 use Rattle.std.proofs.Common.{◌≡◌, ℕ, Bool, true, List, [], ◌∷◌, Option, subst}
 use Rattle.std.specs.Prelude.{◌↔◌, IsTrue, option_map}
-use Rattle.std.specs.Global.{Vec}
+use Rattle.std.specs.Global.{Global, Vec}
+use Rattle.std.specs.declared.string.String.{String}
 use Rattle.raft_log_fs_state.specs.declared.remainder.Remainder.{Remainder}
 use Rattle.raft_log_machine_laws.specs.Fresh.{nothing_stands}
 use Rattle.raft_log_model_laws.specs.Groups.{taken}
@@ -10,11 +11,11 @@ use Rattle.raft_log_model_laws.specs.Meaning.Content.{Entry, Value}
 use Rattle.raft_log_record_batches.specs.Batch.{Batch}
 use Rattle.raft_log_engine.specs.raft_log_engine_laws.specs.EngineState.{said_of}
 use Rattle.raft_log_world.specs.declared.event.Answer.{Answer}
-use Rattle.raft_log_world.specs.declared.event.Answer.TheVariants.{Done, Found, Entries, Keys, Refused, Failed, Idle}
+use Rattle.raft_log_world.specs.declared.event.Answer.TheVariants.{Done, Found, At, Entries, Keys, Refused, Failed, Idle}
 use Rattle.raft_log_world.specs.declared.event.Call.{Call}
-use Rattle.raft_log_world.specs.declared.event.Call.TheVariants.{Write, Sync, Get, GetEntry, Fetch, Scan, Compact, Purge}
+use Rattle.raft_log_world.specs.declared.event.Call.TheVariants.{Write, Sync, Get, GetEntry, FirstIndex, LastIndex, Fetch, Scan, Compact, Purge}
 use Rattle.raft_log_world.specs.declared.event.Event.{Event}
-use Rattle.raft_log_world.specs.declared.event.Event.TheVariants.{Open, Serve, Close, Crash, Arm}
+use Rattle.raft_log_world.specs.declared.event.Event.TheVariants.{Open, Serve, Close, Fork, Crash, Arm}
 use Rattle.raft_log_world.specs.declared.report.LogReport.{LogReport}
 use Rattle.raft_log_world.specs.declared.storage.Storage.TheVariants.{Closed}
 use Rattle.raft_log_world.specs.Explained.{AllExplained, Explains, NoneCollides}
@@ -22,7 +23,7 @@ use Rattle.raft_log_world.specs.Logs.{LogOf, Stands}
 use Rattle.raft_log_world.specs.Model.{Adds, Answers, BatchRecord, Compacts, FailsAt, ModelLog, Serves, compacts}
 use Rattle.raft_log_world.specs.Model.ModelLog.{resting, left, running, failed}
 use Rattle.raft_log_world.specs.Run.{IsLogRun}
-use Rattle.raft_log_world.specs.Reads.{Contents, Fetches, Scans, all_bytes, bytes_of, pairs_of}
+use Rattle.raft_log_world.specs.Reads.{Contents, Fetches, IsFirstIndex, IsLastIndex, Scans, all_bytes, bytes_of, pairs_of}
 use Rattle.raft_log_judge.specs.declared.change.Change.{Change}
 use Rattle.raft_log_judge.specs.Changes.{says_of}
 use Rattle.raft_log_judge.specs.Judging.{IsExplained}
@@ -53,6 +54,14 @@ module _ (m : Contents) (pending : List BatchRecord) (next : ModelLog) where
   entry group g index i (Found value) same at x =
       (subst (λ (j : ℕ). taken m pending group (Index j) ≡ option_map Entry (bytes_of value)) at (subst (λ (n : ℕ). taken m pending n (Index i) ≡ option_map Entry (bytes_of value)) same x.0), x.1)
   entry group g index i _ same at x = x
+
+  first : (group g : ℕ) (a : Answer) → g ≡ group → Serves said_of m pending (FirstIndex g) a next → Serves says_of m pending (FirstIndex group) a next
+  first group g (At index) same x = (subst (λ (n : ℕ). IsFirstIndex (taken m pending) n index) same x.0, x.1)
+  first group g _ same x = x
+
+  last : (group g : ℕ) (a : Answer) → g ≡ group → Serves said_of m pending (LastIndex g) a next → Serves says_of m pending (LastIndex group) a next
+  last group g (At index) same x = (subst (λ (n : ℕ). IsLastIndex (taken m pending) n index) same x.0, x.1)
+  last group g _ same x = x
 
   fetch : (group g begin b end e : ℕ) (max n : Option ℕ) (a : Answer) → g ≡ group → b ≡ begin → e ≡ end → n ≡ max
       → Serves said_of m pending (Fetch g b e n) a next → Serves says_of m pending (Fetch group begin end max) a next
@@ -88,6 +97,8 @@ module _ (m : Contents) (pending : List BatchRecord) (next : ModelLog) where
   call_same Sync Sync a same x = sync a x
   call_same (Get group key) (Get g k) a same x = get group g key k a same.0 same.1 x
   call_same (GetEntry group index) (GetEntry g i) a same x = entry group g index i a same.0 same.1 x
+  call_same (FirstIndex group) (FirstIndex g) a same x = first group g a same x
+  call_same (LastIndex group) (LastIndex g) a same x = last group g a same x
   call_same (Fetch group begin end max) (Fetch g b e n) a same x = fetch group g begin b end e max n a same.0 same.1 same.2 same.3 x
   call_same (Scan group start end) (Scan g s e) a same x = scan group g start s end e a same.0 same.1 same.2 x
   call_same (Compact group index) (Compact g i) a same x = compact group g index i a same.0 same.1 x
@@ -127,6 +138,16 @@ close_same (running m pending) next _ x = x
 close_same (failed m pending) next Done x = x
 close_same (failed m pending) next _ x = x
 
+fork_same : (log next : ModelLog) (target t : String Global) (a : Answer) → Answers {C = Remainder} said_of log (Fork t) a next → Answers {C = Remainder} says_of log (Fork target) a next
+fork_same (resting m) next target t Done x = x
+fork_same (resting m) next target t _ x = x
+fork_same (left m pending) next target t Done x = x
+fork_same (left m pending) next target t _ x = x
+fork_same (running m pending) next target t Done x = x
+fork_same (running m pending) next target t _ x = x
+fork_same (failed m pending) next target t Done x = x
+fork_same (failed m pending) next target t _ x = x
+
 crash_same : (log next : ModelLog) (what other : Remainder) (a : Answer) → Answers said_of log (Crash other) a next → Answers says_of log (Crash what) a next
 crash_same (resting m) next what other Done x = x
 crash_same (resting m) next what other _ x = x
@@ -141,6 +162,7 @@ event_same : (log next : ModelLog) (event : Event (List Change) Remainder) (e : 
 event_same log next (Open workers) (Open w) a same x = open_same log next workers w a x
 event_same log next (Serve call) (Serve c) a same x = serve_same log next call c a same x
 event_same log next Close Close a same x = close_same log next a x
+event_same log next (Fork target) (Fork t) a same x = fork_same log next target t a x
 event_same log next (Crash what) (Crash other) a same x = crash_same log next what other a x
 event_same (resting m) next (Arm fault) (Arm f) Done same x = x
 event_same (resting m) next (Arm fault) (Arm f) _ same x = x

@@ -1,3 +1,4 @@
 mod Agreeing
-mod Events
+mod Marks
 mod Saying
+mod Sequences

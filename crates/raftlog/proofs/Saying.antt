@@ -17,7 +17,6 @@ use Rattle.raft_log_record_frames.specs.declared.marking.Marking.{Marking}
 use Rattle.raft_log_record_frames.specs.ItemBatch.{all_entries, content_entries}
 use Rattle.raft_log_record_frames.specs.Marking.{has_mark_key, marking_of_items}
 use Rattle.raft_log_record_frames.specs.Meaning.{IsUsers, marked, meaning, tagged as tagged_by, tagged_items, unless_mark}
-use Rattle.raft_log_record_frames.proofs.Meanings.{keeps_mark, no_mark_key}
 use Rattle.raft_log_record_batches.specs.Batch.{AddsItem, Batch, empty_batch}
 use Rattle.raft_log_record_batches.specs.Entries.{entries_item, entries_of}
 use Rattle.raft_log_record_batches.specs.EntriesFrom.{AddsFrom, indexes_at}
@@ -27,6 +26,7 @@ use Rattle.raft_log_judge.specs.declared.change.Change.{Change}
 use Rattle.raft_log_judge.specs.declared.change.ChangeKind.TheVariants.{Entries}
 use Rattle.raft_log_judge.specs.Changes.{says_of, tagged}
 use Rattle.raftlog.specs.Batches.{AddsChange, HasChanges}
+use Rattle.raftlog.proofs.Marks.{no_mark_key, stays_plain}
 
 -- Items.
 
@@ -93,7 +93,7 @@ one_more old new item change changes own items state stays means has =
     let f : EntryIndex → List ℕ = entry_bytes new.entries in
     record {
       filling = state ∙ has.filling;
-      plain = ap marking_of_items items ∙ keeps_mark old.items item own ∙ has.plain;
+      plain = ap marking_of_items items ∙ stays_plain old.items item own has.plain;
       says =
           ap (tagged_items f) items ∙ tagged_users f old.items item own
           ∙ ap (λ (l : List (Tagged (List ℕ) (List ℕ))). l ++ tagged_by f item ∷ []) (stays ∙ has.says)

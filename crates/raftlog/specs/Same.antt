@@ -1,12 +1,13 @@
 -- Events with the engine's batches that are the same as events with lists of changes.
 use Rattle.std.specs.Prelude.{◌≡◌, ℕ, List, [], ◌∷◌}
+use Rattle.std.specs.String.{string_bytes}
 use Rattle.raft_log_fs_state.specs.declared.remainder.Remainder.{Remainder}
 use Rattle.raft_log_record_batches.specs.Batch.{Batch}
 use Rattle.raft_log_engine.specs.raft_log_engine_laws.specs.EngineState.{said_of}
 use Rattle.raft_log_world.specs.declared.event.Call.{Call}
-use Rattle.raft_log_world.specs.declared.event.Call.TheVariants.{Write, Sync, Get, GetEntry, Fetch, Scan, Compact, Purge}
+use Rattle.raft_log_world.specs.declared.event.Call.TheVariants.{Write, Sync, Get, GetEntry, FirstIndex, LastIndex, Fetch, Scan, Compact, Purge}
 use Rattle.raft_log_world.specs.declared.event.Event.{Event}
-use Rattle.raft_log_world.specs.declared.event.Event.TheVariants.{Open, Serve, Close, Crash, Arm}
+use Rattle.raft_log_world.specs.declared.event.Event.TheVariants.{Open, Serve, Close, Fork, Crash, Arm}
 use Rattle.raft_log_world.specs.Reads.{bytes_of}
 use Rattle.raft_log_judge.specs.declared.change.Change.{Change}
 use Rattle.raft_log_judge.specs.Changes.{says_of}
@@ -17,6 +18,8 @@ SameCall (Write changes sync) (Write batch flag) = (said_of batch ≡ says_of ch
 SameCall Sync Sync = Unit {0}
 SameCall (Get group key) (Get g k) = (g ≡ group) × (k.items ≡ key.items)
 SameCall (GetEntry group index) (GetEntry g i) = (g ≡ group) × (i ≡ index)
+SameCall (FirstIndex group) (FirstIndex g) = g ≡ group
+SameCall (LastIndex group) (LastIndex g) = g ≡ group
 SameCall (Fetch group begin end max) (Fetch g b e m) = (g ≡ group) × (b ≡ begin) × (e ≡ end) × (m ≡ max)
 SameCall (Scan group start end) (Scan g s e) = (g ≡ group) × (bytes_of s ≡ bytes_of start) × (bytes_of e ≡ bytes_of end)
 SameCall (Compact group index) (Compact g i) = (g ≡ group) × (i ≡ index)
@@ -28,6 +31,7 @@ abbrev pub SameEvent : Event (List Change) Remainder → Event Batch Remainder �
 SameEvent (Open workers) (Open w) = w ≡ workers
 SameEvent (Serve call) (Serve c) = SameCall call c
 SameEvent Close Close = Unit {0}
+SameEvent (Fork target) (Fork t) = string_bytes t ≡ string_bytes target
 SameEvent (Arm fault) (Arm f) = f ≡ fault
 SameEvent (Crash left) (Crash l) = Unit {0}
 SameEvent _ _ = ⊥

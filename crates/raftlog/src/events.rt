@@ -34,6 +34,9 @@ fn engine_event(alloc: Global, event: &SessionEvent) -> Result<EngineEvent>
         Event::Open { workers } => Ok(Event::Open { workers: *workers }),
         Event::Serve(call) => Ok(Event::Serve(engine_call(alloc, call)?)),
         Event::Close => Ok(Event::Close),
+        Event::Fork { target } => Ok(Event::Fork {
+            target: target.clone()?,
+        }),
         Event::Arm { fault } => Ok(Event::Arm {
             fault: copied_fault(fault),
         }),
@@ -61,6 +64,8 @@ fn engine_call(alloc: Global, call: &Call<Batch>) -> Result<Call<LogBatch>>
             group: *group,
             index: *index,
         }),
+        Call::FirstIndex { group } => Ok(Call::FirstIndex { group: *group }),
+        Call::LastIndex { group } => Ok(Call::LastIndex { group: *group }),
         Call::Fetch {
             group,
             begin,

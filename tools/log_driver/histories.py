@@ -23,13 +23,13 @@ def settings(random):
     if random.random() < 0.5:
         words.append(f"purge-rewrite-threshold={random.choice([1, target, 2 * target])}")
         words.append(f"purge-rewrite-garbage-ratio={random.choice([0, 100, 600])}")
-    if random.random() < 0.3:
+    if random.random() < 0.5:
         words.append("enable-log-recycle=false")
         if random.random() < 0.3:
             words.append("format-version=1")
     elif random.random() < 0.2:
         words.append("prefill-for-recycle=true")
-    if random.random() < 0.3:
+    if random.random() < 0.2:
         words.append(f"recovery-mode={random.choice(['absolute-consistency', 'tolerate-any-corruption'])}")
     return [" ".join(words)]
 
@@ -81,6 +81,7 @@ class History:
         self.is_open = False
         self.unsynced = 0
         self.is_armed = False
+        self.targets = ["log"]
 
     def group(self):
         """One of the groups: its number and what it has."""
@@ -155,8 +156,10 @@ class History:
         """A read."""
         number, group = self.group()
         kind = self.random.random()
-        if kind < 0.3:
+        if kind < 0.25:
             return f"get group={number} key={self.random.choice(KEYS)}"
+        if kind < 0.4:
+            return f"{self.random.choice(['first-index', 'last-index'])} group={number}"
         if kind < 0.6:
             return f"entry group={number} index={self.random.randint(0, group.last + 2)}"
         if kind < 0.8:
@@ -172,7 +175,8 @@ class History:
         """Reads of most of the log."""
         lines = []
         for number, group in self.groups.items():
-            lines += [f"scan group={number}", f"fetch group={number} from={group.first} below={group.last + 1}"]
+            lines += [f"scan group={number}", f"first-index group={number}", f"last-index group={number}"]
+            lines += [f"fetch group={number} from={group.first} below={group.last + 1}"]
             lines += [f"entry group={number} index={index}" for index in range(max(group.last - 2, 0), group.last + 2)]
         return lines
 
@@ -188,6 +192,13 @@ class History:
         """An open, and reads of most of what it finds."""
         was_open, self.is_open = self.is_open, True
         return [f"open workers={self.random.randint(1, 4)}"] + ([] if was_open else self.everything())
+
+    def fork(self):
+        """A copy, seldom into a directory that may have files of a log."""
+        if self.random.random() < 0.15:
+            return [f"fork target={self.random.choice(self.targets)}"]
+        self.targets.append(f"copy-{len(self.targets)}")
+        return [f"fork target={self.targets[-1]}"]
 
     def crash(self):
         """A crash."""
@@ -221,8 +232,8 @@ class History:
 
     def event(self, faults):
         """The lines of an event; faults are so much likelier than usual."""
-        kinds = ["write", "read", "sync", "compact", "purge", "open", "close", "crash", "arm"]
-        weights = [40, 15, 4, 4, 10, 2, 3, 4, 8 * faults]
+        kinds = ["write", "read", "sync", "compact", "purge", "open", "close", "fork", "crash", "arm"]
+        weights = [40, 15, 4, 4, 10, 2, 3, 1, 4, 8 * faults]
         kind = self.random.choices(kinds, weights)[0]
         if kind == "read":
             return [self.read()]
@@ -240,10 +251,13 @@ class History:
             lines += self.event(faults)
             if self.is_armed and self.random.random() < 0.15:
                 lines += self.random.choice([self.crash, self.close])()
+            if not self.is_open and self.random.random() < 0.3:
+                lines += self.fork()
             if not self.is_open and self.random.random() < 0.8:
                 lines += self.open()
         lines += self.everything() if self.random.random() < 0.5 else []
         lines += self.random.choice([self.crash, self.crash, self.close])()
+        lines += self.fork() if self.random.random() < 0.3 else []
         return lines + self.open()
 
 

@@ -18,12 +18,10 @@ use Rattle.raft_log_engine.specs.raft_log_engine_laws.specs.Holding.{Represents,
 use Rattle.raft_log_recovery_laws.specs.Bare.{IsBare}
 use Rattle.raft_log_recovery_laws.specs.ByCalls.{home_of}
 use Rattle.raft_log_recovery_laws.specs.Keeping.{KeepsBothQueues, KeepsNumbered}
-use Rattle.raft_log_recovery_laws.specs.Left.{IsCrashOf}
-use Rattle.raft_log_recovery_laws.specs.Running.{LeavesNoChance}
+use Rattle.raft_log_recovery_laws.specs.Left.{CrashedLogsRest, IsCrashOf}
+use Rattle.raft_log_recovery_laws.specs.Running.{CrashedEnginesOpen, LeavesNoChance}
 use Rattle.raft_log_recovery_laws.proofs.ByCalls.{two_queues}
 use Rattle.raft_log_recovery_laws.proofs.Keeping.{kept_logs_stay}
-use Rattle.raft_log_recovery_laws.proofs.Left.{crashed_logs_rest}
-use Rattle.raft_log_recovery_laws.proofs.Running.{crashed_engines_open}
 use Rattle.raft_log_world.specs.Model.{LosesSome}
 use Rattle.raft_log_world_engine.specs.Instance.{Rests}
 use Rattle.raft_log_world_engine.specs.Instance.Rests.{bare, rests}
@@ -97,15 +95,15 @@ resting_crash config d image m is (rests h) = rests (durable_crash config d imag
 
 -- A crash of what an engine left, or of a running one.
 
-pub left_crash : (config : Config) (d image : OnDisk) (m : LogMap) (pending : List LogRecordValue) → IsImage d image → (is : IsRecoverableAs (home_of config) d m pending) → IsCrashOf (home_of config) is.1.lies.state d image
+pub left_crash : CrashedLogsRest → (config : Config) (d image : OnDisk) (m : LogMap) (pending : List LogRecordValue) → IsImage d image → (is : IsRecoverableAs (home_of config) d m pending) → IsCrashOf (home_of config) is.1.lies.state d image
     → (now : LogMap) × LosesSome m pending now × Rests config image now
-left_crash config d image m pending image_is is chance =
-    let (k, within, at) = crashed_logs_rest (home_of config) (some_append config) (some_rewrite config) d image m pending is chance in
+left_crash crashed config d image m pending image_is is chance =
+    let (k, within, at) = crashed (home_of config) (some_append config) (some_rewrite config) d image m pending is chance in
     (taken m (take k pending), (k, within, refl), rests at)
 
-module _ {F : Type 0} (disk : F → OnDisk) (tells : F → List ℕ → ℕ → Type 0) (sound : (system : F) → IsSound (disk system)) (config : Config) where
+module _ {F : Type 0} (disk : F → OnDisk) (tells : F → List ℕ → ℕ → Type 0) (sound : (system : F) → IsSound (disk system)) (crashed : CrashedEnginesOpen disk tells) (config : Config) where
   pub running_crash : (e : EngineState) (next : F) (m : LogMap) (pending : List LogRecordValue) → IsImage e.pipes.disk (disk next) → Represents (home_of config) e m pending → LeavesNoChance (home_of config) e.pipes (disk next)
       → (now : LogMap) × LosesSome m pending now × Rests config (disk next) now
   running_crash e next m pending is h chance =
-      let (k, within, at, opens) = crashed_engines_open disk tells (home_of config) e m pending h next (sound next) is chance in
+      let (k, within, at, opens) = crashed (home_of config) e m pending h next (sound next) is chance in
       (taken m (take k pending), (k, within, refl), rests at)

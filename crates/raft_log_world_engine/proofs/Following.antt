@@ -1,5 +1,8 @@
 -- Each call of the instance as an event of the model log.
-use Rattle.std.proofs.Common.{◌≡◌, ℕ, true, false, List, [], inl, inr, refl, sym, ap, subst, ◌∙◌}
+use Rattle.std.proofs.Common.{◌≡◌, true, false, List, [], refl, sym, ap, subst, ◌∙◌}
+use Rattle.std.specs.Global.{Global}
+use Rattle.std.specs.String.{string_bytes}
+use Rattle.std.specs.declared.string.String.{String}
 use Rattle.raft_log_engine.specs.raft_log_model_laws.specs.Groups.{taken}
 use Rattle.raft_log_engine.specs.raft_log_fs.specs.Disk.{Disk as OnDisk}
 use Rattle.raft_log_engine.specs.raft_log_fs.specs.Image.{IsImage}
@@ -10,20 +13,20 @@ use Rattle.raft_log_engine.specs.raft_log_engine_laws.specs.EngineState.{LogDire
 use Rattle.raft_log_engine.specs.raft_log_engine_laws.specs.Holding.{Represents, IsRecoverableAs}
 use Rattle.raft_log_engine.specs.raft_log_record_batches.specs.Batch.{Batch}
 use Rattle.raft_log_recovery_laws.specs.ByCalls.{home_of}
-use Rattle.raft_log_recovery_laws.specs.Running.{LeavesNoChance}
+use Rattle.raft_log_recovery_laws.specs.ForkResting.{HoldsNoDirectory}
 use Rattle.raft_log_world.specs.declared.event.Answer.{Answer}
 use Rattle.raft_log_world.specs.declared.event.Answer.TheVariants.{Done, Refused}
 use Rattle.raft_log_world.specs.declared.event.Call.{Call}
-use Rattle.raft_log_world.specs.declared.event.Event.TheVariants.{Open as OpenEvent, Serve, Close, Crash}
+use Rattle.raft_log_world.specs.declared.event.Event.{Event}
+use Rattle.raft_log_world.specs.declared.event.Event.TheVariants.{Serve, Close, Fork, Crash}
 use Rattle.raft_log_world.specs.Logs.{IfLeft, UnlessResting}
-use Rattle.raft_log_world.specs.Model.{Answers, LosesSome, ModelLog, is_open}
+use Rattle.raft_log_world.specs.Model.{Answers, ModelLog, is_open}
 use Rattle.raft_log_world.specs.Model.ModelLog.{resting, left, running, failed}
 use Rattle.raft_log_world_engine.specs.Calls.{ServesAs, failure_of}
-use Rattle.raft_log_world_engine.specs.Instance.{CrashSparesEngine, CrashSparesFiles, IsFilesLog, ReadSparesFiles, Rests}
+use Rattle.raft_log_world_engine.specs.AnyFiles.{EngineCrashesFollowTheModel, FileCrashesFollowTheModel, FollowsFiles}
+use Rattle.raft_log_world_engine.specs.Instance.{CrashSparesEngine, CrashSparesFiles, IsFilesLog, ReadSparesFiles}
 use Rattle.raft_log_world_engine.proofs.Closing.{IsClosed}
-use Rattle.raft_log_world_engine.proofs.Crashing.{left_crash, resting_crash}
 use Rattle.raft_log_world_engine.proofs.Homes.{alive}
-use Rattle.raft_log_world_engine.proofs.Opening.{IsOpened, IsUnopened}
 
 -- an engine that had failed is the same log after a call
 on_failed : (s t : EngineState) (call : Call Batch) (answer : Answer) (home : LogDirectories) (m : LogMap) (pending : List LogRecordValue) → ServesAs s call answer t → IsEngineLog home s (failed m pending) → IsEngineLog home t (failed m pending)
@@ -35,29 +38,34 @@ is_opened home e (failed m pending) is = refl
 is_opened home e (resting m) is = absurd is
 is_opened home e (left m pending) is = absurd is
 
--- An open that succeeded.
-pub open_done : (C : Type 0) (config : Config) (d : OnDisk) (e : EngineState) (workers : ℕ) → IsOpened config d e → (log : ModelLog) (known : (is_open log ≡ false) × IsFilesLog config d log) → IfLeft log (ReadSparesFiles config d log known.1)
-    → (next : ModelLog) × Answers {C = C} said_of log (OpenEvent workers) Done next × ((is_open next ≡ true) × IsEngineLog (home_of config) e next)
-open_done C config d e workers is (resting m) known asks = (running m [], refl, (refl, is.resting_log m known.1))
-open_done C config d e workers is (left m pending) known asks =
-    let (now, loses, h) = is.left_log m pending known.1 asks in
-    (running now [], (now, loses, refl), (refl, h))
-open_done C config d e workers is (running m pending) known asks = absurd known.1
-open_done C config d e workers is (failed m pending) known asks = absurd known.1
+-- the files of a log are one that no engine has open
+is_shut : (config : Config) (d : OnDisk) (log : ModelLog) → IsFilesLog config d log → is_open log ≡ false
+is_shut config d (resting m) is = refl
+is_shut config d (left m pending) is = refl
+is_shut config d (running m pending) is = absurd is
+is_shut config d (failed m pending) is = absurd is
 
--- One that failed.
-pub open_refused : (C : Type 0) (config : Config) (d new : OnDisk) (workers : ℕ) → IsUnopened config d new → (log : ModelLog) (known : (is_open log ≡ false) × IsFilesLog config d log) → IfLeft log (ReadSparesFiles config d log known.1)
-    → (next : ModelLog) × Answers {C = C} said_of log (OpenEvent workers) Refused next × ((is_open next ≡ false) × IsFilesLog config new next)
-open_refused C config d new workers is (resting m) known asks = elim (is.resting_log m known.1) [
-  | inl stay ↦ (resting m, inl refl, (refl, stay))
-  | inr was ↦ (left m [], inr refl, (refl, was))
-]
-open_refused C config d new workers is (left m pending) known asks = elim (is.left_log m pending known.1 asks) [
-  | inl was ↦ (left m pending, inl refl, (refl, was))
-  | inr found ↦ (left found.0 [], inr (found.0, found.1, refl), (refl, found.2))
-]
-open_refused C config d new workers is (running m pending) known asks = absurd known.1
-open_refused C config d new workers is (failed m pending) known asks = absurd known.1
+-- An event of closed files, as an event of the instance: an open, and one that leaves files.
+pub then_open : {C : Type 0} (config : Config) (d : OnDisk) (event : Event Batch C) (answer : Answer) (home : LogDirectories) (e : EngineState) → FollowsFiles config d event answer (IsEngineLog home e)
+    → (log : ModelLog) (known : (is_open log ≡ false) × IsFilesLog config d log) → IfLeft log (ReadSparesFiles config d log known.1)
+    → (next : ModelLog) × Answers said_of log event answer next × ((is_open next ≡ true) × IsEngineLog home e next)
+then_open config d event answer home e follows log known asks =
+    let (next, answers, is) = follows log known.1 asks in
+    (next, answers, (is_opened home e next is, is))
+
+pub then_closed : {C : Type 0} (config to : Config) (d new : OnDisk) (event : Event Batch C) (answer : Answer) → FollowsFiles config d event answer (IsFilesLog to new)
+    → (log : ModelLog) (known : (is_open log ≡ false) × IsFilesLog config d log) → IfLeft log (ReadSparesFiles config d log known.1)
+    → (next : ModelLog) × Answers said_of log event answer next × ((is_open next ≡ false) × IsFilesLog to new next)
+then_closed config to d new event answer follows log known asks =
+    let (next, answers, is) = follows log known.1 asks in
+    (next, answers, (is_shut to new next is, is))
+
+-- a copy, which also asks for a clear target
+pub fork_closed : {C : Type 0} (config to : Config) (d new : OnDisk) (target : String Global) (answer : Answer)
+    → (HoldsNoDirectory (string_bytes target) d → FollowsFiles {C = C} config d (Fork target) answer (IsFilesLog to new))
+    → (log : ModelLog) (known : (is_open log ≡ false) × IsFilesLog config d log) → HoldsNoDirectory (string_bytes target) d × IfLeft log (ReadSparesFiles config d log known.1)
+    → (next : ModelLog) × Answers {C = C} said_of log (Fork target) answer next × ((is_open next ≡ false) × IsFilesLog to new next)
+fork_closed config to d new target answer follows log known asks = then_closed config to d new (Fork target) answer (follows asks.0) log known asks.1
 
 -- A call.
 pub call_served : (C : Type 0) (home : LogDirectories) (s t : EngineState) (call : Call Batch) (answer : Answer) → ServesAs s call answer t → (log : ModelLog) (known : (is_open log ≡ true) × IsEngineLog home s log) → Unit {0}
@@ -103,25 +111,17 @@ close_refused C config e d answer told is (resting m) known asks = absurd known.
 close_refused C config e d answer told is (left m pending) known asks = absurd known.1
 
 -- A crash of files.
-pub crash_done : {C : Type 0} (config : Config) (d image : OnDisk) (what : C) → IsImage d image → (log : ModelLog) (known : (is_open log ≡ false) × IsFilesLog config d log) → UnlessResting log (CrashSparesFiles config d log known.1 image)
+pub crash_done : {C : Type 0} → FileCrashesFollowTheModel C → (config : Config) (d image : OnDisk) (what : C) → IsImage d image
+    → (log : ModelLog) (known : (is_open log ≡ false) × IsFilesLog config d log) → UnlessResting log (CrashSparesFiles config d log known.1 image)
     → (next : ModelLog) × Answers said_of log (Crash what) Done next × ((is_open next ≡ false) × IsFilesLog config image next)
-crash_done config d image what is (resting m) known asks = (resting m, refl, (refl, resting_crash config d image m is known.1))
-crash_done config d image what is (left m pending) known asks =
-    let (now, loses, at) = left_crash config d image m pending is known.1 asks in
-    (resting now, (now, loses, refl), (refl, at))
-crash_done config d image what is (running m pending) known asks = absurd known.1
-crash_done config d image what is (failed m pending) known asks = absurd known.1
+crash_done crashes config d image what is log known asks =
+    let (next, answers, at) = crashes config d image what is log known.1 asks in
+    (next, answers, (is_shut config image next at, at))
 
 -- One under an engine.
-pub crash_under_done : {C : Type 0} (config : Config) (e : EngineState) (image : OnDisk) (what : C) → IsImage e.pipes.disk image
-    → ((m : LogMap) (pending : List LogRecordValue) → Represents (home_of config) e m pending → LeavesNoChance (home_of config) e.pipes image → (now : LogMap) × LosesSome m pending now × Rests config image now)
-    → (log : ModelLog) (known : (is_open log ≡ true) × IsEngineLog (home_of config) e log) → UnlessResting log (CrashSparesEngine (home_of config) e log known.1 image)
-    → (next : ModelLog) × Answers said_of log (Crash what) Done next × ((is_open next ≡ false) × IsFilesLog config image next)
-crash_under_done config e image what is leaves (running m pending) known asks =
-    let (now, loses, at) = leaves m pending known.1 asks in
-    (resting now, (now, loses, refl), (refl, at))
-crash_under_done config e image what is leaves (failed m pending) known asks =
-    let (now, loses, at) = left_crash config e.pipes.disk image m pending is known.1.1 asks in
-    (resting now, (now, loses, refl), (refl, at))
-crash_under_done config e image what is leaves (resting m) known asks = absurd known.1
-crash_under_done config e image what is leaves (left m pending) known asks = absurd known.1
+pub crash_under_done : {F C : Type 0} (disk : F → OnDisk) → EngineCrashesFollowTheModel C disk → (config : Config) (e : EngineState) (image : F) (what : C) → IsImage e.pipes.disk (disk image)
+    → (log : ModelLog) (known : (is_open log ≡ true) × IsEngineLog (home_of config) e log) → UnlessResting log (CrashSparesEngine (home_of config) e log known.1 (disk image))
+    → (next : ModelLog) × Answers said_of log (Crash what) Done next × ((is_open next ≡ false) × IsFilesLog config (disk image) next)
+crash_under_done disk crashes config e image what is log known asks =
+    let (next, answers, at) = crashes config e image what is log known.1 asks in
+    (next, answers, (is_shut config (disk image) next at, at))

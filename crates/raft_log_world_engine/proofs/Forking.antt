@@ -1,7 +1,5 @@
 -- What a copy of a log's files holds, and what a copy that fails leaves.
 use Rattle.std.specs.Prelude.{Contains}
-use Rattle.std.specs.Global.{Global}
-use Rattle.std.specs.declared.string.String.{String}
 use Rattle.std.proofs.Common.{◌≡◌, ℕ, Bool, true, false, List, [], ◌∷◌, ◌++◌, length, take, Option, Some, None, inl, inr, ap, refl, sym, subst, ◌∙◌, arith, length-append}
 use Rattle.raft_log_engine.specs.raft_log_model_laws.specs.Groups.{taken}
 use Rattle.raft_log_engine.specs.raft_log_record_base.specs.declared.errors.Error.{Error}
@@ -13,29 +11,24 @@ use Rattle.raft_log_engine.specs.raft_log_file_settings.specs.Settings.{settings
 use Rattle.raft_log_engine.specs.raft_log_file_settings.specs.declared.config.Config.{Config}
 use Rattle.raft_log_engine.specs.raft_log_dual_pipes.specs.Pipes.{LogRecordValue}
 use Rattle.raft_log_engine.specs.raft_log_engine_laws.specs.raft_log_active_file.specs.Paths.{IsPathWith, reserved_suffix_of}
-use Rattle.raft_log_engine.specs.raft_log_engine_laws.specs.EngineState.{LogMap, said_of}
+use Rattle.raft_log_engine.specs.raft_log_engine_laws.specs.EngineState.{LogMap}
 use Rattle.raft_log_engine.specs.raft_log_engine_laws.specs.Holding.{IsRecoverableAs}
 use Rattle.raft_log_engine.specs.raft_log_offline.specs.Forks.{FailsToFork, Forks, IsCopyPath}
 use Rattle.raft_log_recovery.specs.Directories.{paths_of}
 use Rattle.raft_log_recovery_scan.specs.Found.{found_path}
 use Rattle.raft_log_recovery_laws.specs.Bare.{IsBare}
 use Rattle.raft_log_recovery_laws.specs.ByCalls.{home_of}
-use Rattle.raft_log_recovery_laws.specs.ForkLeaving.{LeavesSource}
+use Rattle.raft_log_recovery_laws.specs.ForkLeaving.{ForksLeaveTheSource, LeavesSource}
 use Rattle.raft_log_recovery_laws.specs.ForkLeaving.EndsFork.{refused}
-use Rattle.raft_log_recovery_laws.specs.ForkResting.{HoldsNoDirectory, IsClear, NamesOnly}
+use Rattle.raft_log_recovery_laws.specs.ForkLeft.{LeftLogsShowAlike}
+use Rattle.raft_log_recovery_laws.specs.ForkResting.{ForkedLogsRest, HoldsNoDirectory, IsClear, NamesOnly, TargetsAreClear}
 use Rattle.raft_log_recovery_laws.specs.InPlace.{StandsWithoutChance}
 use Rattle.raft_log_recovery_laws.specs.Scanned.{kind_of}
 use Rattle.raft_log_recovery_laws.proofs.Copies.{found_at, in_target}
-use Rattle.raft_log_recovery_laws.proofs.ForkLeft.{left_logs_show_alike}
-use Rattle.raft_log_recovery_laws.proofs.Leaving.{forks_leave_the_source}
-use Rattle.raft_log_recovery_laws.proofs.Resting.{clear_free, forked_logs_rest, targets_are_clear}
+use Rattle.raft_log_recovery_laws.proofs.Resting.{clear_free}
 use Rattle.raft_log_recovery_laws.proofs.Sources.{in_one, source_is}
-use Rattle.raft_log_world.specs.declared.event.Answer.TheVariants.{Done, Refused}
-use Rattle.raft_log_world.specs.declared.event.Event.TheVariants.{Fork}
-use Rattle.raft_log_world.specs.Logs.{IfLeft}
-use Rattle.raft_log_world.specs.Model.{Answers, LosesSome, ModelLog, is_open}
-use Rattle.raft_log_world.specs.Model.ModelLog.{resting, left, running, failed}
-use Rattle.raft_log_world_engine.specs.Instance.{IsFilesLog, ReadSparesFiles, Rests}
+use Rattle.raft_log_world.specs.Model.{LosesSome}
+use Rattle.raft_log_world_engine.specs.Instance.{Rests}
 use Rattle.raft_log_world_engine.specs.Instance.Rests.{bare, rests}
 use Rattle.raft_log_world_engine.proofs.Homes.{some_append, some_rewrite}
 
@@ -87,47 +80,31 @@ module _ (config to : Config) (target : List ℕ) (copied : List (List ℕ)) (ol
             none_if (new.names path) (λ id named. (let apart = sound.apart path id named in let never : ⊥ = cc in never));
       }
 
-module _ {F : Type 0} (disk : F → OnDisk) (tells : F → List ℕ → ℕ → Type 0) (sound : (system : F) → IsSound (disk system)) (config to : Config) (target : List ℕ) (copied : List (List ℕ)) (old new : F) (only : NamesOnly to target)
+module _ {F : Type 0} (disk : F → OnDisk) (tells : F → List ℕ → ℕ → Type 0) (sound : (system : F) → IsSound (disk system))
+    (clears : TargetsAreClear) (resting_fork : ForkedLogsRest) (left_fork : LeftLogsShowAlike disk tells)
+    (config to : Config) (target : List ℕ) (copied : List (List ℕ)) (old new : F) (only : NamesOnly to target)
     (forks : Forks (settings_of config) target copied (disk old) (disk new)) (apart : HoldsNoDirectory target (disk old)) where
   clear : IsClear target (disk old)
-  clear = targets_are_clear target (disk old) (sound old) apart
+  clear = clears target (disk old) (sound old) apart
 
   of_resting : (m : LogMap) → Rests config (disk old) m → Rests to (disk new) m
   of_resting m (bare b empty) = bare (bare_copied config to target copied (disk old) (disk new) only clear (sound new) forks b) empty
-  of_resting m (rests h) = rests (forked_logs_rest config to target copied (disk old) (disk new) m only clear h forks).0
+  of_resting m (rests h) = rests (resting_fork config to target copied (disk old) (disk new) m only clear h forks).0
 
   of_left : (m : LogMap) (pending : List LogRecordValue) (is : IsRecoverableAs (home_of config) (disk old) m pending) → StandsWithoutChance (home_of config) is.1.lies.state (disk old)
       → (now : LogMap) × LosesSome m pending now × Rests to (disk new) now
   of_left m pending is spared =
-      let (k, within, at, alike) = left_logs_show_alike disk tells (home_of config) (some_append config) (some_rewrite config) old m pending (sound old) is spared in
+      let (k, within, at, alike) = left_fork (home_of config) (some_append config) (some_rewrite config) old m pending (sound old) is spared in
       (taken m (take k pending), (k, within, refl), rests (alike.forks config refl to target copied new (sound new) only clear forks).rests)
 
   pub is_copied : IsCopied config to (disk old) (disk new)
   is_copied = record { resting_log = of_resting; left_log = of_left }
 
-pub is_uncopied : (config : Config) (target : List ℕ) (error : Error) (d new : OnDisk) → IsSound d → FailsToFork (settings_of config) target error d new → IsUncopied config d new
-is_uncopied config target error d new sound fails =
-    let leaves : LeavesSource config d new = forks_leave_the_source config target d new sound (refused error fails) in
+pub is_uncopied : ForksLeaveTheSource → (config : Config) (target : List ℕ) (error : Error) (d new : OnDisk) → IsSound d → FailsToFork (settings_of config) target error d new → IsUncopied config d new
+is_uncopied leave config target error d new sound fails =
+    let leaves : LeavesSource config d new = leave config target d new sound (refused error fails) in
     record { resting_log = still leaves; left_log = leaves.left }
   where
     still : LeavesSource config d new → (m : LogMap) → Rests config d m → Rests config new m
     still leaves m (bare b empty) = bare (leaves.bare b) empty
     still leaves m (rests h) = rests (leaves.rests m h).0
-
--- A copy as an event of the model log.
-
-pub fork_done : (C : Type 0) (config to : Config) (d new : OnDisk) (target : String Global) (clear : Type 0) → (clear → IsCopied config to d new) → (log : ModelLog) (known : (is_open log ≡ false) × IsFilesLog config d log)
-    → clear × IfLeft log (ReadSparesFiles config d log known.1) → (next : ModelLog) × Answers {C = C} said_of log (Fork target) Done next × ((is_open next ≡ false) × IsFilesLog to new next)
-fork_done C config to d new target clear is (resting m) known asks = (resting m, refl, (refl, (is asks.0).resting_log m known.1))
-fork_done C config to d new target clear is (left m pending) known asks =
-    let (now, loses, at) = (is asks.0).left_log m pending known.1 asks.1 in
-    (resting now, (now, loses, refl), (refl, at))
-fork_done C config to d new target clear is (running m pending) known asks = absurd known.1
-fork_done C config to d new target clear is (failed m pending) known asks = absurd known.1
-
-pub fork_refused : (C : Type 0) (config : Config) (d new : OnDisk) (target : String Global) (clear : Type 0) → IsUncopied config d new → (log : ModelLog) (known : (is_open log ≡ false) × IsFilesLog config d log)
-    → clear × IfLeft log (ReadSparesFiles config d log known.1) → (next : ModelLog) × Answers {C = C} said_of log (Fork target) Refused next × ((is_open next ≡ false) × IsFilesLog config new next)
-fork_refused C config d new target clear is (resting m) known asks = (resting m, refl, (refl, is.resting_log m known.1))
-fork_refused C config d new target clear is (left m pending) known asks = (left m pending, refl, (refl, is.left_log m pending known.1))
-fork_refused C config d new target clear is (running m pending) known asks = absurd known.1
-fork_refused C config d new target clear is (failed m pending) known asks = absurd known.1

@@ -1,3 +1,4 @@
+mod AnyFiles
 mod Arming
 mod Calling
 mod Closing

@@ -13,13 +13,11 @@ use Rattle.raft_log_engine.specs.raft_log_dual_pipes.specs.Pipes.{LogPipes, LogR
 use Rattle.raft_log_engine.specs.raft_log_engine_laws.specs.EngineState.{LogDirectories, LogMap, EngineState, log_in, shows}
 use Rattle.raft_log_engine.specs.raft_log_engine_laws.specs.Holding.{Represents, IsRecoverableAs}
 use Rattle.raft_log_engine.specs.raft_log_open.specs.Opening.{FailsToOpenDirectory, OpensDirectory}
-use Rattle.raft_log_recovery_laws.specs.Bare.{IsBare}
+use Rattle.raft_log_recovery_laws.specs.Bare.{BareDirectoriesOpen, IsBare}
 use Rattle.raft_log_recovery_laws.specs.ByCalls.{home_of}
-use Rattle.raft_log_recovery_laws.specs.InPlace.{IsLeftEither, StandsWithoutChance}
+use Rattle.raft_log_recovery_laws.specs.Directory.{RestingDirectoriesOpen}
+use Rattle.raft_log_recovery_laws.specs.InPlace.{IsLeftEither, StandingDirectoriesOpen, StandsWithoutChance}
 use Rattle.raft_log_recovery_laws.specs.Opened.{HoldsFresh}
-use Rattle.raft_log_recovery_laws.proofs.Bare.{bare_directories_open}
-use Rattle.raft_log_recovery_laws.proofs.Directory.{resting_directories_open}
-use Rattle.raft_log_recovery_laws.proofs.InPlaceOutcomes.{standing_directories_open}
 use Rattle.raft_log_world.specs.Model.{LosesSome}
 use Rattle.raft_log_world_engine.specs.Instance.{Rests}
 use Rattle.raft_log_world_engine.specs.Instance.Rests.{bare, rests}
@@ -41,7 +39,9 @@ pub record IsUnopened (config : Config) (d new : OnDisk) : Type 0 where
 pub same_files : (config : Config) (d : OnDisk) → IsUnopened config d d
 same_files config d = record { resting_log = λ m is. inl is; left_log = λ m pending is spared. inl is }
 
-module _ {F : Type 0} (disk : F → OnDisk) (tells : F → List ℕ → ℕ → Type 0) (sound : (system : F) → IsSound (disk system)) (config settings : Config) (named : home_of settings ≡ home_of config) (old : F) where
+module _ {F : Type 0} (disk : F → OnDisk) (tells : F → List ℕ → ℕ → Type 0) (sound : (system : F) → IsSound (disk system))
+    (bares_open : BareDirectoriesOpen disk tells) (resting_open : RestingDirectoriesOpen disk tells) (left_open : StandingDirectoriesOpen disk tells)
+    (config settings : Config) (named : home_of settings ≡ home_of config) (old : F) where
   here : (P : LogDirectories → Type 0) → P (home_of settings) → P (home_of config)
   here P p = subst P named p
 
@@ -55,14 +55,14 @@ module _ {F : Type 0} (disk : F → OnDisk) (tells : F → List ℕ → ℕ → 
     of_resting : (m : LogMap) → Rests config (disk old) m → Represents (home_of config) (shows v tables cache) m []
     of_resting m (bare b empty) =
         subst (λ (x : LogMap). Represents (home_of config) (shows v tables cache) x []) (sym empty)
-        (held nothing_stands ((bare_directories_open disk tells settings old (sound old) (bare_for config settings (disk old) (sym named) b)).answered v tables opens))
+        (held nothing_stands ((bares_open settings old (sound old) (bare_for config settings (disk old) (sym named) b)).answered v tables opens))
     of_resting m (rests is) =
-        held m ((resting_directories_open disk tells settings old m (sound old) (there (λ h. IsDurableAs (log_in h) (disk old) m) is)).answered v tables opens)
+        held m ((resting_open settings old m (sound old) (there (λ h. IsDurableAs (log_in h) (disk old) m) is)).answered v tables opens)
 
     of_left : (m : LogMap) (pending : List LogRecordValue) (is : IsRecoverableAs (home_of config) (disk old) m pending) → StandsWithoutChance (home_of config) is.1.lies.state (disk old)
         → (now : LogMap) × LosesSome m pending now × Represents (home_of config) (shows v tables cache) now []
     of_left m pending is spared =
-        let (k, within, at, all) = standing_directories_open disk tells (home_of config) (some_append config) (some_rewrite config) old m pending (sound old) is spared in
+        let (k, within, at, all) = left_open (home_of config) (some_append config) (some_rewrite config) old m pending (sound old) is spared in
         (taken m (take k pending), (k, within, refl), held (taken m (take k pending)) ((all settings named).answered v tables opens))
 
     pub opened : IsOpened config (disk old) (shows v tables cache)
@@ -74,10 +74,10 @@ module _ {F : Type 0} (disk : F → OnDisk) (tells : F → List ℕ → ℕ → 
     bare_or_left m empty (inr is) = inr (subst (λ (x : LogMap). IsRecoverableAs (home_of config) (disk new) x []) (sym empty) (here (λ h. IsRecoverableAs h (disk new) nothing_stands []) is))
 
     from_resting : (m : LogMap) → Rests config (disk old) m → Rests config (disk new) m ⊎ IsRecoverableAs (home_of config) (disk new) m []
-    from_resting m (bare b empty) = bare_or_left m empty ((bare_directories_open disk tells settings old (sound old) (bare_for config settings (disk old) (sym named) b)).refused error new fails)
+    from_resting m (bare b empty) = bare_or_left m empty ((bares_open settings old (sound old) (bare_for config settings (disk old) (sym named) b)).refused error new fails)
     from_resting m (rests is) =
         inr (here (λ h. IsRecoverableAs h (disk new) m [])
-        ((resting_directories_open disk tells settings old m (sound old) (there (λ h. IsDurableAs (log_in h) (disk old) m) is)).refused error new fails))
+        ((resting_open settings old m (sound old) (there (λ h. IsDurableAs (log_in h) (disk old) m) is)).refused error new fails))
 
     either : (m : LogMap) (pending : List LogRecordValue) (k : ℕ) → k ≤ length pending → IsLeftEither (home_of config) (disk new) m pending (taken m (take k pending))
         → IsRecoverableAs (home_of config) (disk new) m pending ⊎ ((now : LogMap) × LosesSome m pending now × IsRecoverableAs (home_of config) (disk new) now [])
@@ -87,7 +87,7 @@ module _ {F : Type 0} (disk : F → OnDisk) (tells : F → List ℕ → ℕ → 
     from_left : (m : LogMap) (pending : List LogRecordValue) (is : IsRecoverableAs (home_of config) (disk old) m pending) → StandsWithoutChance (home_of config) is.1.lies.state (disk old)
         → IsRecoverableAs (home_of config) (disk new) m pending ⊎ ((now : LogMap) × LosesSome m pending now × IsRecoverableAs (home_of config) (disk new) now [])
     from_left m pending is spared =
-        let (k, within, at, all) = standing_directories_open disk tells (home_of config) (some_append config) (some_rewrite config) old m pending (sound old) is spared in
+        let (k, within, at, all) = left_open (home_of config) (some_append config) (some_rewrite config) old m pending (sound old) is spared in
         either m pending k within (here (λ h. IsLeftEither h (disk new) m pending (taken m (take k pending))) ((all settings named).refused error new fails))
 
     pub unopened : IsUnopened config (disk old) (disk new)

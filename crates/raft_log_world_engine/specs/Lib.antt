@@ -1,3 +1,4 @@
+pub mod AnyFiles
 pub mod Calls
 pub mod Faults
 pub mod Instance

@@ -12,6 +12,7 @@ ghost use Rattle.raft_log_world_engine.specs.Instance.{engine_log, IsFilesLog};
 
 use crate::calls::{self, failure};
 use crate::faults::{fault_of, told};
+use crate::laws::{copies_follow_the_model, crashes_follow_the_model, opens_follow_the_model};
 use crate::ranges;
 use log::sink::Discard;
 use log::{LevelFilter, Log, Logged};
@@ -86,6 +87,7 @@ impl<R: Log> LogFiles<R, OpenLog, LogBatch, Remainder> for ClosedLog {
         alloc: Global,
         workers: u64,
     ) -> Result<OpenLog, ClosedLog> {
+        opens_follow_the_model::<MemoryFileSystem, Remainder>();
         let Ok(settings) = with_workers(&self.config, workers) else {
             return Err(self);
         };
@@ -154,6 +156,7 @@ impl<R: Log> LogFiles<R, OpenLog, LogBatch, Remainder> for ClosedLog {
     }
 
     fn fork(self, rt: &R, alloc: Global, target: String) -> (Answer, ClosedLog) {
+        copies_follow_the_model::<MemoryFileSystem, Remainder>();
         let ClosedLog { config, mut files } = self;
         match fork(rt, alloc, &config, &mut files, target.as_str()) {
             Ok(_) => {
@@ -188,12 +191,14 @@ impl<R: Log> LogFiles<R, OpenLog, LogBatch, Remainder> for ClosedLog {
     }
 
     fn crash(self, left: &Remainder) -> Result<ClosedLog, AllocError> {
+        crashes_follow_the_model::<MemoryFileSystem, Remainder>();
         let ClosedLog { config, files } = self;
         let files = files.remainder(left)?;
         Ok(ClosedLog { config, files })
     }
 
     fn crash_under(engine: OpenLog, left: &Remainder) -> Result<ClosedLog, AllocError> {
+        crashes_follow_the_model::<MemoryFileSystem, Remainder>();
         let OpenLog { config, engine } = engine;
         let files = engine.file_system().remainder(left)?;
         Ok(ClosedLog { config, files })

@@ -5,6 +5,7 @@
 mod calls;
 mod faults;
 mod files;
+pub mod laws;
 mod ranges;
 
 pub use files::{ClosedLog, OpenLog};

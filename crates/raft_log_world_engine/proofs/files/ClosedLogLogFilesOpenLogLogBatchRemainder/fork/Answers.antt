@@ -1,9 +1,11 @@
-use Rattle.std.specs.String.{string_bytes}
+use Rattle.std.proofs.Common.{List, subst}
+use Rattle.std.specs.Prelude.{ℕ}
+use Rattle.raft_log_engine.specs.raft_log_file_settings.specs.Settings.{settings_of}
 use Rattle.raft_log_engine.specs.raft_log_fs_memory.specs.Memory.{disk_of}
-use Rattle.raft_log_engine.specs.raft_log_fs_memory.specs.raft_log_fs_state.specs.declared.remainder.Remainder.{Remainder}
-use Rattle.raft_log_recovery_laws.specs.ForkResting.{HoldsNoDirectory}
-use Rattle.raft_log_world_engine.proofs.Forking.{fork_done, fork_refused, is_copied, is_uncopied}
-use Rattle.raft_log_world_engine.proofs.Homes.{memory_sound}
+use Rattle.raft_log_engine.specs.raft_log_offline.specs.Forks.{FailsToFork, Forks}
+use Rattle.raft_log_world.specs.declared.event.Answer.TheVariants.{Done, Refused}
+use Rattle.raft_log_world.specs.declared.event.Event.TheVariants.{Fork}
+use Rattle.raft_log_world_engine.proofs.Following.{fork_closed}
 use Rattle.raft_log_world_engine.proofs.files.ClosedLogLogFilesOpenLogLogBatchRemainder.fork.Goals as goal
 
 pub returns-in-Ok : goal.returns-in-Ok
@@ -11,14 +13,14 @@ returns-in-Ok g c =
     let old = c.args.self in
     let to = c.in_directory-config.result in
     let new = c.fork.new.file_system in
-    let target = string_bytes c.args.target in
-    fork_done Remainder old.config to (disk_of old.files) (disk_of new) c.args.target (HoldsNoDirectory target (disk_of old.files))
-    (is_copied disk_of _ memory_sound old.config to target _ old.files new c.in_directory-config.ensures c.in-Ok.ensures.ok)
+    let forks = subst (λ (target : List ℕ). Forks (settings_of old.config) target _ (disk_of old.files) (disk_of new)) c.as_str.ensures c.in-Ok.ensures.ok in
+    fork_closed old.config to (disk_of old.files) (disk_of new) c.args.target Done
+    (λ apart. (c.copies_follow_the_model.ensures old.config c.args.target old.files new).done to _ c.in_directory-config.ensures apart forks)
 
 pub returns-in-Err : goal.returns-in-Err
 returns-in-Err g c =
     let old = c.args.self in
     let new = c.fork.new.file_system in
-    let target = string_bytes c.args.target in
-    fork_refused Remainder old.config (disk_of old.files) (disk_of new) c.args.target (HoldsNoDirectory target (disk_of old.files))
-    (is_uncopied old.config target _ (disk_of old.files) (disk_of new) (memory_sound old.files) c.in-Err.ensures.err)
+    let fails = subst (λ (target : List ℕ). FailsToFork (settings_of old.config) target _ (disk_of old.files) (disk_of new)) c.as_str.ensures c.in-Err.ensures.err in
+    fork_closed old.config old.config (disk_of old.files) (disk_of new) c.args.target Refused
+    (λ apart. (c.copies_follow_the_model.ensures old.config c.args.target old.files new).refused _ fails)

@@ -32,28 +32,78 @@ fn add_change(alloc: Global, batch: &mut LogBatch, change: &Change) -> Result<()
     let group = change.group;
     match &change.kind {
         ChangeKind::Entries { first, entries } => {
-            let slices = slices_of(alloc, entries.as_slice())?;
-            if slices.is_empty() {
-                return Err(Error::InvalidArgument(format!(in alloc; "no entries")?));
-            }
-            batch.add_entries_from(
-                alloc,
-                group,
-                *first,
-                &EntrySlices {
-                    slices: slices.as_slice(),
-                },
-            )
+            add_entries(alloc, batch, group, *first, entries.as_slice())
         }
-        ChangeKind::Clean => Ok(batch.add_command(group, Command::Clean)?),
-        ChangeKind::Compact { index } => {
-            Ok(batch.add_command(group, Command::Compact { index: *index })?)
-        }
+        ChangeKind::Clean => add_clean(batch, group),
+        ChangeKind::Compact { index } => add_compact(batch, group, *index),
         ChangeKind::Put { key, value } => {
-            batch.put(alloc, group, key.as_slice(), value.as_slice())
+            put(alloc, batch, group, key.as_slice(), value.as_slice())
         }
-        ChangeKind::Delete { key } => batch.delete(alloc, group, key.as_slice()),
+        ChangeKind::Delete { key } => delete(alloc, batch, group, key.as_slice()),
     }
+}
+
+/// Adds entries of a group, from an index on. Fails if there are none.
+fn add_entries(
+    alloc: Global,
+    batch: &mut LogBatch,
+    group: u64,
+    first: u64,
+    entries: &[Bytes],
+) -> Result<()>
+    requires { batch.old.state ≡ Filling }
+    ensures { OnOk result (AddsChange batch.old batch.new
+        (record { group = group; kind = ChangeKind.Entries first entries.now })) }
+{
+    let slices = slices_of(alloc, entries)?;
+    if slices.is_empty() {
+        return Err(Error::InvalidArgument(format!(in alloc; "no entries")?));
+    }
+    batch.add_entries_from(
+        alloc,
+        group,
+        first,
+        &EntrySlices {
+            slices: slices.as_slice(),
+        },
+    )
+}
+
+/// Adds the deletion of a group.
+fn add_clean(batch: &mut LogBatch, group: u64) -> Result<()>
+    requires { batch.old.state ≡ Filling }
+    ensures { OnOk result (AddsChange batch.old batch.new (record { group = group; kind = ChangeKind.Clean })) }
+{
+    batch.add_command(group, Command::Clean)?;
+    Ok(())
+}
+
+/// Adds the deletion of a group's entries below an index.
+fn add_compact(batch: &mut LogBatch, group: u64, index: u64) -> Result<()>
+    requires { batch.old.state ≡ Filling }
+    ensures { OnOk result (AddsChange batch.old batch.new
+        (record { group = group; kind = ChangeKind.Compact index })) }
+{
+    batch.add_command(group, Command::Compact { index })?;
+    Ok(())
+}
+
+/// Adds a key's value. Fails if the key begins with two underscores.
+fn put(alloc: Global, batch: &mut LogBatch, group: u64, key: &[u8], value: &[u8]) -> Result<()>
+    requires { batch.old.state ≡ Filling }
+    ensures { OnOk result (AddsChange batch.old batch.new
+        (record { group = group; kind = ChangeKind.Put key.now value.now })) }
+{
+    batch.put(alloc, group, key, value)
+}
+
+/// Adds the deletion of a key. Fails if the key begins with two underscores.
+fn delete(alloc: Global, batch: &mut LogBatch, group: u64, key: &[u8]) -> Result<()>
+    requires { batch.old.state ≡ Filling }
+    ensures { OnOk result (AddsChange batch.old batch.new
+        (record { group = group; kind = ChangeKind.Delete key.now })) }
+{
+    batch.delete(alloc, group, key)
 }
 
 /// Returns the bytes of each entry.

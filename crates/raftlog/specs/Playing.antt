@@ -1,5 +1,5 @@
 -- What is printed for a session.
-use Rattle.std.specs.Prelude.{◌≡◌, ◌↔◌, ℕ, Bool, true, IsTrue, List, ◌++◌}
+use Rattle.std.specs.Prelude.{◌≡◌, ◌↔◌, ℕ, Bool, true, IsTrue, List, [], ◌∷◌, ◌++◌, codes}
 use Rattle.std.specs.List.{flat_map}
 use Rattle.raft_log_machine_laws.specs.Fresh.{nothing_stands}
 use Rattle.raft_log_engine.specs.raft_log_fs_memory.specs.Memory.{disk_of}
@@ -46,3 +46,18 @@ pub record IsTranscript (l : LogOf OpenLog ClosedLog Batch Remainder) (config : 
 abbrev pub IsSomeTranscript : LogOf OpenLog ClosedLog Batch Remainder → List ℕ → Bool → Type 0
 IsSomeTranscript l text verdict =
     (config : Config) × (events : List (Event (List Change) Remainder)) × IsTranscript l config events text verdict
+
+-- the line between two transcripts
+abbrev pub between : List ℕ
+between = codes "---\n"
+
+-- each of these texts is the transcript of some session's run, with the verdict yes
+abbrev pub EachIsTranscript : LogOf OpenLog ClosedLog Batch Remainder → List (List ℕ) → Type 0
+EachIsTranscript l [] = Unit {0}
+EachIsTranscript l (text ∷ texts) = IsSomeTranscript l text true × EachIsTranscript l texts
+
+-- The text has transcripts of some sessions' runs, one or more, with a line between two. Each verdict is yes.
+abbrev pub AreTranscripts : LogOf OpenLog ClosedLog Batch Remainder → List ℕ → Type 0
+AreTranscripts l text = (texts : List (List ℕ)) × (last : List ℕ)
+    × EachIsTranscript l texts × IsSomeTranscript l last true
+    × (text ≡ flat_map (λ t. t ++ between) texts ++ last)

@@ -19,7 +19,7 @@ use std::io;
 use std::io::{Input, Print, Read, Write};
 use std::process::ExitCode;
 use std::thread::Threads;
-use texts::{answer, split_session};
+use texts::answer_all;
 
 /// The status if a verdict is no, or a text is no session.
 const REFUSED: u8 = 1;
@@ -33,24 +33,10 @@ fn play_all<R: Input + Print + Threads + Log + Sync + AllocGlobal>(rt: &R) -> io
     let quiet = Logged::new(rt, LevelFilter::Off, Discard);
     let mut input = Vec::new(alloc);
     rt.reader().read_to_end(&mut input)?;
+    let (told, good) = answer_all(&quiet, alloc, input.as_slice())?;
     let mut writer = io::writer(rt);
-    let mut status = 0;
-    let mut left = input.as_slice();
-    while let Some((text, rest)) = split_session(left) {
-        let (told, good) = answer(&quiet, alloc, text)?;
-        writer.write_all(told.as_bytes())?;
-        writer.write_all(b"---\n")?;
-        if !good {
-            status = REFUSED;
-        }
-        left = rest;
-    }
-    let (told, good) = answer(&quiet, alloc, left)?;
     writer.write_all(told.as_bytes())?;
-    if !good {
-        status = REFUSED;
-    }
-    Ok(status)
+    if good { Ok(0) } else { Ok(REFUSED) }
 }
 
 fn main(rt: HostRuntime) -> ExitCode {

@@ -1,6 +1,6 @@
 //! Texts of sessions, one after another.
 ghost use Rattle.std.specs.Prelude.{◌≡◌, ◌<◌, ◌≤◌, false, IfOk, IfSome, IsTrue, length, string_bytes};
-ghost use Rattle.raftlog.specs.Playing.{IsSomeTranscript};
+ghost use Rattle.raftlog.specs.Playing.{AreTranscripts, IsSomeTranscript};
 
 use crate::playing::play;
 use log::Log;
@@ -11,17 +11,41 @@ use raft_log_world_engine::{ClosedLog, OpenLog};
 use std::alloc::{AllocError, Global};
 use std::thread::Threads;
 
-/// The line between two sessions.
-const BETWEEN: &[u8] = b"---\n";
+/// The line between two sessions, and between two transcripts.
+const BETWEEN: &str = "---\n";
+
+/// Plays the sessions of a text, one after another. Returns their transcripts, and whether each verdict is yes.
+pub fn answer_all<R: Threads + Log + Sync>(
+    rt: &R,
+    alloc: Global,
+    text: &[u8],
+) -> Result<(String, bool), AllocError>
+    ensures { IfOk result (λ told. IsTrue told.1 → AreTranscripts
+        ⟦<ClosedLog as LogFiles<R, OpenLog, LogBatch, Remainder>>⟧.log (string_bytes told.0)) }
+{
+    let mut told = String::new(alloc);
+    let mut good = true;
+    let mut left = text;
+    while let Some((session, rest)) = split_session(left) {
+        let (lines, yes) = answer(rt, alloc, session)?;
+        told.push_str(lines.as_str())?;
+        told.push_str(BETWEEN)?;
+        good = good && yes;
+        left = rest;
+    }
+    let (lines, yes) = answer(rt, alloc, left)?;
+    told.push_str(lines.as_str())?;
+    Ok((told, good && yes))
+}
 
 /// Returns the text before the first line that parts sessions, and the text after it; `None` if there is none.
-pub fn split_session(text: &[u8]) -> Option<(&[u8], &[u8])>
+fn split_session(text: &[u8]) -> Option<(&[u8], &[u8])>
     ensures { IfSome result (λ parts. length parts.1.now < length text.now) }
 {
     let mut at = 0;
     while at < text.len() {
         let rest = &text[at..];
-        if let Some(later) = rest.strip_prefix(BETWEEN) {
+        if let Some(later) = rest.strip_prefix(BETWEEN.as_bytes()) {
             return Some((&text[..at], later));
         }
         at += line_len(rest);
@@ -44,7 +68,7 @@ fn line_len(text: &[u8]) -> usize
 
 /// Plays the session of a text. Returns its transcript, and whether the verdict is yes. If the text is no session or
 /// the log rejects its settings, returns a line that says so, and false.
-pub fn answer<R: Threads + Log + Sync>(
+fn answer<R: Threads + Log + Sync>(
     rt: &R,
     alloc: Global,
     text: &[u8],

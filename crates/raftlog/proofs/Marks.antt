@@ -13,7 +13,7 @@ use Rattle.raft_log_record_frames.specs.Key.{is_internal}
 use Rattle.raft_log_record_frames.specs.Marking.{content_has_mark_key, has_mark_key, joined_marking, mark_key, mark_of, marking_of, marking_of_items, part_or_broken, puts_mark_key}
 use Rattle.raft_log_record_frames.specs.Meaning.{IsUsers}
 
-false_unless : (b : Bool) → (b ≡ true → ⊥) → b ≡ false
+pub false_unless : (b : Bool) → (b ≡ true → ⊥) → b ≡ false
 false_unless true never = absurd (never refl)
 false_unless false never = refl
 

@@ -63,7 +63,7 @@ content_same f g (contents.Command (commands.Compact index)) h = refl
 content_same f g (contents.Kv kv) h = refl
 
 same_count : (f g : EntryIndex → List ℕ) (es : List EntryIndex) → length (map f es) ≡ length (map g es)
-same_count f g es = length-map f es ∙ sym (length-map g es)
+same_count f g es = length-map es f ∙ sym (length-map es g)
 
 items_same : (f g : EntryIndex → List ℕ) (xs : List LogItem) → map f (all_entries xs) ≡ map g (all_entries xs) → tagged_items f xs ≡ tagged_items g xs
 items_same f g [] h = refl

@@ -66,7 +66,8 @@ fn add_entries(
         &EntrySlices {
             slices: slices.as_slice(),
         },
-    )
+    )?;
+    Ok(())
 }
 
 /// Adds the deletion of a group.
@@ -94,7 +95,8 @@ fn put(alloc: Global, batch: &mut LogBatch, group: u64, key: &[u8], value: &[u8]
     ensures { OnOk result (AddsChange batch.old batch.new
         (record { group = group; kind = ChangeKind.Put key.now value.now })) }
 {
-    batch.put(alloc, group, key, value)
+    batch.put(alloc, group, key, value)?;
+    Ok(())
 }
 
 /// Adds the deletion of a key. Fails if the key begins with two underscores.
@@ -103,7 +105,8 @@ fn delete(alloc: Global, batch: &mut LogBatch, group: u64, key: &[u8]) -> Result
     ensures { OnOk result (AddsChange batch.old batch.new
         (record { group = group; kind = ChangeKind.Delete key.now })) }
 {
-    batch.delete(alloc, group, key)
+    batch.delete(alloc, group, key)?;
+    Ok(())
 }
 
 /// Returns the bytes of each entry.

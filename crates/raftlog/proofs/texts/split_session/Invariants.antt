@@ -1,8 +1,8 @@
 use Rattle.std.proofs.Common.{◌≤◌, ◌-◌, length}
 use Rattle.raftlog.proofs.texts.split_session.Given as goal
 
-abbrev pub invariant-loop : goal.invariant-loop
-invariant-loop l = l.at ≤ length l.text
+abbrev pub invariant-loop-at : goal.invariant-loop-at
+invariant-loop-at l = l.at ≤ length l.text
 
-abbrev pub decreases-loop : goal.decreases-loop
-decreases-loop l = length l.text - l.at
+abbrev pub decreases-loop-at : goal.decreases-loop-at
+decreases-loop-at l = length l.text - l.at

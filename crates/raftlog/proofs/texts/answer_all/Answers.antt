@@ -1,0 +1,20 @@
+use Rattle.std.proofs.Common.{◌≡◌, ◌∙◌, ◌++◌, ℕ, Bool, false, true, List, [], ◌∷◌, ap, subst, sym, string_bytes}
+use Rattle.std.specs.Prelude.{IsTrue}
+use Rattle.raftlog.specs.Playing.{IsSomeTranscript, between}
+use Rattle.raftlog.proofs.Sequences.{one_more_text, one_more_transcript}
+use Rattle.raftlog.proofs.texts.answer_all.Goals.{then-good, else-good}
+use Rattle.raftlog.proofs.texts.answer_all.Goals as goal
+
+pub loop-session-preserved : goal.loop-session-preserved
+loop-session-preserved g c good = elim c.if-good.branch [
+  | then-good w ↦ (
+      let (texts, all, told) = c.loop-session.invariant w.if-good.true in
+      let lines = c.in_ok-lines.lines in
+      let yes : IsTrue c.in_ok-lines.yes = sym w.good-is ∙ good in
+      let one = subst (λ (verdict : Bool). IsSomeTranscript _ (string_bytes lines) verdict) yes (c.in_ok-lines.ensures yes) in
+      let text = c.in_ok-push_str-2.ensures.bytes
+      ∙ ap (λ (front : List ℕ). front ++ between) (c.in_ok-push_str.ensures.bytes ∙ ap (λ (b : List ℕ). string_bytes c.loop-session.told ++ b) c.as_str.ensures.value)
+      ∙ one_more_text (string_bytes c.loop-session.told) (string_bytes lines) texts told in
+      (texts ++ string_bytes lines ∷ [], one_more_transcript _ texts (string_bytes lines) all one, text))
+  | else-good w ↦ (let clash : false ≡ true = sym w.if-good.false ∙ (sym w.good-is ∙ good) in cc)
+]

@@ -7,6 +7,7 @@ use Rattle.raft_log_engine.specs.raft_log_record_base.specs.declared.pipe_log.Lo
 use Rattle.raft_log_file_format.specs.Name.{suffix_of}
 use Rattle.raft_log_engine.specs.raft_log_fs.specs.Disk.{Disk as OnDisk}
 use Rattle.raft_log_engine.specs.raft_log_fs.specs.Image.{IsSound}
+use Rattle.raft_log_engine.specs.raft_log_file_settings.specs.Sanitized.{IsFileName}
 use Rattle.raft_log_engine.specs.raft_log_file_settings.specs.Settings.{settings_of}
 use Rattle.raft_log_engine.specs.raft_log_file_settings.specs.declared.config.Config.{Config}
 use Rattle.raft_log_engine.specs.raft_log_dual_pipes.specs.Pipes.{LogRecordValue}
@@ -66,7 +67,7 @@ module _ (config to : Config) (target : List ℕ) (copied : List (List ℕ)) (ol
         numbered = λ queue n path at.
             let here = subst (λ (ps : List (List ℕ)). IsPathWith (suffix_of queue) ps n path) only at in
             let joined = in_target target (suffix_of queue) n path here in
-            let is = (n, inl (queue, here.named)) in (
+            let is : IsFileName here.name = (n, inl (queue, here.named)) in (
               adds.names path (none_copied path) ∙ ap (λ (p : List ℕ). old.names p) joined ∙ free.bare here.name here.plain is,
               adds.directories path (not_itself target here.name path joined) ∙ ap (λ (p : List ℕ). old.directories p) joined ∙ free.apart here.name here.plain is,
             );

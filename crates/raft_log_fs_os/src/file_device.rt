@@ -2,8 +2,9 @@
 ghost use Rattle.raft_log_fs_state.specs.declared.storage.Storage.{Storage};
 
 use super::growing::{grow, write_pieces};
+use super::load::Access;
 use super::locked_directory::LockedDirectory;
-use super::open_file::{OpenFile, reported, warn_of_space};
+use super::open_file::{OpenFile, reported, unopened, warn_of_space};
 use super::record::Record;
 use super::reserve::{create_from_reserve, extend_from_reserve, fill_beside};
 use raft_log_fs_state::Storage;
@@ -54,6 +55,8 @@ pub(crate) const PIECE: usize = 1 << 16;
 /// - A header and a record of Rewrite that find no space are tried once more, in the space that the directory keeps in
 ///   reserve. So is the making of a file.
 /// - A call that fails is printed to standard error, with the path.
+/// - A directory is only made if the log's own files are only read, for a copy: nobody locks it. While a log is written,
+///   each of its directories has to be one that was opened.
 #[derive(Drop)]
 pub struct FileDevice<R> {
     rt: R,
@@ -62,6 +65,8 @@ pub struct FileDevice<R> {
     zeros: Vec<u8>,
     // Whether the last attempt to make a file longer found no space.
     is_full: bool,
+    // Whether directories may be made.
+    makes_directories: bool,
     found: Snapshot<Storage>,
     record: Record,
 }
@@ -70,13 +75,14 @@ impl<R: Files<File = File> + Eprint + AllocGlobal + Drop> FileDevice<R> {
     ghost use Rattle.raft_log_fs_os.specs.Tracing.{IsFresh};
 
     /// The device over these files, which are those of the loaded model, by their numbers. It keeps the locked
-    /// directories, and the zeros for growing files.
+    /// directories, and the zeros for growing files. `access` says for what the files were opened.
     pub(crate) fn new(
         rt: R,
         files: BTreeMap<usize, OpenFile>,
         directories: Vec<LockedDirectory>,
         zeros: Vec<u8>,
         storage: &Storage,
+        access: Access,
     ) -> FileDevice<R>
         ensures { IsFresh storage.now result }
     {
@@ -86,6 +92,7 @@ impl<R: Files<File = File> + Eprint + AllocGlobal + Drop> FileDevice<R> {
             directories,
             zeros,
             is_full: false,
+            makes_directories: access == Access::ReadOnly,
             found: Snapshot::of(storage),
             record: Record::new(),
         }
@@ -131,6 +138,9 @@ impl<R: Files<File = File> + Eprint + AllocGlobal + Drop> Device for FileDevice<
     }
 
     fn create_dir(&mut self, path: &str) -> Result<(), ErrorKind> {
+        if !self.makes_directories {
+            return Err(unopened(&self.rt, path));
+        }
         let made = fs::create_dir(&self.rt, path);
         reported(&self.rt, path, "create it", made)?;
         self.record.note(&[MADE_DIRECTORY, 0, 0], path.as_bytes());

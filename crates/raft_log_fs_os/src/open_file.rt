@@ -32,6 +32,15 @@ pub(crate) fn reported<R: Eprint, T>(
     }
 }
 
+/// The error for a directory that is not one of the opened ones, and is therefore not made. Prints it, with the path, to
+/// standard error.
+pub(crate) fn unopened<R: Eprint>(rt: &R, path: &str) -> ErrorKind {
+    let _printed = eprintln!(rt;
+        "{path}: not made, since it is no directory that was opened"
+    ).is_ok();
+    ErrorKind::NotFound
+}
+
 /// Notes whether an attempt to make a file longer found no space. Prints a warning with the directory and the path to
 /// standard error if it did and the attempt before it didn't.
 pub(crate) fn warn_of_space<R: Eprint>(rt: &R, path: &str, attempt: &Attempt, is_full: &mut bool) {

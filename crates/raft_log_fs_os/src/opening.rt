@@ -29,7 +29,8 @@ use std::{fs, io};
 ///   ignored.
 /// - The last file of either queue is written back with the same bytes and synced; then the directories are synced.
 ///   What the file system shows is therefore durable, even if a sync failed earlier in this boot of the machine.
-/// - Paths are those of the operating system; the log's settings must spell them the same.
+/// - Paths are those of the operating system; the log's settings must spell them the same. No other directory is made: it
+///   would have no lock.
 ///
 /// If it fails, no byte of a file and no name has changed, but files `LOCK` and `RESERVE` may have been made.
 pub fn open_directories<
@@ -56,7 +57,14 @@ pub fn open_directories<
     } = found;
     let zeros = vec![in rt.alloc(); 0u8; PIECE]?;
     fill_reserves(rt, &mut directories, &zeros);
-    let mut device = FileDevice::new(rt.clone()?, files, directories, zeros, &storage);
+    let mut device = FileDevice::new(
+        rt.clone()?,
+        files,
+        directories,
+        zeros,
+        &storage,
+        Access::ReadWrite,
+    );
     write_back_last_files(rt.alloc(), &mut device, &storage, listed.as_slice())?;
     sync_directories(rt.alloc(), &mut device, directory, spill_directory)?;
     Ok(DirectoryFileSystem::new(storage, device))
@@ -90,7 +98,14 @@ pub fn open_directories_for_reading<
         ..
     } = found;
     let zeros = vec![in rt.alloc(); 0u8; PIECE]?;
-    let device = FileDevice::new(rt.clone()?, files, directories, zeros, &storage);
+    let device = FileDevice::new(
+        rt.clone()?,
+        files,
+        directories,
+        zeros,
+        &storage,
+        Access::ReadOnly,
+    );
     Ok(DirectoryFileSystem::new(storage, device))
 }
 

@@ -186,13 +186,14 @@ int32_t dafirondo_scan(dafirondo *log, uint64_t group, const uint8_t *start, siz
 ** length of the whole text.
 */
 
-/* Copies the files of the log of these settings into the directory `target`, which is made if it isn't there, and syncs each
-** copy. The log doesn't change. `room` gets the paths of the copies, each with its length before it (4 bytes). After
-** DAFIRONDO_ROOM the copies are made all the same.
+/* Copies the files of the log of these settings into the directory `target`, and syncs each copy. It makes the directory: that
+** may not be there yet, and its parent must be. The log doesn't change. `room` gets the paths of the copies, each with its
+** length before it (4 bytes). After DAFIRONDO_ROOM the copies are made all the same.
 **
 ** Fails with DAFIRONDO_INVALID if the settings recycle files (the key `enable-log-recycle`, which is usually true) or
-** tolerate any corruption, or if `target` is in the log's directories or has log files. Fails with DAFIRONDO_CORRUPTION if a
-** file of the log has a wrong name. If it fails later, what was copied stays.
+** tolerate any corruption, or if `target` is in one of the log's directories. Fails with DAFIRONDO_CORRUPTION if a file of the
+** log has a wrong name, and with DAFIRONDO_IO if the directory can't be made or a file can't be copied. What was copied
+** stays.
 */
 int32_t dafirondo_fork(const uint8_t *settings, size_t settings_len, int32_t log_descriptor, const uint8_t *target,
                        size_t target_len, uint8_t *room, size_t room_len, size_t *needed);

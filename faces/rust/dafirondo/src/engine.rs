@@ -106,9 +106,9 @@ impl Engine {
         self.lock().must_purge_all_stale()
     }
 
-    /// Copies the log of these settings, which nobody has open, into a directory, which is made if it isn't there. The log
-    /// doesn't change. Fails with `InvalidArgument` if the settings recycle files or tolerate any corruption, or if the
-    /// target is in the log's directories or has log files.
+    /// Copies the log of these settings, which nobody has open, into a directory, which it makes. The log doesn't change.
+    /// Fails with `InvalidArgument` if the settings recycle files or tolerate any corruption, or if the target is in the
+    /// log's directories. Fails with `Io` if the target is there already.
     pub fn fork<T: AsRef<Path>>(source: &Config, target: T) -> Result<CopyDetails> {
         let target = utf8(target.as_ref())?;
         let copied = raw::fork(&source.to_toml(), source.log_descriptor.unwrap_or(-1), target)?;

@@ -205,7 +205,7 @@ fn compactions_and_purges_free_files() {
 #[test]
 fn each_purge_keeps_what_is_live() {
     let directory = Directory::new();
-    let engine = directory.open();
+    let engine = Engine::open(Config { enable_log_recycle: false, ..directory.config() }).unwrap();
     for index in 1..100 {
         append(&engine, 7, index..index + 1).unwrap();
     }
@@ -242,12 +242,14 @@ fn a_fork_is_the_log() {
     assert_eq!(copied.len(), directory.files(".raftlog") + directory.files(".rewrite"));
     assert!(copied.iter().all(|path| path.exists()), "{copied:?}");
     assert_eq!(fetched(&target.open(), 7, 1, 60, None).unwrap(), entries(1..60));
-    match Engine::fork(&config, &target.0) {
-        Err(Error::InvalidArgument(text)) => assert_eq!(text, "the target holds log files"),
+    assert!(matches!(Engine::fork(&config, &target.0), Err(Error::Io(_))));
+    let inside = directory.0.join("inside");
+    match Engine::fork(&config, &inside) {
+        Err(Error::InvalidArgument(text)) => assert!(text.ends_with("the target is inside the log's own directory"), "{text}"),
         other => panic!("{other:?}"),
     }
     match Engine::fork(&directory.config(), "elsewhere") {
-        Err(Error::InvalidArgument(text)) => assert_eq!(text, "enable_log_recycle should be false"),
+        Err(Error::InvalidArgument(text)) => assert!(text.ends_with("enable_log_recycle should be false"), "{text}"),
         other => panic!("{other:?}"),
     }
     assert!(matches!(Engine::fork(&config, ""), Err(Error::InvalidArgument(_))));

@@ -44,8 +44,10 @@ int main(int argc, char **argv) {
   uint64_t first = 1, last = 0;
   dafirondo_first_index(&log, GROUP, &first);
   dafirondo_last_index(&log, GROUP, &last);
-  status = append(&log, last + 2, "past the end", 1);
-  printf("an entry past the end: %s\n", status == DAFIRONDO_HOLE ? "refused as a hole" : "wrong");
+  if (last) {
+    status = append(&log, last + 2, "past the end", 1);
+    printf("an entry past the end: %s\n", status == DAFIRONDO_HOLE ? "rejected as a hole" : "wrong");
+  }
   char entry[64];
   snprintf(entry, sizeof entry, "entry of run %llu", (unsigned long long)last + 1);
   status = append(&log, last + 1, entry, last + 1);

@@ -132,6 +132,23 @@ int32_t dafirondo_compact_to(dafirondo *log, uint64_t group, uint64_t index, uin
 */
 int32_t dafirondo_purge(dafirondo *log, uint64_t *groups, size_t groups_len, size_t *needed);
 
+/* The three calls below purge regardless of the thresholds. Each syncs Append first, ignores what is pinned, and changes
+** nothing that the log returns. They fail with DAFIRONDO_FAILED, DAFIRONDO_IO, DAFIRONDO_TRY_AGAIN,
+** DAFIRONDO_NUMBER_RANGE or DAFIRONDO_MEMORY.
+**
+** dafirondo_must_rewrite_rewrite_queue() writes what is live in Rewrite there again, and deletes Rewrite's old files.
+**
+** dafirondo_must_rewrite_append_queue() writes what is live in Append's files up to a number, the watermark, to Rewrite, and
+** removes these files. Without `has_watermark`, or if the number is too high, it is that of the last file. With `has_step`
+** it ends after the first step (1: Append is synced and rotated) or the second one (2: all groups are written to Rewrite).
+**
+** dafirondo_must_purge_all_stale() removes all files of both queues that have nothing in use.
+*/
+int32_t dafirondo_must_rewrite_rewrite_queue(dafirondo *log);
+int32_t dafirondo_must_rewrite_append_queue(dafirondo *log, uint64_t watermark, bool has_watermark,
+                                            uint64_t exit_after_step, bool has_step);
+int32_t dafirondo_must_purge_all_stale(dafirondo *log);
+
 /* The index of a group's first or last entry, or DAFIRONDO_NONE. */
 int32_t dafirondo_first_index(dafirondo *log, uint64_t group, uint64_t *index);
 int32_t dafirondo_last_index(dafirondo *log, uint64_t group, uint64_t *index);
@@ -162,6 +179,35 @@ int32_t dafirondo_fetch(dafirondo *log, uint64_t group, uint64_t begin, uint64_t
 int32_t dafirondo_scan(dafirondo *log, uint64_t group, const uint8_t *start, size_t start_len, bool has_start,
                        const uint8_t *end, size_t end_len, bool has_end, bool reverse, uint8_t *room, size_t room_len,
                        size_t *needed, size_t *count);
+
+/* The two calls below are for a log that nobody has open. They take settings and `log_descriptor` as dafirondo_open() does,
+** but make no directory of the log: if one isn't there, or another log uses it, they fail with DAFIRONDO_DIRECTORY. They lock
+** the directories while they run. If they fail, the start of the error's text is put into `room`, and `*needed` is the
+** length of the whole text.
+*/
+
+/* Copies the files of the log of these settings into the directory `target`, and syncs each copy. It makes the directory: that
+** may not be there yet, and its parent must be. The log doesn't change. `room` gets the paths of the copies, each with its
+** length before it (4 bytes). After DAFIRONDO_ROOM the copies are made all the same.
+**
+** Fails with DAFIRONDO_INVALID if the settings recycle files (the key `enable-log-recycle`, which is usually true) or
+** tolerate any corruption, or if `target` is in one of the log's directories. Fails with DAFIRONDO_CORRUPTION if a file of the
+** log has a wrong name, and with DAFIRONDO_IO if the directory can't be made or a file can't be copied. What was copied
+** stays.
+*/
+int32_t dafirondo_fork(const uint8_t *settings, size_t settings_len, int32_t log_descriptor, const uint8_t *target,
+                       size_t target_len, uint8_t *room, size_t room_len, size_t *needed);
+
+/* Checks the log of these settings for holes in its entries. `room` gets 16 bytes for each group that has a hole, in
+** ascending order: the group (8), and the index before its first hole (8). `*needed` is 0 if there is none.
+**
+** Reads the records that an open would read. If the settings tolerate damage, truncates damaged files after their last good
+** record, as an open does; with `recovery-mode = "absolute-consistency"` it truncates none. Fails with
+** DAFIRONDO_CORRUPTION or DAFIRONDO_CODEC on damage that the settings don't tolerate, and with DAFIRONDO_INVALID if a file
+** has padding between its records, as another program may write it: open the log once, which takes the padding out.
+*/
+int32_t dafirondo_check(const uint8_t *settings, size_t settings_len, int32_t log_descriptor, uint8_t *room,
+                        size_t room_len, size_t *needed);
 
 /* Puts the start of the text of the last error of this handle into `text`, and returns the length of the whole text: 0 if no
 ** call failed. The text is UTF-8 and has no 0 at its end.

@@ -1,13 +1,14 @@
 //! The log, shared by threads.
 
+use std::path::{Path, PathBuf};
 use std::sync::{Mutex, MutexGuard};
 
 use crate::batch::LogBatch;
-use crate::config::Config;
-use crate::error::Result;
+use crate::config::{Config, RecoveryMode};
+use crate::error::{Error, Result};
 use crate::group_commit::{GroupCommit, Sink};
 use crate::message::{Message, MessageExt};
-use crate::raw::Handle;
+use crate::raw::{self, Handle};
 
 /// A log that is open. Threads share it by reference.
 ///
@@ -82,6 +83,57 @@ impl Engine {
     /// Purges what is past the thresholds in the settings. Returns the groups that the caller should compact.
     pub fn purge_expired_files(&self) -> Result<Vec<u64>> {
         self.lock().purge()
+    }
+
+    /// Compacts the rewrite queue, whatever its size is.
+    pub fn must_rewrite_rewrite_queue(&self) -> Result<()> {
+        self.lock().must_rewrite_rewrite_queue()
+    }
+
+    /// Rewrites the append queue up to the file with the number `watermark`: at most the last file, which is also the
+    /// default. With `exit_after_step` it ends after the first or the second of three steps: the queue is synced and
+    /// rotated, all groups are written to the rewrite queue, and the files are removed.
+    pub fn must_rewrite_append_queue(
+        &self,
+        watermark: Option<u64>,
+        exit_after_step: Option<u64>,
+    ) -> Result<()> {
+        self.lock().must_rewrite_append_queue(watermark, exit_after_step)
+    }
+
+    /// Removes all files from both queues that have nothing in use.
+    pub fn must_purge_all_stale(&self) -> Result<()> {
+        self.lock().must_purge_all_stale()
+    }
+
+    /// Copies the log of these settings, which nobody has open, into a directory, which it makes. The log doesn't change.
+    /// Fails with `InvalidArgument` if the settings recycle files or tolerate any corruption, or if the target is in the
+    /// log's directories. Fails with `Io` if the target is there already.
+    pub fn fork<T: AsRef<Path>>(source: &Config, target: T) -> Result<CopyDetails> {
+        let target = utf8(target.as_ref())?;
+        let copied = raw::fork(&source.to_toml(), source.log_descriptor.unwrap_or(-1), target)?;
+        let copied = match copied {
+            Some(bytes) => Texts(&bytes).map(|path| String::from_utf8_lossy(path).into_owned().into()).collect(),
+            None => files_in(target)?,
+        };
+        Ok(CopyDetails { copied, symlinked: Vec::new() })
+    }
+
+    /// Checks the log in a directory, which nobody has open, for holes in its entries. Returns each group that has one, and
+    /// the index before its first hole. Truncates damaged files after their last good record, as an open under
+    /// `TolerateAnyCorruption` does. Fails with `InvalidArgument` if there is no such directory.
+    pub fn consistency_check(path: &Path) -> Result<Vec<(u64, u64)>> {
+        if !path.exists() {
+            return Err(Error::InvalidArgument(format!("No such directory: {}", path.display())));
+        }
+        let settings = Config {
+            dir: utf8(path)?.to_owned(),
+            recovery_mode: RecoveryMode::TolerateAnyCorruption,
+            ..Config::default()
+        };
+        let bytes = raw::check(&settings.to_toml(), settings.log_descriptor.unwrap_or(-1))?;
+        let number = |half: &[u8]| u64::from_le_bytes(half.try_into().unwrap_or_default());
+        Ok(bytes.chunks_exact(16).map(|hole| (number(&hole[..8]), number(&hole[8..]))).collect())
     }
 
     /// The index of a group's first entry.
@@ -183,6 +235,27 @@ impl Engine {
     fn lock(&self) -> MutexGuard<'_, Handle> {
         self.handle.lock().unwrap_or_else(|poisoned| poisoned.into_inner())
     }
+}
+
+/// What a fork copied.
+#[derive(Clone, Debug, Default, PartialEq, Eq)]
+pub struct CopyDetails {
+    /// The paths of the copies.
+    pub copied: Vec<PathBuf>,
+    /// Empty: each file is copied.
+    pub symlinked: Vec<PathBuf>,
+}
+
+/// A path as UTF-8. Fails with `InvalidArgument` for another one.
+fn utf8(path: &Path) -> Result<&str> {
+    path.to_str().ok_or_else(|| Error::InvalidArgument(format!("a path that is no UTF-8: {}", path.display())))
+}
+
+/// The paths of the files in a directory.
+fn files_in(directory: &str) -> Result<Vec<PathBuf>> {
+    let listed = || Ok(std::fs::read_dir(directory)?.map(|entry| Ok(entry?.path())).collect::<Vec<_>>());
+    let paths: std::io::Result<Vec<_>> = listed().and_then(|paths| paths.into_iter().collect());
+    paths.map_err(|error| Error::Io(error.to_string()))
 }
 
 /// Texts that follow each other, each with its length before it.

@@ -28,6 +28,6 @@ mod raw;
 
 pub use batch::{Command, LogBatch};
 pub use config::{Config, ReadableSize, RecoveryMode};
-pub use engine::Engine;
+pub use engine::{CopyDetails, Engine};
 pub use error::{Error, Result};
 pub use message::{Message, MessageExt, RawEntries};

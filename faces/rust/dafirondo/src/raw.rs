@@ -33,6 +33,33 @@ extern "C" {
     fn dafirondo_sync(log: *mut Dafirondo) -> i32;
     fn dafirondo_compact_to(log: *mut Dafirondo, group: u64, index: u64, dropped: *mut u64) -> i32;
     fn dafirondo_purge(log: *mut Dafirondo, groups: *mut u64, len: usize, needed: *mut usize) -> i32;
+    fn dafirondo_must_rewrite_rewrite_queue(log: *mut Dafirondo) -> i32;
+    fn dafirondo_must_rewrite_append_queue(
+        log: *mut Dafirondo,
+        watermark: u64,
+        has_watermark: bool,
+        exit_after_step: u64,
+        has_step: bool,
+    ) -> i32;
+    fn dafirondo_must_purge_all_stale(log: *mut Dafirondo) -> i32;
+    fn dafirondo_fork(
+        settings: *const u8,
+        settings_len: usize,
+        log_descriptor: i32,
+        target: *const u8,
+        target_len: usize,
+        room: *mut u8,
+        room_len: usize,
+        needed: *mut usize,
+    ) -> i32;
+    fn dafirondo_check(
+        settings: *const u8,
+        settings_len: usize,
+        log_descriptor: i32,
+        room: *mut u8,
+        room_len: usize,
+        needed: *mut usize,
+    ) -> i32;
     fn dafirondo_first_index(log: *mut Dafirondo, group: u64, index: *mut u64) -> i32;
     fn dafirondo_last_index(log: *mut Dafirondo, group: u64, index: *mut u64) -> i32;
     fn dafirondo_groups(log: *mut Dafirondo, groups: *mut u64, len: usize, needed: *mut usize) -> i32;
@@ -190,6 +217,37 @@ impl Handle {
         Ok(self.groups[..needed].to_vec())
     }
 
+    /// Compacts the rewrite queue, whatever its size is.
+    pub fn must_rewrite_rewrite_queue(&mut self) -> Result<()> {
+        let status = unsafe { dafirondo_must_rewrite_rewrite_queue(&mut self.log) };
+        self.done(status)
+    }
+
+    /// Rewrites the append queue up to a file, or does the first steps of that.
+    pub fn must_rewrite_append_queue(
+        &mut self,
+        watermark: Option<u64>,
+        exit_after_step: Option<u64>,
+    ) -> Result<()> {
+        let (number, step) = (watermark.unwrap_or_default(), exit_after_step.unwrap_or_default());
+        let status = unsafe {
+            dafirondo_must_rewrite_append_queue(
+                &mut self.log,
+                number,
+                watermark.is_some(),
+                step,
+                exit_after_step.is_some(),
+            )
+        };
+        self.done(status)
+    }
+
+    /// Removes all files from both queues that have nothing in use.
+    pub fn must_purge_all_stale(&mut self) -> Result<()> {
+        let status = unsafe { dafirondo_must_purge_all_stale(&mut self.log) };
+        self.done(status)
+    }
+
     /// The groups in which something is.
     pub fn groups(&mut self) -> Result<Vec<u64>> {
         loop {
@@ -307,6 +365,59 @@ impl Handle {
 impl Drop for Handle {
     fn drop(&mut self) {
         let _ = self.end();
+    }
+}
+
+/// Copies the log of these settings, which nobody has open, into a directory. Returns the paths of the copies, each with
+/// its length before it, or nothing if there are so many that the room was too short: the copies are made all the same.
+pub(crate) fn fork(settings: &str, log_descriptor: i32, target: &str) -> Result<Option<Vec<u8>>> {
+    let mut room = vec![0; 1 << 20];
+    let mut needed = 0;
+    let status = unsafe {
+        dafirondo_fork(
+            settings.as_ptr(),
+            settings.len(),
+            log_descriptor,
+            target.as_ptr(),
+            target.len(),
+            room.as_mut_ptr(),
+            room.len(),
+            &mut needed,
+        )
+    };
+    match status {
+        OK => {
+            room.truncate(needed);
+            Ok(Some(room))
+        }
+        ROOM => Ok(None),
+        status => Err(Error::of(status, || text_of(&room, needed))),
+    }
+}
+
+/// Checks the log of these settings, which nobody has open, for holes. Returns 16 bytes for each group that has one.
+pub(crate) fn check(settings: &str, log_descriptor: i32) -> Result<Vec<u8>> {
+    let mut room = vec![0; 4096];
+    loop {
+        let mut needed = 0;
+        let status = unsafe {
+            dafirondo_check(
+                settings.as_ptr(),
+                settings.len(),
+                log_descriptor,
+                room.as_mut_ptr(),
+                room.len(),
+                &mut needed,
+            )
+        };
+        match status {
+            OK => {
+                room.truncate(needed);
+                return Ok(room);
+            }
+            ROOM => room.resize(needed, 0),
+            status => return Err(Error::of(status, || text_of(&room, needed))),
+        }
     }
 }
 

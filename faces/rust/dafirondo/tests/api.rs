@@ -1,7 +1,9 @@
 //! The public calls of raft-engine 0.4.2 that this crate has, each with the types that its documentation gives. A call
 //! whose result or parameters differ is in a function of its own, and in the table of docs/RUST_AND_C.md.
 
-use dafirondo::{Command, Config, Engine, LogBatch, Message, MessageExt, ReadableSize, RecoveryMode, Result};
+use std::path::Path;
+
+use dafirondo::{Command, Config, CopyDetails, Engine, LogBatch, Message, MessageExt, ReadableSize, RecoveryMode, Result};
 
 type Key<'a> = Option<&'a [u8]>;
 type OnBytes = fn(&[u8], &[u8]) -> bool;
@@ -45,6 +47,7 @@ fn calls_of_an_engine() {
         Engine::fetch_entries_to::<Texts>;
     let _: fn(&Engine) -> Result<Vec<u64>> = Engine::purge_expired_files;
     let _: fn(&Engine) -> &str = Engine::path;
+    let _: fn(&Path) -> Result<Vec<(u64, u64)>> = Engine::consistency_check;
 }
 
 #[test]
@@ -93,4 +96,13 @@ fn calls_with_a_result() {
     let _: fn(&Engine, u64, u64) -> Result<u64> = Engine::compact_to;
     let _: fn(&Engine) -> Result<Vec<u64>> = Engine::raft_groups;
     let _: fn(&Engine) -> Result<bool> = Engine::is_empty;
+}
+
+/// In raft-engine a fork also takes a file system, and its error is a text. The other purges are calls of its purge manager.
+#[test]
+fn calls_with_other_parameters() {
+    let _: fn(&Config, &'static str) -> Result<CopyDetails> = Engine::fork::<&'static str>;
+    let _: fn(&Engine, Option<u64>, Option<u64>) -> Result<()> = Engine::must_rewrite_append_queue;
+    let _: fn(&Engine) -> Result<()> = Engine::must_rewrite_rewrite_queue;
+    let _: fn(&Engine) -> Result<()> = Engine::must_purge_all_stale;
 }

@@ -31,6 +31,12 @@ impl Directory {
     fn open(&self) -> Engine {
         Engine::open(self.config()).unwrap()
     }
+
+    /// How many of its files have names with this ending.
+    fn files(&self, ending: &str) -> usize {
+        let names = std::fs::read_dir(&self.0).unwrap().map(|entry| entry.unwrap().file_name());
+        names.filter(|name| name.to_str().unwrap().ends_with(ending)).count()
+    }
 }
 
 impl Drop for Directory {
@@ -194,6 +200,78 @@ fn compactions_and_purges_free_files() {
     engine.write(&mut batch, true).unwrap();
     assert!(engine.is_empty().unwrap());
     assert!(before > 4, "{before}");
+}
+
+#[test]
+fn each_purge_keeps_what_is_live() {
+    let directory = Directory::new();
+    let engine = Engine::open(Config { enable_log_recycle: false, ..directory.config() }).unwrap();
+    for index in 1..100 {
+        append(&engine, 7, index..index + 1).unwrap();
+    }
+    engine.compact_to(7, 90).unwrap();
+    engine.must_rewrite_append_queue(Some(3), Some(1)).unwrap();
+    engine.must_rewrite_append_queue(Some(3), Some(2)).unwrap();
+    let rotated = directory.files(".raftlog");
+    engine.must_rewrite_append_queue(None, None).unwrap();
+    assert!(directory.files(".raftlog") < rotated, "{rotated}");
+    assert!(directory.files(".rewrite") > 0);
+    engine.must_rewrite_rewrite_queue().unwrap();
+    assert_eq!(fetched(&engine, 7, 90, 100, None).unwrap(), entries(90..100));
+    let mut batch = LogBatch::default();
+    batch.add_command(7, Command::Clean);
+    engine.write(&mut batch, true).unwrap();
+    engine.must_purge_all_stale().unwrap();
+    assert_eq!(directory.files(".raftlog") + directory.files(".rewrite"), 2);
+    engine.close().unwrap();
+    assert!(directory.open().is_empty().unwrap());
+}
+
+#[test]
+fn a_fork_is_the_log() {
+    let (directory, target) = (Directory::new(), Directory::new());
+    let config = Config { enable_log_recycle: false, ..directory.config() };
+    let engine = Engine::open(config.clone()).unwrap();
+    append(&engine, 7, 1..60).unwrap();
+    match Engine::fork(&config, &target.0) {
+        Err(Error::Directory(text)) => assert!(text.ends_with("is in use by another log"), "{text}"),
+        other => panic!("{other:?}"),
+    }
+    engine.close().unwrap();
+    let copied = Engine::fork(&config, &target.0).unwrap().copied;
+    assert_eq!(copied.len(), directory.files(".raftlog") + directory.files(".rewrite"));
+    assert!(copied.iter().all(|path| path.exists()), "{copied:?}");
+    assert_eq!(fetched(&target.open(), 7, 1, 60, None).unwrap(), entries(1..60));
+    assert!(matches!(Engine::fork(&config, &target.0), Err(Error::Io(_))));
+    let inside = directory.0.join("inside");
+    match Engine::fork(&config, &inside) {
+        Err(Error::InvalidArgument(text)) => assert!(text.ends_with("the target is inside the log's own directory"), "{text}"),
+        other => panic!("{other:?}"),
+    }
+    match Engine::fork(&directory.config(), "elsewhere") {
+        Err(Error::InvalidArgument(text)) => assert!(text.ends_with("enable_log_recycle should be false"), "{text}"),
+        other => panic!("{other:?}"),
+    }
+    assert!(matches!(Engine::fork(&config, ""), Err(Error::InvalidArgument(_))));
+    assert!(matches!(Engine::fork(&Directory::new().config(), "elsewhere"), Err(Error::Directory(_))));
+}
+
+#[test]
+fn holes_are_found() {
+    let directory = Directory::new();
+    assert!(matches!(Engine::consistency_check(&directory.0), Err(Error::InvalidArgument(_))));
+    let engine = directory.open();
+    append(&engine, 7, 1..11).unwrap();
+    append(&engine, 9, 5..6).unwrap();
+    append(&engine, 8, 1..3).unwrap();
+    assert!(matches!(Engine::consistency_check(&directory.0), Err(Error::Directory(_))));
+    for (group, first) in [(7, 15), (9, 8)] {
+        engine.compact_to(group, first).unwrap();
+        append(&engine, group, first..first + 1).unwrap();
+    }
+    engine.close().unwrap();
+    assert_eq!(Engine::consistency_check(&directory.0), Ok(vec![(7, 10), (9, 5)]));
+    assert_eq!(directory.open().last_index(7), Ok(Some(15)));
 }
 
 #[test]

@@ -13,7 +13,7 @@ returns-in-Ok g c =
     let old = c.args.self in
     let to = c.in_directory-config.result in
     let new = c.fork.new.file_system in
-    let forks = subst (λ (target : List ℕ). Forks (settings_of old.config) target _ (disk_of old.files) (disk_of new)) c.as_str.ensures c.in-Ok.ensures.ok in
+    let forks = subst (λ (target : List ℕ). Forks (settings_of old.config) target _ (disk_of old.files) (disk_of new)) c.as_str.ensures.value c.in-Ok.ensures.ok in
     fork_closed old.config to (disk_of old.files) (disk_of new) c.args.target Done
     (λ apart. (c.copies_follow_the_model.ensures old.config c.args.target old.files new).done to _ c.in_directory-config.ensures apart forks)
 
@@ -21,6 +21,6 @@ pub returns-in-Err : goal.returns-in-Err
 returns-in-Err g c =
     let old = c.args.self in
     let new = c.fork.new.file_system in
-    let fails = subst (λ (target : List ℕ). FailsToFork (settings_of old.config) target _ (disk_of old.files) (disk_of new)) c.as_str.ensures c.in-Err.ensures.err in
+    let fails = subst (λ (target : List ℕ). FailsToFork (settings_of old.config) target _ (disk_of old.files) (disk_of new)) c.as_str.ensures.value c.in-Err.ensures.err in
     fork_closed old.config old.config (disk_of old.files) (disk_of new) c.args.target Refused
     (λ apart. (c.copies_follow_the_model.ensures old.config c.args.target old.files new).refused _ fails)

@@ -27,8 +27,7 @@ BOXES = [
      ["store", "recovery", "durability_laws", "records"], "RoundIsAnswered, CutsRoundOff"),
     (718, 142, 346, 180, "#ffffff", "Programs on a log", "over an engine, in memory or in a directory", "raft_log_",
      [("ctl", "dump, check, stat, fork, unpad"), ("operator", "its library"),
-      ("ten_lines", "saves a key, and reads it"), ("append_lines", "keeps lines of input"),
-      ("node_storage", "a Raft node's storage"), ("world_engine", "the engine in world's runs"),
+      ("examples", "a key, lines, a Raft node's storage"), ("world_engine", "the engine in world's runs"),
       ("session", "texts of sessions")], ""),
     (16, 330, 180, 434, "#ece6f8", "Voter", "the receiver of Raft", "raft_",
      ["voter", "voter_outline", "voter_messages", "voter_plain", "voter_group_laws"], "Voter::step, judge, one_vote_per_term,"

@@ -1,4 +1,4 @@
-"""The program `raft_log_append_lines`: a log to which each line of its input is appended, and answered once it is durable.
+"""The example `append-lines` of the program `raft_log_examples`: a log to which each line of its input is appended, and answered once it is durable.
 
 A state is the list of the lines that stand. A plan is the list of lines that are sent.
 """
@@ -15,7 +15,7 @@ def settings(_random):
 class Appender:
     """What is asked of the program, and what is right."""
 
-    name = "raft_log_append_lines"
+    name = "raft_log_examples"
     # A refused line ends it, with status 1.
     ends_at_a_refusal = True
 
@@ -24,7 +24,7 @@ class Appender:
 
     def words(self, _settings_path):
         """The command that runs it."""
-        return self.program + ["log"]
+        return self.program + ["append-lines", "log"]
 
     def fresh(self):
         """What stands where nothing was done."""

@@ -2,7 +2,7 @@
 ghost use Rattle.std.specs.Prelude.{OnOk};
 ghost use Rattle.raft_log_engine.specs.raft_log_engine_core.specs.Reads.{shows_of};
 ghost use Rattle.raft_log_engine.specs.raft_log_record_batches.specs.Entries.{indexes_of, slices_bytes};
-ghost use Rattle.raft_log_node_storage.specs.Storing.{StoresTogether};
+ghost use Rattle.raft_log_examples.specs.Storing.{StoresTogether};
 
 use crate::stored::{Base, HardState, encode_numbers, split_number};
 use log::Log;

@@ -1,5 +1,5 @@
-use Rattle.raft_log_ten_lines.proofs.Saved.{of_ok, only_put, saves_in_log, users_key}
-use Rattle.raft_log_ten_lines.proofs.saving.save_in_log.Goals as goal
+use Rattle.raft_log_examples.proofs.Saved.{of_ok, only_put, saves_in_log, users_key}
+use Rattle.raft_log_examples.proofs.saving.save_in_log.Goals as goal
 
 pub returns : goal.returns
 returns g c =

@@ -1,11 +1,12 @@
 //! Saves a key's value in a log, and reads it back.
 
 ghost use Rattle.std.specs.Prelude.{IfOk, option_map};
-ghost use Rattle.raft_log_ten_lines.specs.Saving.{SavesInLog};
+ghost use Rattle.raft_log_examples.specs.Saving.{SavesInLog};
 
 use log::Log;
 use raft_log_engine::{Config, Engine, FileSystem, LogBatch, Result};
 use std::alloc::Global;
+use std::io::Print;
 use std::thread::Threads;
 
 /// Opens the log of these settings, saves a group's key in it, reads the key back, and closes the log, which is durable
@@ -33,4 +34,18 @@ pub fn save_in_log<R: Threads + Log + Sync, F: FileSystem + Sync + Drop>(
     let closed = engine.close(rt);
     closed.result?;
     Ok((found, closed.files))
+}
+
+/// Saves a key's value in the log in a directory, over these files, and prints what is then read of the key.
+pub fn save_and_print<R: Threads + Log + Sync + Print + AllocGlobal, F: FileSystem + Sync + Drop>(
+    rt: &R,
+    directory: &str,
+    files: F,
+) -> anyhow::Result<()> {
+    let dir = String::from_str(rt.alloc(), directory)?;
+    let mut config = Config::default(rt.alloc());
+    config.dir = dir;
+    let (found, _files) = save_in_log(rt, rt.alloc(), config, files, 1, b"key", b"value")?;
+    println!(rt; "group 1, key: {found:?}")?;
+    Ok(())
 }

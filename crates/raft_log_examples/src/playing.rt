@@ -160,8 +160,8 @@ fn open_and_live<R: Threads + Log + Sync + Print + AllocGlobal, F: FileSystem + 
     Ok(closed.files)
 }
 
-/// Plays the life of a node on the log in a directory, over these files.
-pub fn play<R: Threads + Log + Sync + Print + AllocGlobal, F: FileSystem + Sync + Drop>(
+/// Plays the life of a node on the log in a directory, over these files. The log is opened twice.
+pub fn live_twice<R: Threads + Log + Sync + Print + AllocGlobal, F: FileSystem + Sync + Drop>(
     rt: &R,
     directory: &str,
     files: F,

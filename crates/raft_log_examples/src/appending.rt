@@ -1,7 +1,7 @@
 //! Appends a line to a log.
 ghost use Rattle.std.specs.Prelude.{IfOk};
 ghost use Rattle.raft_log_engine.specs.raft_log_engine_core.specs.Reads.{shows_of};
-ghost use Rattle.raft_log_append_lines.specs.Appending.{AppendsLine};
+ghost use Rattle.raft_log_examples.specs.Appending.{AppendsLine};
 
 use log::Log;
 use raft_log_engine::{EntryIndex, LogBatch, LogEngine, PipeLog, Result};

@@ -30,7 +30,7 @@ use Rattle.raft_log_engine.specs.raft_log_engine_laws.specs.Holding.{Represents}
 use Rattle.raft_log_engine.specs.raft_log_engine_laws.specs.Reading.{ReadsValue}
 use Rattle.raft_log_engine.specs.raft_log_engine_laws.specs.Writing.{Writes, WritesBytes}
 use Rattle.raft_log_engine.specs.raft_log_open.specs.Opening.{OpensDirectory}
-use Rattle.raft_log_ten_lines.specs.Saving.{SavesInLog}
+use Rattle.raft_log_examples.specs.Saving.{SavesInLog}
 
 -- a key that a batch took isn't the log's own
 pub users_key : (k : List ℕ) → (IsTrue (is_internal k) → false ≡ true) → is_internal k ≡ false

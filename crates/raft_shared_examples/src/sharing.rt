@@ -18,7 +18,7 @@ use raft_log_recovery_laws::closed::successful_closes_are_proper;
 use raft_voter::{Request, Round, RoundService};
 use raft_voter_recovery::Unread;
 use raft_voter_shared_log::{FreshHistory, LogStore, Opening, Seat, SharedStore};
-use std::alloc::{AllocError, Global};
+use std::alloc::{AllocError, AllocFailed, Global};
 use std::sync::Wait;
 use std::sync::ledger::Blank;
 use std::thread;
@@ -42,6 +42,12 @@ pub enum Ended {
 
 impl From<AllocError> for Ended {
     fn from(_refused: AllocError) -> Ended {
+        Ended::Memory
+    }
+}
+
+impl<T: Drop> From<AllocFailed<T>> for Ended {
+    fn from(_refused: AllocFailed<T>) -> Ended {
         Ended::Memory
     }
 }

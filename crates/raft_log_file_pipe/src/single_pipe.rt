@@ -344,8 +344,7 @@ impl<G: PipeFormat> SinglePipe<G> {
         let Some(handle) = self.files.handle_of(block.id.seq) else {
             return Err(unlisted(alloc, block.id.seq));
         };
-        let mut receipts = Receipt::none();
-        LogFileReader::open(handle).read(alloc, file_system, block, &mut receipts)
+        LogFileReader::open(handle).read(alloc, file_system, block, &mut Receipt::none())
     }
 
     /// Replaces the contents of `bytes` with the bytes at a location; fewer if the file ends first. Fails with
@@ -364,8 +363,7 @@ impl<G: PipeFormat> SinglePipe<G> {
         let Some(handle) = self.files.handle_of(block.id.seq) else {
             return Err(unlisted(alloc, block.id.seq));
         };
-        let mut receipts = Receipt::none();
-        LogFileReader::open(handle).read_over(file_system, block, bytes, &mut receipts)
+        LogFileReader::open(handle).read_over(file_system, block, bytes, &mut Receipt::none())
     }
 }
 

@@ -17,8 +17,6 @@ pub mod example;
 pub mod file_system;
 pub mod files;
 pub mod images;
-#[cfg(test)]
-mod laws_at_numbers;
 pub mod log;
 pub mod machine;
 pub mod model;

@@ -5,6 +5,8 @@
 #[cfg(test)]
 mod directory_laws;
 #[cfg(test)]
+mod machine_laws;
+#[cfg(test)]
 mod model_laws;
 #[cfg(test)]
 mod short_memory_of_files;

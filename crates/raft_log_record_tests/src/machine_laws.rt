@@ -1,5 +1,7 @@
-//! Each law once, at a concrete type of content: numbers for entries and for values.
-use crate::{example, files, images, machine, purge, replay, survival, wrong_rules};
+//! Each law of the log's machine once, at a concrete type of content: numbers for entries and for values.
+use raft_log_machine_laws::{
+    example, files, images, machine, purge, replay, survival, wrong_rules,
+};
 
 #[test]
 fn laws_of_survival() {

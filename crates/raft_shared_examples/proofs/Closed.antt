@@ -15,8 +15,8 @@ use Rattle.raft_voter.specs.Service.{IsOpenAt}
 use Rattle.raft_voter_shared.specs.Journal.{IsLegal, reached}
 use Rattle.raft_voter_shared_log.specs.LogOpenings.{log_service}
 use Rattle.raft_voter_shared_log.specs.declared.store.LogStore.{LogStore}
-use Rattle.raft_shared_examples.specs.Sharing.{ClosesWell, IsSettledWhole, SharesAndCloses}
-use Rattle.raft_shared_examples.specs.declared.sharing.Shared.{Shared}
+use Rattle.raft_shared_examples.specs.Sharing.{ClosesWell, IsSettledFrom, SharesAndCloses}
+use Rattle.raft_shared_examples.specs.declared.lives.Shared.{Shared}
 
 -- an engine whose close succeeds hadn't failed
 alive : (failed : Bool) (result : Result (Unit {0}) Error) (answer : Unit {0}) → result ≡ Ok answer → (IsTrue failed → result ≡ Err errors.Failed) → failed ≡ false
@@ -30,13 +30,13 @@ closes_well proper s result answer d is fails closes =
     let runs = alive (has_failed s) result answer is (λ failed. fails.0 failed) in
     (runs, proper s.pipes d (subst (λ (r : Result (Unit {0}) Error). ClosesAs s.pipes r d) is (closes runs)))
 
-module _ {F : Type 0} (disk : F → Disk) (shows : LogStore F → EngineState) (served : World → Type 0) (old settled : LogStore F) (journal : List Round) (shared : Shared F) where
-  pub shares : ((W : World) → served W ↔ ∥ IsOpenAt (log_service shows) old W ∥₁) → IsSettledWhole (log_service shows) served settled journal → IsSound (shows settled).pipes.disk → ClosesWell (shows settled) (disk shared.files)
-      → shared.config ≡ settled.config → shared.journal.items ≡ journal → SharesAndCloses disk shows old shared
-  shares serves whole sound closes config same = record {
-    legal = λ W at. subst (λ (rounds : List Round). IsLegal W rounds) (sym same) (whole.legal W ((serves W).1 ∣ at ∣₁));
+module _ {F : Type 0} (disk : F → Disk) (shows : LogStore F → EngineState) (old settled : LogStore F) (journal : List Round) (shared : Shared F) where
+  pub shares : IsSettledFrom (log_service shows) old settled journal → IsSound (shows settled).pipes.disk → ClosesWell (shows settled) (disk shared.files) → shared.config ≡ settled.config → shared.journal.items ≡ journal
+      → SharesAndCloses disk shows old shared
+  shares from sound closes config same = record {
+    legal = λ W at. subst (λ (rounds : List Round). IsLegal W rounds) (sym same) (from.legal W at);
     settled = settled;
-    serves = λ W at. subst (λ (rounds : List Round). ∥ IsOpenAt (log_service shows) settled (reached W rounds) ∥₁) (sym same) (whole.serves W ((serves W).1 ∣ at ∣₁) closes.0);
+    serves = λ W at. subst (λ (rounds : List Round). ∥ IsOpenAt (log_service shows) settled (reached W rounds) ∥₁) (sym same) (from.serves W at closes.0);
     named = ap home_of config;
     sound = sound;
     closes = closes.1;

@@ -34,7 +34,7 @@ use Rattle.raft_voter_shared_log.specs.LogOpenings.{log_service}
 use Rattle.raft_voter_shared_log.specs.declared.store.LogStore.{LogStore}
 use Rattle.raft_shared_examples.specs.Lives.{ListsFound, LivesShared, ShowsFirstLife}
 use Rattle.raft_shared_examples.specs.Sharing.{SharesAndCloses}
-use Rattle.raft_shared_examples.specs.declared.sharing.Shared.{Shared}
+use Rattle.raft_shared_examples.specs.declared.lives.Shared.{Shared}
 
 -- A legal journal, with no failure noted, leads to the voters after it. The cut of each round without replies is 0.
 journal_leads : OpeningsLead → (W : World) (journal : List Round) → IsLegal W journal → Leads W journal (untaken journal) (reached W journal)

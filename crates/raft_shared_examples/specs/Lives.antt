@@ -15,7 +15,7 @@ use Rattle.raft_voter_shared.specs.Openings.{untaken}
 use Rattle.raft_voter_shared_log.specs.Opening.{OpensStore}
 use Rattle.raft_voter_shared_log.specs.declared.store.LogStore.{LogStore}
 use Rattle.raft_shared_examples.specs.Sharing.{SharesAndCloses}
-use Rattle.raft_shared_examples.specs.declared.sharing.Shared.{Shared}
+use Rattle.raft_shared_examples.specs.declared.lives.Shared.{Shared}
 
 -- A store was opened with the settings `config` from the files `old`. Then it was shared and closed.
 pub record LivesShared {F : Type 0} (disk : F → Disk) (tells : F → List ℕ → ℕ → Type 0)

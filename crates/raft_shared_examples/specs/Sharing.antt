@@ -11,7 +11,7 @@ use Rattle.raft_voter.specs.Service.{IsOpenAt, Service}
 use Rattle.raft_voter_shared.specs.Journal.{IsLegal, reached}
 use Rattle.raft_voter_shared_log.specs.LogOpenings.{log_service}
 use Rattle.raft_voter_shared_log.specs.declared.store.LogStore.{LogStore}
-use Rattle.raft_shared_examples.specs.declared.sharing.Shared.{Shared}
+use Rattle.raft_shared_examples.specs.declared.lives.Shared.{Shared}
 
 -- A store was settled, and the journal has the records of all its rounds. It served voters of `served` when it was
 -- shared.
@@ -21,6 +21,13 @@ pub record IsSettledWhole {S : Type 0} (v : Service S) (served : World → Type 
     : Type 0 where
   pub legal : (W : World) → served W → IsLegal W journal
   pub serves : (W : World) → served W → v.is_failed store ≡ false → ∥ IsOpenAt v store (reached W journal) ∥₁
+
+-- Store `old` was shared, and `new` is the settled store, with this journal of all its rounds.
+-- - `legal`: the journal is legal, starting with voters that `old` served.
+-- - `serves`: unless `new` has failed, it serves the voters after the journal.
+pub record IsSettledFrom {S : Type 0} (v : Service S) (old new : S) (journal : List Round) : Type 0 where
+  pub legal : (W : World) → IsOpenAt v old W → IsLegal W journal
+  pub serves : (W : World) → IsOpenAt v old W → v.is_failed new ≡ false → ∥ IsOpenAt v new (reached W journal) ∥₁
 
 -- the engine hadn't failed, and its log was closed properly
 abbrev pub ClosesWell : EngineState → Disk → Type 0

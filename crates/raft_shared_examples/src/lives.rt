@@ -1,21 +1,40 @@
-//! The lives of a store: one in which two threads share it, and one in which its voters are listed.
+//! The lives of a store on a log: one in which two threads share it, and one in which its voters are listed.
 
 ghost use Rattle.std.specs.Prelude.{◌≡◌, IfOk};
 ghost use Rattle.raft_log_engine.specs.raft_log_engine_core.specs.Reads.{shows_of};
 ghost use Rattle.raft_shared_examples.specs.Seats.{AreServed};
 ghost use Rattle.raft_shared_examples.specs.Lives.{ListsFound, LivesShared};
+ghost use Rattle.raft_shared_examples.specs.Sharing.{ClosesWell};
 
-use crate::sharing::{Ended, Quiet, Shared, share_and_close};
-use log::Log;
+use crate::sharing::{Ended, Settled, share_store};
+use log::sink::Discard;
+use log::{Log, Logged};
 use raft_log_engine::{Config, EnginePipes, FileSystem, Nobody, PipeLog};
-use raft_voter::{Request, Voter};
-use raft_voter_shared_log::{FreshHistory, LogStore};
+use raft_log_recovery_laws::closed::successful_closes_are_proper;
+use raft_voter::{Request, Round, Voter};
+use raft_voter_shared_log::LogStore;
 use raft_voter_store::{StoreRefused, VoterStore};
 use std::alloc::Global;
-use std::marker::Brand;
 use std::sync::Wait;
-use std::sync::ledger::Blank;
 use std::thread::Threads;
+
+/// A runtime that logs nothing.
+pub type Quiet<'a, R> = Logged<&'a R, Discard>;
+
+/// What is left of a store that two threads shared, after its log was closed.
+#[derive(Drop)]
+pub struct Shared<F> {
+    /// Its settings.
+    pub config: Config,
+    /// The file system.
+    pub files: F,
+    /// The records of all rounds, in the order in which they were served.
+    pub journal: Vec<Round>,
+    /// The place of the first thread's record, if its round got replies.
+    pub first: Option<usize>,
+    /// The place of the second thread's record, if its round got replies.
+    pub second: Option<usize>,
+}
 
 /// Opens the store of these settings. Two threads share it, and each serves a round. Then the store is settled, and its
 /// log is closed. Returns the journal of the store, and the file system, if the close succeeds.
@@ -41,8 +60,41 @@ pub fn live<'a, R: Threads + Wait + Send + Sync, F: FileSystem + Send + Sync + D
             },
         ) => return Err(Ended::Unread(cause)),
     };
-    let fresh = FreshHistory::new(alloc)?;
-    share_and_close::<R, F, Brand>(rt, alloc, store, Blank::new(1024), fresh, one, other)
+    let settled = share_store(rt, alloc, store, one, other)?;
+    close(rt, settled)
+}
+
+/// Closes the log of a settled store.
+fn close<R: Log, F: FileSystem + Sync + Drop>(
+    rt: &R,
+    settled: Settled<LogStore<F>>,
+) -> Result<Shared<F>, Ended>
+    ensures closes { IfOk result (λ shared.
+        ClosesWell (shows_of ⟦<EnginePipes<F, Nobody> as PipeLog>⟧.shown settled.store.store.engine)
+        (F.disk shared.files)) }
+    ensures config { IfOk result (λ shared. shared.config ≡ settled.store.config) }
+    ensures journal { IfOk result (λ shared. shared.journal.items ≡ settled.journal.items) }
+    ensures places { IfOk result (λ shared.
+        (shared.first ≡ settled.first) × (shared.second ≡ settled.second)) }
+{
+    successful_closes_are_proper();
+    let Settled {
+        store: LogStore { config, store },
+        journal,
+        first,
+        second,
+    } = settled;
+    let closed = store.close(rt);
+    match closed.result {
+        Ok(()) => Ok(Shared {
+            config,
+            files: closed.files,
+            journal,
+            first,
+            second,
+        }),
+        Err(error) => Err(Ended::Close(error)),
+    }
 }
 
 /// Opens the store of these settings, and returns its voters: each group that has taken a request, with its voter.

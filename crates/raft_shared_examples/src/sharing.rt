@@ -1,31 +1,25 @@
-//! A store of voters that two threads share. It is settled and closed.
+//! A store of voters that two threads share, and that is then settled.
 
 ghost use Rattle.std.specs.Prelude.{◌≡◌, ◌↔◌, ◌++◌, IfOk};
 ghost use Rattle.std.specs.Thread.{IsSync};
-ghost use Rattle.raft_log_engine.specs.raft_log_engine_core.specs.Reads.{shows_of};
 ghost use Rattle.raft_voter.specs.Rounds.{World};
 ghost use Rattle.raft_voter.specs.Service.{IsOpenAt};
 ghost use Rattle.raft_voter_history.specs.Names.{id_of};
 ghost use Rattle.raft_voter_shared.specs.Receipts.{AllRight};
 ghost use Rattle.raft_shared_examples.specs.Seats.{place_in, receipts_in, AreServed, IsReceiptOf};
-ghost use Rattle.raft_shared_examples.specs.Sharing.{ClosesWell, IsSettledWhole, SharesAndCloses};
+ghost use Rattle.raft_shared_examples.specs.Sharing.{IsSettledFrom, IsSettledWhole};
 
 use crate::seats::{Served, add_receipt, serve_round};
-use log::sink::Discard;
-use log::{Log, Logged};
-use raft_log_engine::{Config, EnginePipes, Error, FileSystem, Nobody, PipeLog};
-use raft_log_recovery_laws::closed::successful_closes_are_proper;
+use raft_log_engine::Error;
 use raft_voter::{Request, Round, RoundService};
 use raft_voter_recovery::Unread;
-use raft_voter_shared_log::{FreshHistory, LogStore, Opening, Seat, SharedStore};
+use raft_voter_shared_log::{FreshHistory, Opening, Seat, SharedStore};
 use std::alloc::{AllocError, AllocFailed, Global};
+use std::marker::Brand;
 use std::sync::Wait;
 use std::sync::ledger::Blank;
 use std::thread;
 use std::thread::Threads;
-
-/// A runtime that logs nothing.
-pub type Quiet<'a, R> = Logged<&'a R, Discard>;
 
 /// Why a shared store didn't live its life to the end.
 #[derive(Drop)]
@@ -52,13 +46,11 @@ impl<T: Drop> From<AllocFailed<T>> for Ended {
     }
 }
 
-/// A store that two threads shared, after its log was closed.
+/// A settled store, with the records of all its rounds, and the places of two of them.
 #[derive(Drop)]
-pub struct Shared<F> {
-    /// Its settings.
-    pub config: Config,
-    /// The file system.
-    pub files: F,
+pub struct Settled<S> {
+    /// The store.
+    pub store: S,
     /// The records of all rounds, in the order in which they were served.
     pub journal: Vec<Round>,
     /// The place of the first thread's record, if its round got replies.
@@ -67,60 +59,64 @@ pub struct Shared<F> {
     pub second: Option<usize>,
 }
 
-/// A settled store with the records of all its rounds, and the places of two of them.
-#[derive(Drop)]
-struct SettledWhole<S> {
+/// Two threads share a store of voters, and each serves a round. Then the store is settled.
+pub fn share_store<R: Threads + Wait + Send + Sync, S: RoundService<R> + Send + Sync + Drop>(
+    rt: &R,
+    alloc: Global,
     store: S,
-    journal: Vec<Round>,
-    first: Option<usize>,
-    second: Option<usize>,
+    one: &[(u64, Request)],
+    other: &[(u64, Request)],
+) -> Result<Settled<S>, Ended>
+    ensures settled { IfOk result (λ settled.
+        IsSettledFrom S.service store settled.store settled.journal.items) }
+    ensures served { IfOk result (λ settled.
+        AreServed settled.journal.items one.now settled.first other.now settled.second) }
+{
+    let fresh = FreshHistory::new(alloc)?;
+    share_among::<R, S, Brand>(rt, alloc, store, Blank::new(1024), fresh, one, other)
 }
 
-/// Two threads share a store of voters, and each serves a round. Then the store is settled, and its log is closed. It
-/// served the voters of a world when it was shared if and only if the opening says so.
-pub fn share_and_close<
-    'a,
+/// The same for a named opening, which serves exactly the voters that the store serves.
+fn share_among<
     R: Threads + Wait + Send + Sync,
-    F: FileSystem + Send + Sync + Drop,
+    S: RoundService<R> + Send + Sync + Drop,
     L: Opening + Send + Sync,
 >(
-    rt: &Quiet<'a, R>,
+    rt: &R,
     alloc: Global,
-    store: LogStore<F>,
+    store: S,
     blank: Blank,
     fresh: FreshHistory,
     one: &[(u64, Request)],
     other: &[(u64, Request)],
-) -> Result<Shared<F>, Ended>
+) -> Result<Settled<S>, Ended>
     requires name { (blank.name ≡ L.name) × (id_of fresh ≡ L.history) }
     requires parts { (blank.parts ≡ 1024) × (L.parts ≡ 1024) × (L.all ≡ 1024) }
-    requires served { (W : World) → L.served W
-        ↔ ∥ IsOpenAt ⟦<LogStore<F> as RoundService<Quiet<'a, R>>>⟧.service store W ∥₁ }
-    requires failed { L.had_failed ≡ ⟦<LogStore<F> as RoundService<Quiet<'a, R>>>⟧.service.is_failed store }
-    ensures ok { IfOk result (λ shared. SharesAndCloses F.disk
-        (λ store. shows_of ⟦<EnginePipes<F, Nobody> as PipeLog>⟧.shown store.store.engine) store shared) }
-    ensures served { IfOk result (λ shared.
-        AreServed shared.journal.items one.now shared.first other.now shared.second) }
+    requires served { (W : World) → L.served W ↔ ∥ IsOpenAt S.service store W ∥₁ }
+    requires failed { L.had_failed ≡ S.service.is_failed store }
+    ensures settled { IfOk result (λ settled.
+        IsSettledFrom S.service store settled.store settled.journal.items) }
+    ensures served { IfOk result (λ settled.
+        AreServed settled.journal.items one.now settled.first other.now settled.second) }
 {
-    let (shared, mut first): (SharedStore<Quiet<'a, R>, LogStore<F>, L>, Seat<L>) =
-        SharedStore::with_journal(alloc, store, blank, fresh, 1024);
+    let (shared, mut first): (SharedStore<R, S, L>, Seat<L>) = SharedStore::with_journal(
+        alloc, store, blank, fresh, 1024,
+    );
     let Some(second) = first.split() else {
         return Err(Ended::Unsettled);
     };
     let (one, other) = serve_both(rt, &shared, first, second, one, other);
-    let settled = settle_both(rt, alloc, shared, one, other)?;
-    close(rt, settled)
+    settle_both(rt, alloc, shared, one, other)
 }
 
 /// Two threads serve a round each, at seats of their own.
 fn serve_both<
-    'a,
     R: Threads + Wait + Send + Sync,
-    F: FileSystem + Send + Sync + Drop,
+    S: RoundService<R> + Send + Sync + Drop,
     L: Opening + Send + Sync,
 >(
-    rt: &Quiet<'a, R>,
-    shared: &SharedStore<Quiet<'a, R>, LogStore<F>, L>,
+    rt: &R,
+    shared: &SharedStore<R, S, L>,
     first: Seat<L>,
     second: Seat<L>,
     one: &[(u64, Request)],
@@ -149,7 +145,7 @@ fn settle_both<R: Wait, S: RoundService<R> + Drop, L: Opening>(
     shared: SharedStore<R, S, L>,
     one: Served<L>,
     other: Served<L>,
-) -> Result<SettledWhole<S>, Ended>
+) -> Result<Settled<S>, Ended>
     requires { L.all ≡ L.parts }
     ensures settled { IfOk result (λ whole.
         IsSettledWhole S.service L.served whole.store whole.journal.items) }
@@ -165,45 +161,12 @@ fn settle_both<R: Wait, S: RoundService<R> + Drop, L: Opening>(
     let (receipts, second) = add_receipt(receipts, other.answer)?;
     let taken = shared.none_taken(rt);
     match shared.settle(rt, seats, receipts, taken) {
-        Ok(settled) if settled.first == 0 => Ok(SettledWhole {
+        Ok(settled) if settled.first == 0 => Ok(Settled {
             store: settled.store,
             journal: settled.journal,
             first,
             second,
         }),
         _ => Err(Ended::Unsettled),
-    }
-}
-
-/// Closes the log of a settled store.
-fn close<R: Log, F: FileSystem + Sync + Drop>(
-    rt: &R,
-    settled: SettledWhole<LogStore<F>>,
-) -> Result<Shared<F>, Ended>
-    ensures closes { IfOk result (λ shared.
-        ClosesWell (shows_of ⟦<EnginePipes<F, Nobody> as PipeLog>⟧.shown settled.store.store.engine)
-        (F.disk shared.files)) }
-    ensures config { IfOk result (λ shared. shared.config ≡ settled.store.config) }
-    ensures journal { IfOk result (λ shared. shared.journal ≡ settled.journal) }
-    ensures places { IfOk result (λ shared.
-        (shared.first ≡ settled.first) × (shared.second ≡ settled.second)) }
-{
-    successful_closes_are_proper();
-    let SettledWhole {
-        store: LogStore { config, store },
-        journal,
-        first,
-        second,
-    } = settled;
-    let closed = store.close(rt);
-    match closed.result {
-        Ok(()) => Ok(Shared {
-            config,
-            files: closed.files,
-            journal,
-            first,
-            second,
-        }),
-        Err(error) => Err(Ended::Close(error)),
     }
 }

@@ -6,8 +6,8 @@ ghost use Rattle.raft_log_recovery_laws.specs.Bare.{IsBare};
 ghost use Rattle.raft_shared_examples.specs.Lives.{ShowsFirstLife};
 ghost use Rattle.raft_shared_examples.specs.Seats.{AreServed};
 
-use crate::lives::{list_voters, live};
-use crate::sharing::{Ended, Quiet, Shared};
+use crate::lives::{Quiet, Shared, list_voters, live};
+use crate::sharing::Ended;
 use raft_log_engine::{Config, FileSystem, MemoryFileSystem, Remainder};
 use raft_voter::{Request, Round, Voter};
 use raft_voter_group_laws::laws::each_group_keeps_its_voter;

@@ -317,13 +317,16 @@ impl<R, S: RoundService<R>, L: Opening> Desk<R, S, L> {
 }
 
 impl<R, S: Maintenance<R>, L: Opening> Desk<R, S, L> {
-    ghost use Rattle.raft_voter_shared.specs.Purging.{KeepsServed};
+    ghost use Rattle.std.specs.Prelude.{IfErr, IfOk};
+    ghost use Rattle.raft_voter_shared.specs.Purging.{IsPurge, KeepsServed};
 
     /// Purges the store's files. Returns the groups to compact. Appends nothing to the journal. Whether it succeeds or
     /// fails, no voter changes.
     pub fn maintain(&mut self, rt: &R) -> Result<Vec<u64>, S::Refusal>
         ensures journal { self.new.journal ≡ self.old.journal }
         ensures keeps { KeepsServed S.service self.old.store self.new.store }
+        ensures ok { IfOk result (λ groups. IsPurge S.service L.served (S.purges groups.items)) }
+        ensures err { IfErr result (λ refusal. IsPurge S.service L.served (S.refuses refusal)) }
     {
         let Desk {
             alloc: _,

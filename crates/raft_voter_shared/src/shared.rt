@@ -374,11 +374,15 @@ impl<R, S: RoundService<R>, L: Opening> SharedStore<R, S, L> {
 }
 
 impl<R, S: Maintenance<R>, L: Opening> SharedStore<R, S, L> {
+    ghost use Rattle.raft_voter_shared.specs.Purging.{IsPurge};
+
     /// Purges the store's files while it serves no round. Returns the groups to compact. Records nothing in the journal.
-    /// Whether it succeeds or fails, no voter changes.
+    /// Whether it succeeds or fails, no voter changes. The result is that of a purge of the store, after some rounds.
     pub fn maintain(&self, rt: &R) -> Result<Vec<u64>, S::Refusal>
     where
         R: Wait,
+        ensures ok { IfOk result (λ groups. IsPurge S.service L.served (S.purges groups.items)) }
+        ensures err { IfErr result (λ refusal. IsPurge S.service L.served (S.refuses refusal)) }
     {
         self.desk.lock(rt).maintain(rt)
     }

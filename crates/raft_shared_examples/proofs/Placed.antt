@@ -6,12 +6,12 @@ use Rattle.std.proofs.lemmas.Bool.Decides.{nat_tests}
 use Rattle.raft_voter_messages.specs.declared.request.Request.{Request}
 use Rattle.raft_voter_messages.specs.declared.round.Round.{Round}
 use Rattle.raft_voter_shared.specs.Receipts.{AllRight, IsRight, clash, clashes}
-use Rattle.raft_voter_shared.specs.declared.receipt.Receipt.{Receipt}
+use Rattle.raft_voter_shared.specs.declared.receipt.Statement.{Statement}
 use Rattle.raft_voter_shared.specs.declared.receipt.SharedFault.{SharedFault}
 use Rattle.raft_shared_examples.specs.Seats.{AreApart, AreServed, HasRecord, IsReceiptOf, place_in, receipts_in}
 
 -- a right receipt has its record
-recorded : (journal : List Round) (requests : List (ℕ × Request)) (receipts : List Receipt) (index : ℕ) (r : Receipt) → r.requests ≡ requests → IsRight 0 journal receipts index r → HasRecord journal requests r.place
+recorded : (journal : List Round) (requests : List (ℕ × Request)) (receipts : List Statement) (index : ℕ) (r : Statement) → r.requests ≡ requests → IsRight 0 journal receipts index r → HasRecord journal requests r.place
 recorded journal requests receipts index r asked right = record {
   round = right.stands.round;
   replies = r.replies;
@@ -21,13 +21,13 @@ recorded journal requests receipts index r asked right = record {
 }
 
 -- of two right receipts each has a place of its own
-apart : (r s : Receipt) → clashes (r ∷ s ∷ []) 0 r ≡ false → r.place ≡ s.place → ⊥
+apart : (r s : Statement) → clashes (r ∷ s ∷ []) 0 r ≡ false → r.place ≡ s.place → ⊥
 apart r s alone same =
     let equal : (s.place == r.place) ≡ true = grind (arith, nat_tests, same) in
     let both : clashes (r ∷ s ∷ []) 0 r ≡ true = rw equal refl in
     false≢true (sym alone ∙ both)
 
-pub both_served : (journal : List Round) (one other : List (ℕ × Request)) (a b : Result Receipt SharedFault) → IsReceiptOf one a → IsReceiptOf other b → AllRight 0 journal (receipts_in a ++ receipts_in b)
+pub both_served : (journal : List Round) (one other : List (ℕ × Request)) (a b : Result Statement SharedFault) → IsReceiptOf one a → IsReceiptOf other b → AllRight 0 journal (receipts_in a ++ receipts_in b)
     → AreServed journal one (place_in a) other (place_in b)
 both_served journal one other (Ok r) (Ok s) asked also right =
     let first : IsRight 0 journal (r ∷ s ∷ []) 0 r = right 0 r (omega arith) refl in
@@ -43,7 +43,7 @@ both_served journal one other (Err fault) (Ok s) asked also right =
 both_served journal one other (Err fault) (Err faults) asked also right = record { of_one = tt; of_other = tt; apart = tt }
 
 -- receipts that were added to none, one after another, are those of both
-pub both_right : (first : ℕ) (journal : List Round) (none some all one other : List Receipt) → first ≡ 0 → none ≡ [] → some ≡ none ++ one → all ≡ some ++ other → AllRight first journal all → AllRight 0 journal (one ++ other)
+pub both_right : (first : ℕ) (journal : List Round) (none some all one other : List Statement) → first ≡ 0 → none ≡ [] → some ≡ none ++ one → all ≡ some ++ other → AllRight first journal all → AllRight 0 journal (one ++ other)
 both_right first journal none some all one other zero empty asked also right =
-    let same : all ≡ one ++ other = also ∙ ap (λ (rs : List Receipt). rs ++ other) (asked ∙ ap (λ (rs : List Receipt). rs ++ one) empty) in
-    subst (λ (n : ℕ). AllRight n journal (one ++ other)) zero (subst (λ (rs : List Receipt). AllRight first journal rs) same right)
+    let same : all ≡ one ++ other = also ∙ ap (λ (rs : List Statement). rs ++ other) (asked ∙ ap (λ (rs : List Statement). rs ++ one) empty) in
+    subst (λ (n : ℕ). AllRight n journal (one ++ other)) zero (subst (λ (rs : List Statement). AllRight first journal rs) same right)

@@ -4,21 +4,21 @@ use Rattle.raft_voter_messages.specs.declared.reply.Reply.{Reply}
 use Rattle.raft_voter_messages.specs.declared.request.Request.{Request}
 use Rattle.raft_voter_messages.specs.declared.round.Outcome.TheVariants.{Answered}
 use Rattle.raft_voter_messages.specs.declared.round.Round.{Round}
-use Rattle.raft_voter_shared.specs.declared.receipt.Receipt.{Receipt}
+use Rattle.raft_voter_shared.specs.declared.receipt.Statement.{Statement}
 use Rattle.raft_voter_shared.specs.declared.receipt.SharedFault.{SharedFault}
 
 -- the place of the round's record, if the round has a receipt
-abbrev pub place_in : Result Receipt SharedFault → Option ℕ
+abbrev pub place_in : Result Statement SharedFault → Option ℕ
 place_in (Ok receipt) = Some receipt.place
 place_in (Err fault) = None
 
 -- the receipt of the round, if it has one
-abbrev pub receipts_in : Result Receipt SharedFault → List Receipt
+abbrev pub receipts_in : Result Statement SharedFault → List Statement
 receipts_in (Ok receipt) = receipt ∷ []
 receipts_in (Err fault) = []
 
 -- if the round has a receipt, it has these requests
-abbrev pub IsReceiptOf : List (ℕ × Request) → Result Receipt SharedFault → Type 0
+abbrev pub IsReceiptOf : List (ℕ × Request) → Result Statement SharedFault → Type 0
 IsReceiptOf requests (Ok receipt) = receipt.requests ≡ requests
 IsReceiptOf requests (Err fault) = Unit {0}
 

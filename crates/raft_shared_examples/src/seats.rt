@@ -14,7 +14,7 @@ pub struct Served<L: Opening> {
     /// The seat.
     pub seat: Seat<L>,
     /// The receipt.
-    pub answer: Result<Receipt, SharedFault>,
+    pub answer: Result<Receipt<L>, SharedFault>,
 }
 
 /// Serves a round at a seat.
@@ -33,17 +33,17 @@ pub fn serve_round<R: Wait, S: RoundService<R>, L: Opening>(
 }
 
 /// Adds the receipt of a round to those of others, if it has one. Returns them with the place of the round's record.
-pub fn add_receipt(
-    receipts: Vec<Receipt>,
-    answer: Result<Receipt, SharedFault>,
-) -> Result<(Vec<Receipt>, Option<usize>), AllocError>
+pub fn add_receipt<L: Opening>(
+    receipts: Vec<Receipt<L>>,
+    answer: Result<Receipt<L>, SharedFault>,
+) -> Result<(Vec<Receipt<L>>, Option<usize>), AllocError>
     ensures receipts { IfOk result (λ all. all.0.items ≡ receipts.items ++ receipts_in answer) }
     ensures place { IfOk result (λ all. all.1 ≡ place_in answer) }
 {
     let mut receipts = receipts;
     match answer {
         Ok(receipt) => {
-            let place = receipt.place;
+            let place = receipt.statement().place;
             receipts.push(receipt)?;
             Ok((receipts, Some(place)))
         }

@@ -131,6 +131,18 @@ moves by first part words views h at =
           (at_snoc (set views by spent) (claims_part first part) u j e),
     )
 
+shares : (by first : ℕ) (part : List Round) → Forks IsOneHistory by (claims_part first part) (claims_part first part) (claims_part first part)
+shares by first part words views h at =
+    let v = claims_part first part in
+    let mine = (h.2 by v at).1 refl in (
+      h.0,
+      h.1,
+      λ j u e. ⊎_elim
+          (λ was. h.2 j u (subst (λ l. get_elem? l j ≡ some u) (set_again views by v at) was))
+          (λ (same : v ≡ u). subst (IsTrue h.0 h.1 j) same ((λ k. absurd (off k)), (λ _. mine)))
+          (at_snoc (set views by v) v u j e),
+    )
+
 -- The moves, of a view that is known.
 
 pub notes_as : (by : ℕ) (v : View) (part : List Round) → v ≡ knows v.all → Turns IsOneHistory by v (λ x. x) (Notes part)
@@ -155,6 +167,9 @@ joins_as by v other u first part next more is there follows =
 
 pub moves_as : (by : ℕ) (v : View) (first : ℕ) (part : List Round) → v ≡ claims_part first part → Forks IsOneHistory by v spent v
 moves_as by v first part is = subst (λ (u : View). Forks IsOneHistory by u spent u) (sym is) (moves by first part)
+
+pub shares_as : (by : ℕ) (v : View) (first : ℕ) (part : List Round) → v ≡ claims_part first part → Forks IsOneHistory by v v v
+shares_as by v first part is = subst (λ (u : View). Forks IsOneHistory by u u u) (sym is) (shares by first part)
 
 -- a view that claims a part is known by it
 pub claims_whole : (v : View) (first : ℕ) (part : List Round) → v ≡ claims_part first part → v ≡ claims_part v.first v.part

@@ -4,7 +4,7 @@ ghost use Rattle.crossbeam_utils.specs.Seq.{cell_view};
 ghost use Rattle.raft_voter_history.specs.History.{claims_part};
 
 use crate::history::{History, Named};
-use crate::rule::{Append, HistoryPass, Whole};
+use crate::rule::{Append, HistoryPass, Twice, Whole};
 use std::marker::{Model, PhantomData};
 
 /// The history has these records, from this place on. Contracts see it as the place and the records. It takes no memory.
@@ -48,6 +48,17 @@ impl<L: Named> Claim<L> {
     {
         let Claim { pass, of: _ } = self;
         pass
+    }
+
+    /// Returns a second claim for the same records.
+    pub fn again(&mut self, history: &History<L>) -> Claim<L>
+        ensures same { self.new ≡ self.old }
+        ensures claim { result ≡ self.old }
+    {
+        let second = history.cell.split_pass::<Twice>(&mut self.pass);
+        let whole = history.cell.split_pass::<Whole>(&mut self.pass);
+        self.pass = whole;
+        Claim::of(second)
     }
 
     /// Takes in a claim for the records that follow in the history.

@@ -118,6 +118,15 @@ impl Split<View> for Whole {
     ghost right = { λ v. v };
 }
 
+/// A pass hands a new one the same claim, and keeps it.
+pub struct Twice;
+
+impl Split<View> for Twice {
+    ghost left = { λ v. v };
+
+    ghost right = { λ v. v };
+}
+
 /// The cell whose passes are under the rule.
 pub type Cell = RuledSeqCell<[u64; 1], View, OneHistory, 1>;
 

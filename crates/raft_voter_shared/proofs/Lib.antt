@@ -7,6 +7,8 @@ pub mod Noted
 pub mod Steps
 pub mod Requests
 pub mod Right
+pub mod Agreeing
+pub mod Clashing
 pub mod Leading
 pub mod PurgeSteps
 pub mod Failing

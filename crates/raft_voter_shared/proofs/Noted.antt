@@ -1,7 +1,11 @@
 -- One record and one answer more, of rounds that were served together.
-use Rattle.std.proofs.Common.{◌≡◌, ◌<◌, ℕ, suc, ◌+◌, ◌-◌, List, [], ◌∷◌, ◌++◌, take, drop, sym, ap, ◌∙◌, arith}
+use Rattle.std.proofs.Common.{◌≡◌, ◌<◌, ℕ, suc, ◌+◌, ◌-◌, List, [], ◌∷◌, ◌++◌, length, take, drop, sym, ap, ◌∙◌, arith}
 use Rattle.std.specs.Prelude.{Result, Ok, Err}
-use Rattle.std.proofs.lemmas.List.{append_assoc}
+use Rattle.std.proofs.Math.Seq.{drop-append_seam, take-append_seam}
+use Rattle.std.specs.List.{flat_map}
+use Rattle.std.proofs.lemmas.Grind.{flat_map-append}
+use Rattle.std.proofs.lemmas.List.{append_assoc, append-nil}
+use Rattle.std.proofs.lemmas.List.Concat.{flat_map-cons}
 use Rattle.raft_voter_messages.specs.declared.reply.Reply.{Reply}
 use Rattle.raft_voter_messages.specs.declared.request.Request.{Request}
 use Rattle.raft_voter_messages.specs.declared.round.Round.{Round}
@@ -51,6 +55,21 @@ module _ (n : ℕ) (counts counts' : List ℕ) (popped : counts ≡ n ∷ counts
       ap (λ (p : ℕ). bs ++ cut_told p cause counts') next
       ∙ one_more ds bs a (Err (faults.Cut place cause)) (cut_told (place + 1) cause counts') all pushed is
       (ap (λ (l : List ℕ). ds ++ cut_told place cause l) (sym popped) ∙ so_far)
+
+-- one more list at the end of those that were joined
+pub each_more : {A B : Type 0} (f : A → List B) (xs xs' : List A) (x : A) (ys ys' own : List B) → xs' ≡ xs ++ x ∷ []
+    → flat_map f xs ≡ ys → f x ≡ own → ys' ≡ ys ++ own → flat_map f xs' ≡ ys'
+each_more f xs xs' x ys ys' own pushed each is more =
+    ap (flat_map f) pushed ∙ flat_map-append f xs (x ∷ []) ∙ ap (λ l. l ++ flat_map f (x ∷ [])) each
+    ∙ ap (λ l. ys ++ l) (flat_map-cons f x [] ∙ append-nil (f x) ∙ is) ∙ sym more
+
+-- the first of those to come
+pub first_of_all : {A : Type 0} (n : ℕ) (own later all : List A) → length own ≡ n → own ++ later ≡ all
+    → (take n all ≡ own) × (drop n all ≡ later)
+first_of_all n own later all long is = (
+  ap (λ (m : ℕ). take m all) (sym long) ∙ ap (take (length own)) (sym is) ∙ take-append_seam own later,
+  ap (λ (m : ℕ). drop m all) (sym long) ∙ ap (drop (length own)) (sym is) ∙ drop-append_seam own later,
+)
 
 -- The first of a queue.
 

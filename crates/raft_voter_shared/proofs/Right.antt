@@ -3,21 +3,21 @@ use Rattle.std.proofs.Common.{◌≡◌, ℕ, ◌+◌, ◌<◌, List, min, slice
 use Rattle.std.specs.Prelude.{IfSome}
 use Rattle.std.proofs.lemmas.Bool.{cases_lt}
 use Rattle.raft_voter_messages.specs.declared.round.Round.{Round}
-use Rattle.raft_voter_shared.specs.declared.receipt.Receipt.{Receipt}
+use Rattle.raft_voter_shared.specs.declared.receipt.Statement.{Statement}
 use Rattle.raft_voter_shared.specs.Receipts.{IsLeastBelow, IsRight, IsWrongBelow}
 
-module _ (first : ℕ) (rounds : List Round) (rs : List Receipt) (end : ℕ) (this : Receipt) (is : slice_get rs end ≡ Some this) where
+module _ (first : ℕ) (rounds : List Round) (rs : List Statement) (end : ℕ) (this : Statement) (is : slice_get rs end ≡ Some this) where
   -- what is so of those before and of this one is so of one more
   one_more :
-      (P : ℕ → Receipt → Type 0) → P end this
-      → ((index : ℕ) (r : Receipt) → index < end → slice_get rs index ≡ Some r → P index r)
-      → (index : ℕ) (r : Receipt) → index < end + 1 → slice_get rs index ≡ Some r → P index r
+      (P : ℕ → Statement → Type 0) → P end this
+      → ((index : ℕ) (r : Statement) → index < end → slice_get rs index ≡ Some r → P index r)
+      → (index : ℕ) (r : Statement) → index < end + 1 → slice_get rs index ≡ Some r → P index r
   one_more P here before index r below at = elim (cases_lt index end) [
     | inl lower ↦ before index r lower at
     | inr past ↦
         let place : index ≡ end = omega arith in
         let same : this ≡ r = cc in
-        subst (λ (i : ℕ). P i r) (sym place) (subst (λ (x : Receipt). P end x) same here)
+        subst (λ (i : ℕ). P i r) (sym place) (subst (λ (x : Statement). P end x) same here)
   ]
 
   pub right_more :
@@ -81,7 +81,7 @@ module _ (first : ℕ) (rounds : List Round) (rs : List Receipt) (end : ℕ) (th
 
 -- where a least place was found a receipt there is wrong
 pub wrong_there :
-    (first : ℕ) (rounds : List Round) (rs : List Receipt) (end : ℕ) (least : Option ℕ) → IsLeastBelow first rounds rs end least
+    (first : ℕ) (rounds : List Round) (rs : List Statement) (end : ℕ) (least : Option ℕ) → IsLeastBelow first rounds rs end least
     → IfSome least (λ place. IsWrongBelow first rounds rs end place)
 wrong_there first rounds rs end None h = tt
 wrong_there first rounds rs end (Some place) h = h

@@ -3,7 +3,9 @@ pub mod Standing
 pub mod Failing
 pub mod Handing
 pub mod Noting
+pub mod Proving
 pub mod Receipts
+pub mod Clashing
 pub mod Settling
 pub mod Openings
 pub mod Purging

@@ -1,7 +1,9 @@
 -- What a purge of a shared store's files does to its voters.
-use Rattle.std.specs.Prelude.{◌≡◌, Bool, true, false, Option, Some}
+use Rattle.std.specs.Prelude.{◌≡◌, Bool, true, false, List, Option, Some}
+use Rattle.raft_voter_messages.specs.declared.round.Round.{Round}
 use Rattle.raft_voter.specs.Rounds.{World}
 use Rattle.raft_voter.specs.Service.{CutRound, IsOpenAt, Service}
+use Rattle.raft_voter_shared.specs.Journal.{IsLegal, reached}
 use Rattle.raft_voter_shared.specs.declared.failure.Failure.{Failure}
 use Rattle.raft_voter_shared.specs.declared.failure.Failure.TheVariants.{InPurge}
 
@@ -12,6 +14,19 @@ pub record KeepsServed {S : Type 0} (v : Service S) (old new : S) : Type 0 where
   pub served : (W : World) → IsOpenAt v old W → v.is_failed new ≡ false → IsOpenAt v new W
   pub fails : (W : World) → IsOpenAt v old W → v.is_failed new ≡ true → v.fails old new
   pub left : (cut : CutRound) → v.leaves old cut → v.leaves new cut
+
+-- A shared store was purged. It served voters of `served` when it was shared.
+-- - `does`: the purge changed the store `old` into `new`, as `Does` says. `keeps`: no voter changed.
+-- - `history`: the rounds that it had served before. `legal`: they are a legal history.
+-- - `serves`: unless it had failed before, it served the voters after the history.
+pub record IsPurge {S : Type 0} (v : Service S) (served : World → Type 0) (Does : S → S → Type 0) : Type 0 where
+  pub old : S
+  pub new : S
+  pub does : Does old new
+  pub keeps : KeepsServed v old new
+  pub history : List Round
+  pub legal : (W : World) → served W → IsLegal W history
+  pub serves : (W : World) → served W → v.is_failed old ≡ false → ∥ IsOpenAt v old (reached W history) ∥₁
 
 -- How the store failed, noted after a purge. It is `InPurge` if the store hadn't failed before the purge and has
 -- failed now. Otherwise `failure` stays.

@@ -7,25 +7,41 @@ use Rattle.raft_voter_shared.specs.Failing.{CameToFailAs}
 use Rattle.raft_voter_shared.specs.Journal.{IsLegal, reached}
 use Rattle.raft_voter_shared.specs.Standing.{is_last, standing}
 use Rattle.raft_voter_shared.specs.declared.failure.Failure.{Failure}
-use Rattle.raft_voter_shared.specs.declared.receipt.Receipt.{Receipt}
+use Rattle.raft_voter_shared.specs.declared.receipt.Statement.{Statement}
 use Rattle.raft_voter_shared.specs.declared.settled.SettleCause.{SettleCause}
 use Rattle.raft_voter_shared.specs.declared.settled.SettleCause.TheVariants as causes
 use Rattle.raft_voter_shared.specs.Receipts.{AllRight, IsLeastWrong}
 
 -- Why the store can't be settled. `SeatCount`: the seats don't have all parts of the ledger, as `parts` isn't `all`.
 -- `Receipt place`: they have all, and `place` is the lowest one of a wrong receipt.
-abbrev pub IsCause : ℕ → List Round → ℕ → ℕ → List Receipt → SettleCause → Type 0
+abbrev pub IsCause : ℕ → List Round → ℕ → ℕ → List Statement → SettleCause → Type 0
 IsCause first rounds all parts receipts causes.SeatCount = parts ≢ all
 IsCause first rounds all parts receipts (causes.Receipt place) = (parts ≡ all) × IsLeastWrong first rounds receipts place
 
 -- `None` if the seats have all parts of the ledger and each receipt is right; otherwise the cause why not
-abbrev pub SettlesUnless : ℕ → List Round → ℕ → ℕ → List Receipt → Option SettleCause → Type 0
+abbrev pub SettlesUnless : ℕ → List Round → ℕ → ℕ → List Statement → Option SettleCause → Type 0
 SettlesUnless first rounds all parts receipts None = (parts ≡ all) × AllRight first rounds receipts
 SettlesUnless first rounds all parts receipts (Some cause) = IsCause first rounds all parts receipts cause
 
 -- the history begins with the records that were taken from the journal
 abbrev pub HasTaken : List Round → List Round → Type 0
 HasTaken history taken = (later : List Round) × (history ≡ taken ++ later)
+
+-- Records were taken from a journal with this history, which kept `kept` before and `kept'` after. It begins with those
+-- that were taken before, `old`. If the kept ones follow these, all records were taken. Otherwise nothing changed.
+pub record TakesKept (history kept kept' old new : List Round) : Type 0 where
+  pub begins : HasTaken history old
+  pub all : length old + length kept ≡ length history → (new ≡ history) × (length kept' ≡ 0)
+  pub none : length old + length kept ≢ length history → (new ≡ old) × (kept' ≡ kept)
+
+-- A store's journal has a history, which is legal for the voters that the store served when it was shared, and kept its
+-- last records. Of these, records were taken as `TakesKept` says.
+pub record AreTaken (served : World → Type 0) (old new : List Round) : Type 0 where
+  pub history : List Round
+  pub legal : (W : World) → served W → IsLegal W history
+  pub kept : List Round
+  pub left : List Round
+  pub takes : TakesKept history kept left old new
 
 -- A store was settled. It served voters of `served` when it was shared. The seats counted `turns` records.
 -- - `history`: there is a history of its rounds. `begins`: it begins with the records that were taken from the journal.

@@ -14,7 +14,7 @@ use crate::maintenance::Maintenance;
 use crate::merged_round::MergedRound;
 use crate::opening::Opening;
 use crate::receipt::{Receipt, SharedFault};
-use crate::receipts::least_wrong;
+use crate::receipts::Check;
 use crate::records::{hand_out, note_answers, note_cuts, refuse_all};
 use crate::seat::{Seat, have_all, merged};
 use crate::settled::{SettleCause, Settled};
@@ -65,8 +65,10 @@ pub struct Desk<R, S: RoundService<R>, L: Opening> {
 
 impl<R, S: RoundService<R>, L: Opening> Desk<R, S, L> {
     ghost use Rattle.std.specs.Prelude.{◌==◌, ◌-◌, ◌++◌, nat_lt, map, IfErr, IfSome, OnOk};
+    ghost use Rattle.std.specs.List.{All};
     ghost use Rattle.raft_voter_shared.specs.Noting.{GivesNoReplies, NotesAnswered};
-    ghost use Rattle.raft_voter_shared.specs.Settling.{IsSettled, SettlesUnless};
+    ghost use Rattle.raft_voter_shared.specs.Proving.{IsAt};
+    ghost use Rattle.raft_voter_shared.specs.Settling.{IsSettled, SettlesUnless, TakesKept};
 
     /// Returns a desk with an empty journal, which keeps its records in memory or not.
     pub fn new(
@@ -224,17 +226,40 @@ impl<R, S: RoundService<R>, L: Opening> Desk<R, S, L> {
         hall.take_over(&mut self.done);
     }
 
-    /// Removes the records that the journal keeps and returns them, if they follow those that were taken before.
-    pub fn take(&mut self, history: &History<L>, taken: &mut Taken<L>) -> Vec<Round>
+    /// Compares receipts with the history, which has the record of each at its place.
+    pub fn confirm(&mut self, rt: &R, history: &History<L>, receipts: &mut [Receipt<L>])
+    where
+        R: Wait,
+        ensures receipts { receipts.new ≡ receipts.old }
+        ensures same { (self.new.store ≡ self.old.store) × (self.new.journal.history ≡ self.old.journal.history) }
+        ensures found { All (λ r. IsAt self.old.journal.history r) receipts.old }
+        ensures legal { (W : World) → L.served W → IsLegal W self.old.journal.history }
+    {
+        self.journal.confirm(rt, history, receipts);
+    }
+
+    /// Removes the records that the journal keeps and returns them, if they follow those that were taken before: then all
+    /// records were taken. Otherwise nothing changes and none are returned.
+    pub fn take(&mut self, rt: &R, history: &History<L>, taken: &mut Taken<L>) -> Vec<Round>
+    where
+        R: Wait,
         ensures taken { taken.new ≡ taken.old ++ result.items }
         ensures same { (self.new.store ≡ self.old.store) × (self.new.journal.history ≡ self.old.journal.history) }
+        ensures all { TakesKept self.old.journal.history self.old.journal.kept.items self.new.journal.kept.items
+            taken.old taken.new }
+        ensures legal { (W : World) → L.served W → IsLegal W self.old.journal.history }
     {
-        self.journal.take(history, taken)
+        self.journal.take(rt, history, taken)
     }
 
     /// Returns why these seats and receipts can't settle the store, which has a ledger of this many parts, or `None` if
     /// they can. Checks the seats first, and receipts against the records that the journal keeps.
-    pub fn fault(&self, parts: u64, seats: &[Seat<L>], receipts: &[Receipt]) -> Option<SettleCause>
+    pub fn fault(
+        &self,
+        parts: u64,
+        seats: &[Seat<L>],
+        receipts: &[Receipt<L>],
+    ) -> Option<SettleCause>
         requires { parts ≡ L.all }
         ensures { SettlesUnless (length self.now.journal.history - length self.now.journal.kept.items)
             self.now.journal.kept.items L.all (sum_by (λ seat. seat.parts) seats.now) receipts.now result }
@@ -242,7 +267,9 @@ impl<R, S: RoundService<R>, L: Opening> Desk<R, S, L> {
         if !have_all(seats, parts) {
             return Some(SettleCause::SeatCount);
         }
-        match least_wrong(self.journal.first(), self.journal.kept(), receipts) {
+        let first = self.journal.first();
+        let check = Check::new(self.alloc, first, self.journal.kept(), receipts);
+        match check.least_wrong() {
             Some(place) => Some(SettleCause::Receipt(place)),
             None => None,
         }
@@ -290,13 +317,16 @@ impl<R, S: RoundService<R>, L: Opening> Desk<R, S, L> {
 }
 
 impl<R, S: Maintenance<R>, L: Opening> Desk<R, S, L> {
-    ghost use Rattle.raft_voter_shared.specs.Purging.{KeepsServed};
+    ghost use Rattle.std.specs.Prelude.{IfErr, IfOk};
+    ghost use Rattle.raft_voter_shared.specs.Purging.{IsPurge, KeepsServed};
 
     /// Purges the store's files. Returns the groups to compact. Appends nothing to the journal. Whether it succeeds or
     /// fails, no voter changes.
     pub fn maintain(&mut self, rt: &R) -> Result<Vec<u64>, S::Refusal>
         ensures journal { self.new.journal ≡ self.old.journal }
         ensures keeps { KeepsServed S.service self.old.store self.new.store }
+        ensures ok { IfOk result (λ groups. IsPurge S.service L.served (S.purges groups.items)) }
+        ensures err { IfErr result (λ refusal. IsPurge S.service L.served (S.refuses refusal)) }
     {
         let Desk {
             alloc: _,

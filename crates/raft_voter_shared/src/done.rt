@@ -1,11 +1,14 @@
 //! Answers to callers.
-ghost use Rattle.std.specs.Prelude.{◌≡◌, ◌+◌, true, length, IfNone, IfSome};
-ghost use Rattle.raft_voter_shared.specs.Noting.{may_tell, records_in};
+ghost use Rattle.std.specs.Prelude.{◌≡◌, ◌+◌, ◌∷◌, [], true, length, IfNone, IfSome, Some};
+ghost use Rattle.raft_voter_shared.specs.Noting.{answered, may_tell, records_in};
+ghost use Rattle.raft_voter_shared.specs.Proving.{claim_of};
 
 use crate::opening::Opening;
-use crate::receipt::SharedFault;
+use crate::receipt::{Receipt, SharedFault, Statement};
+use crate::receipts::are_asked;
 use crate::ticket::Ticket;
-use raft_voter::{Items, Reply};
+use raft_voter::{Items, Reply, Request};
+use raft_voter_history::Claim;
 use std::sync::ledger::Share;
 
 /// The place of a round's record in the journal, and the replies.
@@ -17,7 +20,7 @@ pub struct Told {
     pub replies: Items<Reply>,
 }
 
-/// The answer to a caller, with the seat's share of the ledger.
+/// The answer to a caller, with the seat's share of the ledger. A claim proves that the history has its record.
 #[derive(Drop)]
 pub struct Done<L: Opening> {
     /// The round.
@@ -26,12 +29,86 @@ pub struct Done<L: Opening> {
     pub share: Share<L>,
     /// How many rounds of the seat are in the journal now.
     pub after: u64,
+    /// The requests of the round.
+    pub requests: Items<(u64, Request)>,
     /// The place and the replies, or why there are none.
     pub answer: Result<Told, SharedFault>,
+    /// The claim that the history has the round's record at this place, if there are replies.
+    pub claim: Option<Claim<L>>,
     ghost held: { share.parts ≡ ticket.parts },
     ghost counted: { share.amount ≡ after },
     ghost counts: { after ≡ ticket.turn + records_in answer },
     ghost length: { may_tell answer ticket.count ≡ true },
+    ghost proves: { claim ≡ claim_of requests answer },
+}
+
+impl<L: Opening> Done<L> {
+    ghost use Rattle.std.specs.Prelude.{◌<◌, ◌≤◌, is_ok, IfErr, IfOk, OnOk};
+    ghost use Rattle.std.specs.Bool.{Decides};
+    ghost use Rattle.raft_voter_shared.specs.Noting.{records_of, ToldOfLength};
+
+    /// Whether this is the answer to a round of these requests.
+    pub fn is_to(&self, requests: &[(u64, Request)]) -> bool
+        ensures { Decides result (self.now.requests ≡ requests.now) }
+    {
+        are_asked(self.requests.as_slice(), requests)
+    }
+
+    /// Returns the receipt, or why there is none, the share, and how many rounds of the seat are in the journal.
+    pub fn into_receipt(self) -> (Result<Receipt<L>, SharedFault>, Share<L>, u64)
+        ensures seat { IfOk result.0 (λ receipt. (receipt.seat ≡ self.ticket.number) × (receipt.turn ≡ self.ticket.turn)) }
+        ensures requests { IfOk result.0 (λ receipt. receipt.requests ≡ self.requests) }
+        ensures length { (OnOk result.0 (self.ticket.count ≤ 4096))
+            × (IfErr result.0 (λ fault. ToldOfLength fault self.ticket.count)) }
+        ensures counts { (OnOk result.0 (result.2 ≡ self.ticket.turn + 1))
+            × (IfErr result.0 (λ fault. result.2 ≡ self.ticket.turn + records_of fault)) }
+        ensures share { (result.1.parts ≡ self.ticket.parts) × (result.1.amount ≡ result.2) }
+        ensures ok { OnOk result.0 (is_ok self.answer ≡ true) }
+    {
+        let Done {
+            ticket,
+            share,
+            after,
+            requests,
+            answer,
+            claim,
+        } = self;
+        match answer {
+            Ok(told) => (Ok(receipt_of(ticket, requests, told, claim)), share, after),
+            Err(fault) => (Err(fault), share, after),
+        }
+    }
+}
+
+/// Returns the receipt of a round with these replies. The claim, which must be there, proves that the history has its record.
+fn receipt_of<L: Opening>(
+    ticket: Ticket,
+    requests: Items<(u64, Request)>,
+    told: Told,
+    claim: Option<Claim<L>>,
+) -> Receipt<L>
+    requires { claim ≡ Some (told.place, answered requests told.replies ∷ []) }
+    ensures { result ≡ record {
+      seat = ticket.number;
+      turn = ticket.turn;
+      place = told.place;
+      requests = requests;
+      replies = told.replies;
+    } }
+{
+    match claim {
+        Some(claim) => {
+            let statement = Statement {
+                seat: ticket.number,
+                turn: ticket.turn,
+                place: told.place,
+                requests,
+                replies: told.replies,
+            };
+            Receipt::new(statement, claim)
+        }
+        None => unreachable!(),
+    }
 }
 
 /// Removes the answer to this round and returns it. Returns `None` if it isn't among these.

@@ -2,9 +2,10 @@
 ghost use Rattle.std.specs.Prelude.{◌≡◌, ◌+◌, ◌-◌, ◌≤◌, ◌<◌, ◌^◌, ◌++◌, ◌∷◌, [], drop, false, length, vec_capacity, vec_len, OnOk};
 
 use crate::opening::Opening;
+use crate::receipt::Receipt;
 use crate::taken::Taken;
 use raft_voter::Round;
-use raft_voter_history::{History, Keeper};
+use raft_voter_history::{Claim, History, Keeper};
 use std::alloc::{AllocError, Global};
 use std::mem;
 use std::sync::Wait;
@@ -25,7 +26,9 @@ pub struct Journal<L: Opening> {
 }
 
 impl<L: Opening> Journal<L> {
-    ghost use Rattle.raft_voter_shared.specs.Settling.{HasTaken};
+    ghost use Rattle.std.specs.List.{All};
+    ghost use Rattle.raft_voter_shared.specs.Proving.{IsAt};
+    ghost use Rattle.raft_voter_shared.specs.Settling.{HasTaken, TakesKept};
 
     /// Returns an empty journal, which keeps its records in memory or not.
     pub fn new(alloc: Global, history: Keeper<L>, keeps: bool) -> Journal<L>
@@ -60,11 +63,13 @@ impl<L: Opening> Journal<L> {
         self.kept.reserve(more)
     }
 
-    /// Adds a record at the end. It is kept in memory only if records are. There must be room for it.
-    pub fn note<R: Wait>(&mut self, rt: &R, history: &History<L>, round: Round)
+    /// Adds a record at the end, and returns a claim for it. It is kept in memory only if records are. There must be room
+    /// for it.
+    pub fn note<R: Wait>(&mut self, rt: &R, history: &History<L>, round: Round) -> Claim<L>
         requires room { vec_len self.old.kept < vec_capacity self.old.kept }
         requires count { length self.old.history + 1 < 2 ^ 64 }
         ensures noted { self.new.history ≡ self.old.history ++ round ∷ [] }
+        ensures claim { result ≡ (length self.old.history, round ∷ []) }
         ensures capacity { vec_capacity self.new.kept ≡ vec_capacity self.old.kept }
         ensures len { vec_len self.new.kept ≤ vec_len self.old.kept + 1 }
     {
@@ -75,19 +80,26 @@ impl<L: Opening> Journal<L> {
             kept,
             keeps,
         } = self;
-        let _claim = keeper.note(rt, history, &round);
+        let claim = keeper.note(rt, history, &round);
         *count += 1;
         if !*keeps {
-            return;
+            return claim;
         }
         kept.push_reserved(round);
+        claim
     }
 
-    /// Removes the records from memory and returns them, if they follow those that were taken before. Otherwise nothing
-    /// changes and none are returned. The history stays.
-    pub fn take(&mut self, history: &History<L>, taken: &mut Taken<L>) -> Vec<Round>
+    /// Removes the records from memory and returns them, if they follow those that were taken before: then all records
+    /// were taken. Otherwise nothing changes and none are returned. The history stays.
+    pub fn take<R: Wait>(
+        &mut self,
+        rt: &R,
+        history: &History<L>,
+        taken: &mut Taken<L>,
+    ) -> Vec<Round>
         ensures history { self.new.history ≡ self.old.history }
         ensures taken { taken.new ≡ taken.old ++ result.items }
+        ensures all { TakesKept self.old.history self.old.kept.items self.new.kept.items taken.old taken.new }
     {
         let Journal {
             alloc,
@@ -96,6 +108,7 @@ impl<L: Opening> Journal<L> {
             kept,
             keeps: _,
         } = self;
+        taken.check(rt, history, keeper);
         let first = *count - kept.len();
         if first != taken.len() {
             return Vec::new(*alloc);
@@ -103,6 +116,25 @@ impl<L: Opening> Journal<L> {
         let claim = keeper.claim(history, first, kept.as_slice());
         taken.add(history, claim, kept.len());
         mem::replace(kept, Vec::new(*alloc))
+    }
+
+    /// Compares receipts with the history, which has the record of each at its place.
+    pub fn confirm<R: Wait>(&mut self, rt: &R, history: &History<L>, receipts: &mut [Receipt<L>])
+        ensures receipts { receipts.new ≡ receipts.old }
+        ensures history { self.new.history ≡ self.old.history }
+        ensures kept { self.new.kept ≡ self.old.kept }
+        ensures found { All (λ r. IsAt self.old.history r) receipts.old }
+    {
+        let Journal {
+            alloc: _,
+            history: keeper,
+            count: _,
+            kept: _,
+            keeps: _,
+        } = self;
+        for receipt in receipts.iter_mut() {
+            receipt.find(rt, history, keeper);
+        }
     }
 
     /// Returns the records that are kept, and the place of the first. The history has all records that were taken, as its

@@ -1,7 +1,18 @@
-//! Laws about journals of successive openings. Each is the contract of an empty function.
+//! Laws about receipts, and about journals of successive openings. Each is the contract of an empty function.
 ghost use Rattle.raft_voter_shared.specs.Openings.{OpeningsAreExplained, OpeningsGoOn, OpeningsLead};
+ghost use Rattle.raft_voter_shared.specs.Proving.{ReceiptsAgree, RepliesAreVoters};
 
 use raft_voter::{RoundService, StoreFiles};
+
+/// Two receipts of one place in the history have the same requests and replies.
+pub fn receipts_agree()
+    ensures { ReceiptsAgree }
+{}
+
+/// The replies of a receipt are those of the voters after the rounds before it.
+pub fn replies_are_voters()
+    ensures { RepliesAreVoters }
+{}
 
 /// Suppose each journal of successive openings is a legal history of the voters that the one before left. Then together
 /// they are rounds that lead from the first voters to the last. The cuts are 0, except for the rounds in which an

@@ -2,6 +2,8 @@
 //! rounds is a legal history of voters.
 #![tactic(auto)]
 
+mod caller;
+mod clashes;
 mod copies;
 mod desk;
 mod done;
@@ -28,7 +30,7 @@ pub use failure::Failure;
 pub use maintenance::Maintenance;
 pub use opening::Opening;
 pub use raft_voter_history::{FreshHistory, Named};
-pub use receipt::{Receipt, SharedFault};
+pub use receipt::{Receipt, SharedFault, Statement};
 pub use seat::Seat;
 pub use settled::{SettleCause, SettleFault, Settled};
 pub use shared::SharedStore;

@@ -1,5 +1,6 @@
 //! Rounds that the store serves together.
 ghost use Rattle.std.specs.Prelude.{◌≡◌, ◌+◌, ◌<◌, ◌≤◌, ◌==◌, ◌++◌, ◌∷◌, [], true, length, map, sum_by, vec_capacity, vec_len, IfErr, OnOk};
+ghost use Rattle.std.specs.List.{flat_map};
 ghost use Rattle.raft_voter_shared.specs.Noting.{may_join};
 
 use crate::done::Done;
@@ -23,6 +24,7 @@ pub struct MergedRound<L: Opening> {
     /// Room for the answers.
     pub done: Vec<Done<L>>,
     ghost counted: { sum_by (λ part. part.ticket.count) parts.items ≡ length asked.items },
+    ghost each: { flat_map (λ part. part.requests) parts.items ≡ asked.items },
     ghost fits: { 4096 < length asked.items → length parts.items ≡ 1 },
     ghost empty: { (noted.items ≡ []) × (handed.items ≡ []) × (done.items ≡ []) },
     ghost room: { (length asked.items ≤ vec_capacity noted) × (length asked.items ≤ vec_capacity handed)
@@ -59,6 +61,7 @@ impl<L: Opening> MergedRound<L> {
     }
 
     /// Adds a round. If memory runs out, nothing changes and the round is returned.
+    #[tactic(auto, using(crate::proofs::Noted::each_more))]
     pub fn add(&mut self, job: Job<L>) -> Result<(), Job<L>>
         requires { may_join (length self.old.parts.items) (length self.old.asked.items) job.ticket.count ≡ true }
         ensures asked { OnOk result (self.new.asked.items ≡ self.old.asked.items ++ job.draft.requests.items) }

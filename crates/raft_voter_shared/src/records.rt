@@ -1,6 +1,6 @@
 //! Records of rounds that were served together, and the answers to their callers.
 ghost use Rattle.std.specs.Prelude.{◌≡◌, ◌+◌, ◌<◌, ◌≤◌, ◌^◌, ◌++◌, [], true, length, map, sum_by, vec_capacity, vec_len, Err};
-ghost use Rattle.std.specs.List.{All, AllZip};
+ghost use Rattle.std.specs.List.{All, AllZip, flat_map};
 ghost use Rattle.raft_voter.specs.Rounds.{are_rising};
 ghost use Rattle.raft_voter_shared.specs.Handing.{HandsOut};
 ghost use Rattle.raft_voter_shared.specs.Noting.{answered_each, cut_each, cut_told, may_cut, told_each};
@@ -69,6 +69,7 @@ pub fn note_answers<L: Opening, R: Wait>(
     requires room { (room.items ≡ []) × (length parts.items ≤ vec_capacity room) }
     requires short { All (λ part. part.ticket.count ≤ 4096) parts.items }
     requires same { noted.items ≡ handed.items }
+    requires each { flat_map (λ part. part.requests) parts.items ≡ asked.items }
     ensures counted { length journal.new.history ≡ book.new.total }
     ensures journal { journal.new.history ≡ journal.old.history
         ++ answered_each (map (λ part. part.ticket.count) parts.items) asked.items noted.items }
@@ -83,9 +84,10 @@ pub fn note_answers<L: Opening, R: Wait>(
     let mut handed = VecDeque::from_vec(handed);
     while let Some(part) = parts.pop_front() {
         let place = journal.len();
-        let (round, answer) = part.answered(book, place, &mut asked, &mut noted, &mut handed);
-        journal.note(rt, history, round);
-        done.push_reserved(answer);
+        let (draft, caller) = part.split();
+        let (round, replies) = draft.answered(&mut asked, &mut noted, &mut handed);
+        let claim = journal.note(rt, history, round);
+        done.push_reserved(caller.answered(book, place, replies, claim));
     }
     done
 }
@@ -125,9 +127,10 @@ pub fn note_cuts<L: Opening, R: Wait>(
     while let Some(part) = left.pop_front() {
         let place = journal.len();
         let count = part.ticket.count;
-        let (round, answer) = part.cut_off(book, place, cause, &mut asked, refused, start);
-        journal.note(rt, history, round);
-        told.push_reserved(answer);
+        let (draft, caller) = part.split();
+        let round = draft.cut_off(&mut asked, refused, start);
+        let _claim = journal.note(rt, history, round);
+        told.push_reserved(caller.cut_off(book, place, cause));
         start += count;
     }
     told
@@ -143,7 +146,8 @@ pub fn refuse_all<L: Opening>(parts: Vec<Part<L>>, room: Vec<Done<L>>) -> Vec<Do
     let mut done = room;
     let mut refused = VecDeque::from_vec(parts);
     while let Some(part) = refused.pop_front() {
-        done.push_reserved(part.refused());
+        let (_draft, caller) = part.split();
+        done.push_reserved(caller.refused());
     }
     done
 }

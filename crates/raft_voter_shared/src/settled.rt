@@ -45,5 +45,5 @@ pub struct SettleFault<R, S: RoundService<R>, L: Opening> {
     /// The seats.
     pub seats: Vec<Seat<L>>,
     /// The receipts.
-    pub receipts: Vec<Receipt>,
+    pub receipts: Vec<Receipt<L>>,
 }

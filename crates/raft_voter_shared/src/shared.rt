@@ -5,7 +5,7 @@ ghost use Rattle.raft_voter.specs.Service.{IsOpenAt};
 
 use crate::copies::copy_requests;
 use crate::desk::Desk;
-use crate::done::{Done, Told};
+use crate::done::Done;
 use crate::draft::Draft;
 use crate::hall::Hall;
 use crate::job::Job;
@@ -47,8 +47,9 @@ impl<R, S: RoundService<R>, L: Opening> SharedStore<R, S, L> {
     ghost use Rattle.std.specs.Prelude.{◌+◌, ◌-◌, ◌≤◌, ◌++◌, [], sum_by, OnOk};
     ghost use Rattle.raft_voter_history.specs.Names.{id_of};
     ghost use Rattle.raft_voter_shared.specs.Noting.{records_of, ToldOfLength};
+    ghost use Rattle.raft_voter_shared.specs.Proving.{AreInHistory};
     ghost use Rattle.raft_voter_shared.specs.Receipts.{AllRight};
-    ghost use Rattle.raft_voter_shared.specs.Settling.{IsCause, IsSettled};
+    ghost use Rattle.raft_voter_shared.specs.Settling.{AreTaken, IsCause, IsSettled};
 
     /// Shares a store, and returns the first seat, which has all parts of the ledger. The store must serve the voters
     /// that the opening names. No records are kept in memory: the history of the rounds exists in proofs alone.
@@ -134,7 +135,7 @@ impl<R, S: RoundService<R>, L: Opening> SharedStore<R, S, L> {
         rt: &R,
         seat: &mut Seat<L>,
         requests: &[(u64, Request)],
-    ) -> Result<Receipt, SharedFault>
+    ) -> Result<Receipt<L>, SharedFault>
     where
         R: Wait,
         ensures seat { IfOk result (λ receipt. receipt.seat ≡ seat.old.number) }
@@ -165,50 +166,54 @@ impl<R, S: RoundService<R>, L: Opening> SharedStore<R, S, L> {
             turn: *turn,
             count: requests.len(),
         };
-        let lent = share.split_off(*parts, *turn);
         let job = Job {
             ticket,
-            share: lent,
+            share: share.split_off(*parts, *turn),
+            requests: asked,
             draft,
         };
-        let Done {
-            ticket: _,
-            share: back,
-            after,
-            answer,
-        } = self.answer(rt, job);
+        let (answer, back, after) = self.answer(rt, job, requests).into_receipt();
         share.merge(back);
         *turn = after;
-        let Told { place, replies } = answer?;
-        Ok(Receipt {
-            seat: ticket.number,
-            turn: ticket.turn,
-            place,
-            requests: asked,
-            replies,
-        })
+        answer
     }
 
-    /// Waits until a round was served, by this caller or another that leads, and returns the answer. The answer is
-    /// `Memory` if there is no memory to put it into the queue.
-    fn answer(&self, rt: &R, job: Job<L>) -> Done<L>
+    /// Waits until a round of these requests was served, by this caller or another that leads, and returns the answer. The
+    /// answer is `Memory` if there is no memory to put it into the queue.
+    ///
+    /// No other round of the store has the same ticket, so the answer is to these requests. Only the comparison proves it.
+    fn answer(&self, rt: &R, job: Job<L>, requests: &[(u64, Request)]) -> Done<L>
     where
         R: Wait,
-        ensures { result.ticket ≡ job.ticket }
+        ensures ticket { result.ticket ≡ job.ticket }
+        ensures requests { OnOk result.answer (result.requests ≡ requests.now) }
     {
         let ticket = job.ticket;
         if let Err(job) = self.put(rt, job) {
             return job.refused();
         }
         for _ in rt.forever() {
-            if let Some(done) = self.wait(rt, ticket) {
-                return done;
-            }
-            if let Some(done) = self.lead(rt, ticket) {
+            let Some(done) = self.wait_or_lead(rt, ticket) else {
+                continue;
+            };
+            if done.is_to(requests) {
                 return done;
             }
         }
         unreachable!()
+    }
+
+    /// Waits until the answer to this round is there, and returns it. If nobody leads, this caller leads once, and returns
+    /// the answer if its round was served.
+    fn wait_or_lead(&self, rt: &R, ticket: Ticket) -> Option<Done<L>>
+    where
+        R: Wait,
+        ensures { IfSome result (λ done. done.ticket ≡ ticket) }
+    {
+        if let Some(done) = self.wait(rt, ticket) {
+            return Some(done);
+        }
+        self.lead(rt, ticket)
     }
 
     /// Puts a round into the queue. If memory runs out, the round is returned.
@@ -280,6 +285,17 @@ impl<R, S: RoundService<R>, L: Opening> SharedStore<R, S, L> {
         self.moved.notify_all();
     }
 
+    /// Compares receipts with the history, which has the record of each at its place. The history is legal, so the replies
+    /// are those of the voters after the rounds before. Two receipts of one place have the same requests and replies.
+    pub fn confirm(&self, rt: &R, receipts: &mut [Receipt<L>])
+    where
+        R: Wait,
+        ensures same { receipts.new ≡ receipts.old }
+        ensures found { AreInHistory L.served receipts.old }
+    {
+        self.desk.lock(rt).confirm(rt, &self.history, receipts);
+    }
+
     /// Returns what `take_journal` begins with: no records were taken yet.
     pub fn none_taken(&self, rt: &R) -> Taken<L>
     where
@@ -290,13 +306,15 @@ impl<R, S: RoundService<R>, L: Opening> SharedStore<R, S, L> {
     }
 
     /// Removes the records that the journal keeps and returns them, while threads serve. They follow those that were taken
-    /// before, and are added to these. If others were removed by another `Taken`, nothing is removed.
+    /// before, and are added to these: then all records of the history were taken. If others were removed by another
+    /// `Taken`, nothing is removed.
     pub fn take_journal(&self, rt: &R, taken: &mut Taken<L>) -> Vec<Round>
     where
         R: Wait,
-        ensures { taken.new ≡ taken.old ++ result.items }
+        ensures taken { taken.new ≡ taken.old ++ result.items }
+        ensures all { AreTaken L.served taken.old taken.new }
     {
-        self.desk.lock(rt).take(&self.history, taken)
+        self.desk.lock(rt).take(rt, &self.history, taken)
     }
 
     /// Returns the store and the records that its journal kept, given all seats. There is a history of all its rounds,
@@ -310,7 +328,7 @@ impl<R, S: RoundService<R>, L: Opening> SharedStore<R, S, L> {
         self,
         rt: &R,
         seats: Vec<Seat<L>>,
-        receipts: Vec<Receipt>,
+        receipts: Vec<Receipt<L>>,
         taken: Taken<L>,
     ) -> Result<Settled<S>, SettleFault<R, S, L>>
     where
@@ -356,11 +374,15 @@ impl<R, S: RoundService<R>, L: Opening> SharedStore<R, S, L> {
 }
 
 impl<R, S: Maintenance<R>, L: Opening> SharedStore<R, S, L> {
+    ghost use Rattle.raft_voter_shared.specs.Purging.{IsPurge};
+
     /// Purges the store's files while it serves no round. Returns the groups to compact. Records nothing in the journal.
-    /// Whether it succeeds or fails, no voter changes.
+    /// Whether it succeeds or fails, no voter changes. The result is that of a purge of the store, after some rounds.
     pub fn maintain(&self, rt: &R) -> Result<Vec<u64>, S::Refusal>
     where
         R: Wait,
+        ensures ok { IfOk result (λ groups. IsPurge S.service L.served (S.purges groups.items)) }
+        ensures err { IfErr result (λ refusal. IsPurge S.service L.served (S.refuses refusal)) }
     {
         self.desk.lock(rt).maintain(rt)
     }

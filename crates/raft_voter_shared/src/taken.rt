@@ -59,6 +59,15 @@ impl<L: Opening> Taken<L> {
         self.count += more;
     }
 
+    /// Compares these records with the history, as `find` does, and keeps them.
+    pub(crate) fn check<R: Wait>(&mut self, rt: &R, history: &History<L>, keeper: &mut Keeper<L>)
+        ensures same { (self.new ≡ self.old) × (keeper.new ≡ keeper.old) }
+        ensures found { HasTaken keeper.old self.old }
+    {
+        let again = self.claim.again(history);
+        keeper.find(rt, history, again);
+    }
+
     /// Compares these records with the history: it has them as its first ones.
     pub(crate) fn find<R: Wait>(self, rt: &R, history: &History<L>, keeper: &mut Keeper<L>)
         ensures same { keeper.new ≡ keeper.old }

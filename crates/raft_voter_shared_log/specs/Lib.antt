@@ -3,3 +3,4 @@ pub mod GoingOn
 pub mod Joining
 pub mod Disks
 pub mod LogOpenings
+pub mod Purging

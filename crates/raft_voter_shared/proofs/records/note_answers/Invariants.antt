@@ -1,6 +1,6 @@
 use Rattle.std.proofs.Common.{◌≡◌, ◌+◌, ◌<◌, ◌≤◌, ◌++◌, length, map, vec_capacity, vec_len}
 use Rattle.std.specs.Prelude.{◌^◌}
-use Rattle.std.specs.List.{All}
+use Rattle.std.specs.List.{All, flat_map}
 use Rattle.std.specs.VecDeque.{deque_len}
 use Rattle.raft_voter_shared.specs.Noting.{answered_each, told_each}
 use Rattle.raft_voter_shared.proofs.records.note_answers.Given as goal
@@ -15,6 +15,7 @@ invariant-loop-part g l = record {
       ≡ told_each (length l.fn.journal.history) (map (λ part. part.ticket.count) l.fn.parts.items) l.fn.noted.items;
   whose : map (λ done. done.ticket) l.done.items ++ map (λ part. part.ticket) l.parts.items ≡ map (λ part. part.ticket) l.fn.parts.items;
   same : l.noted.items ≡ l.handed.items;
+  each : flat_map (λ part. part.requests) l.parts.items ≡ l.asked.items;
   short : All (λ part. part.ticket.count ≤ 4096) l.parts.items;
   records : vec_len l.journal.kept + length l.parts.items ≤ vec_capacity l.journal.kept;
   more : length l.journal.history + length l.parts.items < 2 ^ 64;

@@ -18,7 +18,7 @@ invariant_of-self g c =
     let rounds = old.journal.history in
     let before = v.is_failed old.store in
     let after = v.is_failed now in
-    let kept = c.maintain-purged.ensures in
+    let kept = c.maintain-purged.ensures.keeps in
     let failed : c.failure_in_purge.result ≡ failure_in_purge before after old.failure =
     c.failure_in_purge.ensures ∙ ap (λ b. failure_in_purge b c.is_failed.result old.failure) c.is_failed-before.ensures
     ∙ ap (λ b. failure_in_purge before b old.failure) c.is_failed.ensures in

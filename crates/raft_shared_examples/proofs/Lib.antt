@@ -1,0 +1,3 @@
+mod Closed
+mod Living
+mod Placed

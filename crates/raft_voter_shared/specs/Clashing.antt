@@ -1,0 +1,24 @@
+-- A quick test that no receipts contradict each other. At the place of each record that is kept, it notes the seat and
+-- the turn of the receipt there. Then the turns of each seat must rise with the places.
+use Rattle.std.specs.Prelude.{◌≡◌, ◌≢◌, ℕ, ◌-◌, ◌<◌, ◌≤◌, false, List, slice_get, Option, Some}
+use Rattle.raft_voter_shared.specs.declared.receipt.Statement.{Statement}
+use Rattle.raft_voter_shared.specs.Receipts.{clashes}
+
+-- The receipts whose index in the list is below `end` have different places, from place `first` on. The seat and turn of
+-- each of them are noted at its place.
+pub record AreNoted (first : ℕ) (receipts : List Statement) (end : ℕ) (turns : List (Option (ℕ × ℕ))) : Type 0 where
+  pub noted : (index : ℕ) (r : Statement) → index < end → slice_get receipts index ≡ Some r → first ≤ r.place
+      → slice_get turns (r.place - first) ≡ Some (Some (r.seat, r.turn))
+  pub apart : (index other : ℕ) (r s : Statement) → index < other → other < end → slice_get receipts index ≡ Some r
+      → slice_get receipts other ≡ Some s → first ≤ r.place → r.place ≢ s.place
+
+-- of the turns that are noted at places below `end`, a seat's later one isn't lower
+abbrev pub RiseBelow : List (Option (ℕ × ℕ)) → ℕ → Type 0
+RiseBelow turns end =
+    (place next seat turn later : ℕ) → place < next → next < end → slice_get turns place ≡ Some (Some (seat, turn))
+    → slice_get turns next ≡ Some (Some (seat, later)) → turn ≤ later
+
+-- no receipt from place `first` on contradicts another one
+abbrev pub NoneClashes : ℕ → List Statement → Type 0
+NoneClashes first receipts =
+    (index : ℕ) (r : Statement) → slice_get receipts index ≡ Some r → first ≤ r.place → clashes receipts index r ≡ false

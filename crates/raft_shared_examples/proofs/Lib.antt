@@ -1,3 +1,0 @@
-mod Closed
-mod Living
-mod Placed

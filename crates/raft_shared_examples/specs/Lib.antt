@@ -1,3 +1,0 @@
-pub mod Seats
-pub mod Sharing
-pub mod Lives

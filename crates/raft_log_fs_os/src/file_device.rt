@@ -55,8 +55,8 @@ pub(crate) const PIECE: usize = 1 << 16;
 /// - A header and a record of Rewrite that find no space are tried once more, in the space that the directory keeps in
 ///   reserve. So is the making of a file.
 /// - A call that fails is printed to standard error, with the path.
-/// - A directory is only made if the log's own files are only read, for a copy: nobody locks it. While a log is written,
-///   each of its directories has to be one that was opened.
+/// - A directory is only made if the log's own files are only read, for a copy: nobody locks it. While a log is
+///   written, each of its directories has to be one that was opened.
 #[derive(Drop)]
 pub struct FileDevice<R> {
     rt: R,

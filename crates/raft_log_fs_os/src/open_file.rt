@@ -32,8 +32,8 @@ pub(crate) fn reported<R: Eprint, T>(
     }
 }
 
-/// The error for a directory that is not one of the opened ones, and is therefore not made. Prints it, with the path, to
-/// standard error.
+/// The error for a directory that is not one of the opened ones, and is therefore not made. Prints it, with the path,
+/// to standard error.
 pub(crate) fn unopened<R: Eprint>(rt: &R, path: &str) -> ErrorKind {
     let _printed = eprintln!(rt;
         "{path}: not made, since it is no directory that was opened"

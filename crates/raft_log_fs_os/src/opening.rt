@@ -29,8 +29,8 @@ use std::{fs, io};
 ///   ignored.
 /// - The last file of either queue is written back with the same bytes and synced; then the directories are synced.
 ///   What the file system shows is therefore durable, even if a sync failed earlier in this boot of the machine.
-/// - Paths are those of the operating system; the log's settings must spell them the same. No other directory is made: it
-///   would have no lock.
+/// - Paths are those of the operating system; the log's settings must spell them the same. No other directory is made:
+///   it would have no lock.
 ///
 /// If it fails, no byte of a file and no name has changed, but files `LOCK` and `RESERVE` may have been made.
 pub fn open_directories<

@@ -13,14 +13,15 @@ pub use raft_log_file_settings::{Config, RecoveryMode};
 pub use raft_log_fs::{Fault, FileSystem, Handle, Permission, Read, Receipt};
 pub use raft_log_fs_memory::{MemoryFileSystem, Piece, Remainder};
 pub use raft_log_offline::{
-    ConsistencyChecker, CopyDetails, consistency_check_with_file_system, dump_with_file_system,
-    fork,
+    ConsistencyChecker, CopyDetails, Finding, check_log, consistency_check_with_file_system,
+    dump_with_file_system, fork,
 };
 pub use raft_log_record_base::{
     Error, FileBlockHandle, FileId, FileSeq, LogQueue, ReadableSize, Result, Version,
 };
 pub use raft_log_record_batches::{BatchState, LogBatch};
 pub use raft_log_record_items::{
-    Command, CompressionType, EntryIndex, LogItem, LogItemContent, Message, MessageExt, OpType,
+    Bytes, Command, CompressionType, EntryIndex, LogItem, LogItemContent, Message, MessageExt,
+    OpType,
 };
 pub use raft_log_recovery::{DualPipesBuilder, DualPipesBuilder as FilePipeLogBuilder};

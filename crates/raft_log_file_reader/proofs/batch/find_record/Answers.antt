@@ -1,4 +1,5 @@
 use Rattle.std.proofs.Common.{◌≡◌, ◌+◌, ◌<◌, ◌≤◌, length, List, ℕ, IsOk, take, drop, refl, subst, ap, sym, arith}
+use Rattle.std.proofs.lemmas.Bool.{iff_false}
 use Rattle.std.proofs.lemmas.List.{length-drop}
 use Rattle.raft_log_record_frames.specs.Record.{header_at}
 use Rattle.raft_log_file_format.specs.Padding.{IsZeroPadded}
@@ -43,7 +44,7 @@ returns-then-is_zero_padded-clause-ok g c =
             room = long;
             inside = inside;
             broken = header_bad bytes long
-                (λ good. let told = c.begins_header.ensures.1 (subst (λ (l : List ℕ). IsOk (header_at l)) (sym held) good) in absurd cc);
+                (λ good. iff_false c.begins_header.ensures c.if-begins_header.false (subst (λ (l : List ℕ). IsOk (header_at l)) (sym held) good));
             zeros = zeros;
           })
           (ap (λ m. c.args.offset + m) n);

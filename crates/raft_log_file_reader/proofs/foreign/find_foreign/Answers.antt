@@ -1,4 +1,5 @@
 use Rattle.std.proofs.Common.{◌+◌, ◌-◌, ◌≤◌, ℕ, List, drop, subst, ap, ◌∙◌, arith}
+use Rattle.std.proofs.lemmas.Bool.{iff_false}
 use Rattle.std.proofs.lemmas.Result.{err_from_is_err_and}
 use Rattle.raft_log_record_base.specs.Files.{signature_of}
 use Rattle.raft_log_file_reader.specs.ForeignHeader.{SpellsHeader}
@@ -45,7 +46,7 @@ returns-then-not-is_foreign-clause-ok g c = λ honest.
     let held = c.held.ensures.bytes content (c.in_ok-peek.ensures.part.part honest) in
     let spelled = spelled_whole (drop c.in_ok-at.at content) c.in-Ok.header (subst (λ (l : List ℕ). SpellsHeader l c.in-Ok.header) held c.in-Ok.ensures.ok) in
     no_header file content c.args.offset c.in_ok-at.at (file.source.size - c.in_ok-at.at) goes_on (ap (λ (n : ℕ). n - c.in_ok-at.at) c.requires.part.size) c.in-Ok.header spelled
-    (λ fits. let told = c.is_foreign.ensures.1 fits in absurd cc)
+    (λ fits. iff_false c.is_foreign.ensures c.if-not-is_foreign.true fits)
 
 pub returns-then-not-has_checksum-clause-ok : goal.returns-then-not-has_checksum-clause-ok
 returns-then-not-has_checksum-clause-ok g c = λ honest.
@@ -61,7 +62,7 @@ returns-then-not-has_checksum-clause-ok g c = λ honest.
     let context = context_is c.new-context.result file c.new-context.ensures.id c.new-context.ensures.version in
     let signed = c.get_signature.ensures ∙ ap signature_of context in
     no_footer file content c.args.offset c.in_ok-at.at (file.source.size - c.in_ok-at.at) goes_on (ap (λ (n : ℕ). n - c.in_ok-at.at) c.requires.part.size) header spelled
-    (λ right. let told = c.has_checksum.ensures.1 (rw (signed, footer) right) in absurd cc)
+    (λ right. iff_false c.has_checksum.ensures c.if-not-has_checksum.true (rw (signed, footer) right))
 
 pub returns-clause-ok : goal.returns-clause-ok
 returns-clause-ok g c = λ honest.

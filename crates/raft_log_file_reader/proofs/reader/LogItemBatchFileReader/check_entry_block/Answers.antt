@@ -10,6 +10,9 @@ use Rattle.raft_log_file_reader.specs.declared.reader.LogItemBatchFileReader.{Lo
 use Rattle.raft_log_file_reader.proofs.Extents.{cannot_fails, fault_fails}
 use Rattle.raft_log_file_reader.proofs.reader.LogItemBatchFileReader.check_entry_block.Goals as goal
 
+pub peek-requires-clause-part : goal.peek-requires-clause-part
+peek-requires-clause-part g c = (c.requires.reading c.in-Some.file c.in-Some.is).holds
+
 pub returns-in_err-peek-clause-reading : goal.returns-in_err-peek-clause-reading
 returns-in_err-peek-clause-reading g c = λ x is.
     let d = g.F.FileSystem.disk c.args.file_system.now in

@@ -10,6 +10,9 @@ use Rattle.raft_log_file_reader.proofs.reader.LogItemBatchFileReader.foreign_rec
 pub find_foreign-requires-clause-inside : goal.find_foreign-requires-clause-inside
 find_foreign-requires-clause-inside g c = c.requires.inside c.in-Some.file c.in-Some.is
 
+pub find_foreign-requires-clause-part : goal.find_foreign-requires-clause-part
+find_foreign-requires-clause-part g c = (c.requires.reading c.in-Some.file c.in-Some.is).holds
+
 pub returns-clause-reading : goal.returns-clause-reading
 returns-clause-reading g c = λ x is.
     let d = g.F.FileSystem.disk c.args.file_system.now in
@@ -30,7 +33,7 @@ returns-clause-ok g c = λ x is.
     let file = c.in-Some.file in
     let same : file ≡ x = cc in
     let honest = c.find_foreign.ensures.receipts.stays g.met.F.FileSystem.truthful (c.requires.reading file c.in-Some.is).honest in
-    subst (λ (f : OpenFile). IfOk c.find_foreign.result (FindsForeign f (bytes_of f.source d) c.args.offset)) same (if_ok_told c.find_foreign.result honest c.find_foreign.ensures.ok)
+    subst (λ (f : OpenFile). IfOk c.find_foreign.result (FindsForeign f (bytes_of f.source d) c.args.offset)) same (if_ok_told _ c.find_foreign.result honest c.find_foreign.ensures.ok)
 
 pub returns-clause-err : goal.returns-clause-err
 returns-clause-err g c = λ x is.
@@ -38,4 +41,4 @@ returns-clause-err g c = λ x is.
     let file = c.in-Some.file in
     let same : file ≡ x = cc in
     let honest = c.find_foreign.ensures.receipts.stays g.met.F.FileSystem.truthful (c.requires.reading file c.in-Some.is).honest in
-    subst (λ (f : OpenFile). IfErr c.find_foreign.result (CannotRead f.source c.args.offset d)) same (if_err_told c.find_foreign.result honest c.find_foreign.ensures.err)
+    subst (λ (f : OpenFile). IfErr c.find_foreign.result (CannotRead f.source c.args.offset d)) same (if_err_told _ c.find_foreign.result honest c.find_foreign.ensures.err)

@@ -9,6 +9,9 @@ use Rattle.raft_log_file_reader.specs.declared.reader.LogItemBatchFileReader.{Lo
 use Rattle.raft_log_file_reader.proofs.Opened.{cannot_behind, fails_behind}
 use Rattle.raft_log_file_reader.proofs.reader.LogItemBatchFileReader.next.Goals as goal
 
+pub find_record-requires-clause-part : goal.find_record-requires-clause-part
+find_record-requires-clause-part g c = (c.requires c.in-Some.file c.in-Some.is).holds
+
 pub find_record-requires-clause-inside : goal.find_record-requires-clause-inside
 find_record-requires-clause-inside g c = (c.requires c.in-Some.file c.in-Some.is).within
 

@@ -1,8 +1,7 @@
-use Rattle.std.proofs.Common.{◌≡◌, ◌+◌, ◌∙◌, ◌≤◌, length, Bool, IsTrue, ap, subst, sym, arith}
+use Rattle.std.proofs.Common.{◌+◌, ◌∙◌, ◌≤◌, length, Bool, ap, subst, sym, arith}
 use Rattle.raft_log_fs.specs.Receipts.{Collects}
 use Rattle.raft_log_file_reader.specs.Source.{bytes_of}
 use Rattle.raft_log_file_reader.proofs.Refusals.{refused_earlier}
-use Rattle.raft_log_file_reader.specs.declared.window.Window.{Window}
 use Rattle.raft_log_file_reader.proofs.window.Window.peek.Goals as goal
 
 pub end-requires : goal.end-requires

@@ -1,18 +1,15 @@
 -- Whether the next record is foreign.
-use Rattle.std.proofs.Common.{◌≡◌, ℕ, ◌+◌, ◌-◌, ◌%◌, ◌/◌, ◌<◌, ◌≤◌, List, length, take, drop, Option, IsOk, lit≤, sym, ap, subst, ◌∙◌, arith}
+use Rattle.std.proofs.Common.{◌≡◌, ℕ, ◌+◌, ◌-◌, ◌%◌, ◌/◌, ◌<◌, List, length, take, drop, Option, IsOk, lit≤, sym, ap, subst, ◌∙◌, arith}
 use Rattle.std.specs.Prelude.{slice_range}
 use Rattle.std.specs.Int.{w64, from_be_bytes}
 use Rattle.std.proofs.lemmas.List.{length-take, length-drop, take-take, drop-take, drop-drop}
 use Rattle.raft_log_record_base.specs.Files.{signature_of}
-use Rattle.raft_log_fs.specs.Disk.{Disk}
 use Rattle.raft_log_record_frames.specs.Record.{body_of}
 use Rattle.raft_log_file_reader.specs.Batches.{GoesOnAt, context_of}
 use Rattle.raft_log_file_reader.specs.Foreign.{BeginsForeign, HasForeignRecord, footer_in, len_in}
 use Rattle.raft_log_file_reader.specs.ForeignHeader.{IsForeignHeader, SpellsHeader}
 use Rattle.raft_log_file_reader.specs.declared.foreign.SpelledHeader.{SpelledHeader}
 use Rattle.raft_log_file_reader.specs.declared.open_file.OpenFile.{OpenFile}
-use Rattle.raft_log_file_reader.specs.Source.{bytes_of}
-use Rattle.raft_log_file_reader.proofs.Opened.{goes_on_within}
 use Rattle.raft_log_file_reader.proofs.Readings.{one_place}
 
 -- a header stands in its first sixteen bytes
@@ -87,9 +84,3 @@ module _ (file : OpenFile) (content : List ℕ) (offset at left : ℕ) (goes_on 
     };
     is = spelled.compression;
   }
-
--- where the next record begins
-pub at_inside : (file : OpenFile) (d : Disk) (offset at : ℕ) → file.source.size ≡ length (bytes_of file.source d) → offset ≤ file.source.size → GoesOnAt file.format.alignment (bytes_of file.source d) offset at → (offset ≤ at) × (at ≤ file.source.size)
-at_inside file d offset at size inside goes_on =
-    let within = goes_on_within file.format.alignment (bytes_of file.source d) offset at (omega (arith, size, inside)) goes_on in
-    (within.0, omega (arith, within.1, size))

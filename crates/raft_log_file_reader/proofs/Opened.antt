@@ -81,7 +81,3 @@ header_begins content rest text format len inside says are split = record {
   splits = sym (take-append-drop len content) ∙ ap (λ (front : List ℕ). front ++ drop len content) split ∙ append_assoc text rest (drop len content);
   ends = omega (arith, ap length split, length-append text rest, length-take len content, inside);
 }
-
--- what is behind the header is no more than was read
-pub rest_fits : (content rest text : List ℕ) (len : ℕ) → take len (drop 0 content) ≡ text ++ rest → length rest ≤ len
-rest_fits content rest text len split = omega (arith, ap length split, length-append text rest, length-take len (drop 0 content))

@@ -1,5 +1,5 @@
 -- A batch has more bytes than items.
-use Rattle.std.proofs.Common.{◌≡◌, ℕ, zero, suc, ◌+◌, ◌<◌, ◌≤◌, List, [], ◌∷◌, ◌++◌, length, take, drop, refl, ap, ◌∙◌, arith}
+use Rattle.std.proofs.Common.{◌≡◌, ℕ, zero, suc, ◌+◌, ◌<◌, ◌≤◌, List, [], ◌∷◌, ◌++◌, length, take, drop, Option, refl, ap, ◌∙◌, arith}
 use Rattle.std.proofs.lemmas.List.{length-append, length-map, length-take-le}
 use Rattle.raft_log_record_base.specs.Grammar.{Times}
 use Rattle.raft_log_record_base.specs.Number.{IsVarU64}
@@ -8,6 +8,7 @@ use Rattle.raft_log_record_base.specs.declared.pipe_log.FileBlockHandle.{FileBlo
 use Rattle.raft_log_record_items.specs.declared.item.LogItem.{LogItem}
 use Rattle.raft_log_record_items.specs.Items.{IsItem, AreItems}
 use Rattle.raft_log_record_items.specs.Placed.{laid_out, placed, written_item, content_len}
+use Rattle.raft_log_record_frames.specs.ItemBatch.{IsPlacedFooter}
 use Rattle.raft_log_record_frames.specs.Record.{Front}
 use Rattle.raft_log_record_frames.proofs.Fronts.{frame_is_read}
 use Rattle.raft_log_file_reader.specs.Batches.{GoesOnAt, block_at, context_of}
@@ -37,6 +38,18 @@ laid_len offset (x ∷ xs) = ap suc (laid_len (offset + content_len x.content) x
 
 placed_len : (handle : FileBlockHandle) (xs : List LogItem) → length (placed handle xs) ≡ length xs
 placed_len handle xs = length-map (laid_out 0 xs) (written_item handle) ∙ laid_len 0 xs
+
+-- the footer of a batch has more bytes than items
+pub footer_outweighs : (signature : Option ℕ) (block : FileBlockHandle) (bytes : List ℕ) (batch : List LogItem) → IsPlacedFooter signature block bytes batch → length batch < length bytes
+footer_outweighs signature block bytes batch is =
+    omega (
+      arith,
+      items_take is.footer.body is.items is.footer.items_spelled,
+      ap length is.footer.joined,
+      length-append is.footer.body is.footer.checksum,
+      ap length is.places,
+      placed_len block is.items,
+    )
 
 behind : (alignment : ℕ) (content : List ℕ) (offset at : ℕ) → GoesOnAt alignment content offset at → offset ≤ at
 behind alignment content offset at (behind_padding padding is) = omega (arith, is)

@@ -9,6 +9,7 @@ pub mod Window
 pub mod Source
 pub mod Holding
 pub mod Batches
+pub mod Places
 pub mod Refused
 pub mod Opening
 pub mod Reader

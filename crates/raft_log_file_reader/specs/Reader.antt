@@ -1,5 +1,5 @@
 -- A reader of one log file at a time: its state, and what its calls return.
-use Rattle.std.specs.Prelude.{◌≡◌, ℕ, ◌+◌, ◌-◌, ◌≤◌, length, Option, Some, None, MatchOption}
+use Rattle.std.specs.Prelude.{◌≡◌, ℕ, ◌+◌, ◌-◌, ◌≤◌, length, Bool, IsTrue, Option, Some, None, MatchOption}
 use Rattle.std.specs.Option.{ForSome}
 use Rattle.raft_log_record_base.specs.declared.pipe_log.FileId.{FileId}
 use Rattle.raft_log_record_base.specs.declared.pipe_log.FileBlockHandle.{FileBlockHandle}
@@ -27,10 +27,15 @@ end_of reader = reader.valid_offset
 abbrev pub last_block : LogItemBatchFileReader → FileBlockHandle
 last_block reader = reader.last_block
 
+-- whether all reads of the open file returned what the disk holds
+abbrev pub honest_of : LogItemBatchFileReader → Bool
+honest_of reader = reader.window.receipt.honest
+
 -- the reader's window has the bytes that this file has on the disk, its size is the file's, and its offset is within
--- the file
+-- the file; all reads of the file were honest
 pub record IsReadingFile (d : Disk) (reader : LogItemBatchFileReader) (file : OpenFile) : Type 0 where
   pub holds : HoldsPart file.source d reader.window
+  pub honest : IsTrue (honest_of reader)
   pub within : reader.valid_offset ≤ file.source.size
 
 -- if the reader has a file open, the reader's size, window and offset fit that file on the disk

@@ -1,10 +1,12 @@
 //! Reads one batch through a window: the padding before it, its header and its footer.
 ghost use Rattle.std.specs.Prelude.{◌≡◌, ◌+◌, ◌-◌, ◌≤◌, ◌<◌, ◌^◌, ◌↔◌, length, take, drop, Ok, IsOk, IsTrue, IfOk, IfErr};
+ghost use Rattle.raft_log_fs.specs.Receipts.{Collects};
 ghost use Rattle.raft_log_record_frames.specs.Record.{header_at};
 ghost use Rattle.raft_log_file_reader.specs.Source.{bytes_of, CannotRead};
 ghost use Rattle.raft_log_file_reader.specs.Holding.{HoldsPart};
-ghost use Rattle.raft_log_file_reader.specs.Batches.{GoesOnAt, IsBlockAt, padding_len, extent_at, batch_at, context_of};
+ghost use Rattle.raft_log_file_reader.specs.Batches.{IsBlockAt, padding_len, extent_at, batch_at, context_of};
 ghost use Rattle.raft_log_file_reader.specs.Refused.{FailsAt};
+ghost use Rattle.raft_log_file_reader.specs.Places.{FindsPlace};
 
 use crate::open_file::OpenFile;
 use crate::window::Window;
@@ -47,8 +49,10 @@ pub(crate) fn find_record<F: FileSystem>(
     requires inside { offset ≤ file.now.source.size }
     ensures part { HoldsPart file.now.source (F.disk file_system.now) window.new }
     ensures ok { IfOk result
-        (GoesOnAt file.now.format.alignment (bytes_of file.now.source (F.disk file_system.now)) offset) }
-    ensures err { IfErr result (CannotRead file.now.source offset (F.disk file_system.now)) }
+        (FindsPlace window.new.receipt.honest file.now (F.disk file_system.now) offset) }
+    ensures err { IfErr result (λ error. IsTrue window.new.receipt.honest
+        → CannotRead file.now.source offset (F.disk file_system.now) error) }
+    ensures receipts { Collects F.tells_truth window.old.receipt.honest window.new.receipt.honest }
 {
     let left = file.source.size - offset;
     let padding = padding_len(file.format.alignment as usize, offset);
@@ -81,13 +85,15 @@ fn read_extent<F: FileSystem>(
     requires part { HoldsPart file.now.source (F.disk file_system.now) window.old }
     requires inside { at ≤ file.now.source.size }
     ensures part { HoldsPart file.now.source (F.disk file_system.now) window.new }
-    ensures ok { IfOk result
-        (λ extent. extent_at (drop at (bytes_of file.now.source (F.disk file_system.now))) ≡ Ok extent) }
+    ensures ok { IfOk result (λ extent. IsTrue window.new.receipt.honest
+        → extent_at (drop at (bytes_of file.now.source (F.disk file_system.now))) ≡ Ok extent) }
     ensures inside { IfOk result (λ extent. at + extent.1 ≤ file.now.source.size) }
     ensures fits { IfOk result (λ extent. at + extent.1 < 2 ^ 64) }
     ensures order { IfOk result (λ extent. (16 ≤ extent.0) × (extent.0 ≤ extent.1)) }
-    ensures err { IfErr result (λ e. FailsAt file.now.source (F.disk file_system.now) at e
+    ensures err { IfErr result (λ e. IsTrue window.new.receipt.honest
+        → FailsAt file.now.source (F.disk file_system.now) at e
         (extent_at (drop at (bytes_of file.now.source (F.disk file_system.now))))) }
+    ensures receipts { Collects F.tells_truth window.old.receipt.honest window.new.receipt.honest }
 {
     let left = file.source.size - at;
     if left < LOG_BATCH_HEADER_LEN {
@@ -119,17 +125,19 @@ pub(crate) fn read_batch<F: FileSystem>(
     requires part { HoldsPart file.now.source (F.disk file_system.now) window.old }
     requires inside { at ≤ file.now.source.size }
     ensures part { HoldsPart file.now.source (F.disk file_system.now) window.new }
-    ensures ok { IfOk result
-        (λ found. batch_at (context_of file.now) at (bytes_of file.now.source (F.disk file_system.now))
+    ensures ok { IfOk result (λ found. IsTrue window.new.receipt.honest
+        → batch_at (context_of file.now) at (bytes_of file.now.source (F.disk file_system.now))
         ≡ Ok (found.0, found.2.items)) }
-    ensures block { IfOk result (λ found.
-        IsBlockAt (context_of file.now) at (bytes_of file.now.source (F.disk file_system.now)) found.1) }
+    ensures block { IfOk result (λ found. IsTrue window.new.receipt.honest
+        → IsBlockAt (context_of file.now) at (bytes_of file.now.source (F.disk file_system.now)) found.1) }
     ensures block_inside { IfOk result (λ found. found.1.offset + found.1.len ≤ file.now.source.size) }
     ensures inside { IfOk result (λ found. at + found.0 ≤ file.now.source.size) }
     ensures fits { IfOk result (λ found. at + found.0 < 2 ^ 64) }
-    ensures some { IfOk result (λ found. 0 < found.0) }
-    ensures err { IfErr result (λ e. FailsAt file.now.source (F.disk file_system.now) at e
+    ensures weighs { IfOk result (λ found. length found.2.items < found.0) }
+    ensures err { IfErr result (λ e. IsTrue window.new.receipt.honest
+        → FailsAt file.now.source (F.disk file_system.now) at e
         (batch_at (context_of file.now) at (bytes_of file.now.source (F.disk file_system.now)))) }
+    ensures receipts { Collects F.tells_truth window.old.receipt.honest window.new.receipt.honest }
 {
     let source = file.source;
     let (footer, len) = read_extent(alloc, file_system, file, window, at)?;

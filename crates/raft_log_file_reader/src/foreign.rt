@@ -1,5 +1,6 @@
 //! Finds foreign records: whole ones whose compression this log doesn't read.
 ghost use Rattle.std.specs.Prelude.{◌≡◌, ◌↔◌, ◌≤◌, length, IsOk, IsTrue, IfOk, IfErr};
+ghost use Rattle.raft_log_fs.specs.Receipts.{Collects};
 ghost use Rattle.raft_log_record_frames.specs.Record.{body_of};
 ghost use Rattle.raft_log_file_reader.specs.Foreign.{FindsForeign};
 ghost use Rattle.raft_log_file_reader.specs.ForeignHeader.{IsForeignHeader, SpellsHeader};
@@ -91,9 +92,11 @@ pub(crate) fn find_foreign<F: FileSystem>(
     requires part { HoldsPart file.now.source (F.disk file_system.now) window.old }
     requires inside { offset ≤ file.now.source.size }
     ensures part { HoldsPart file.now.source (F.disk file_system.now) window.new }
-    ensures ok { IfOk result
-        (FindsForeign file.now (bytes_of file.now.source (F.disk file_system.now)) offset) }
-    ensures err { IfErr result (CannotRead file.now.source offset (F.disk file_system.now)) }
+    ensures ok { IfOk result (λ found. IsTrue window.new.receipt.honest
+        → FindsForeign file.now (bytes_of file.now.source (F.disk file_system.now)) offset found) }
+    ensures err { IfErr result (λ error. IsTrue window.new.receipt.honest
+        → CannotRead file.now.source offset (F.disk file_system.now) error) }
+    ensures receipts { Collects F.tells_truth window.old.receipt.honest window.new.receipt.honest }
 {
     let source = file.source;
     let at = find_record(alloc, file_system, file, window, offset)?;

@@ -1,5 +1,6 @@
 //! Reads the header at the start of a log file.
-ghost use Rattle.std.specs.Prelude.{◌≡◌, ◌≤◌, length, IfOk, IfErr};
+ghost use Rattle.std.specs.Prelude.{◌≡◌, ◌≤◌, length, IsTrue, IfOk, IfErr};
+ghost use Rattle.raft_log_fs.specs.Receipts.{Collects};
 ghost use Rattle.raft_log_file_reader.specs.Source.{bytes_of};
 ghost use Rattle.raft_log_file_reader.specs.Opening.{SaysFormat, FailsToOpen};
 
@@ -19,10 +20,12 @@ pub(crate) fn read_format<F: FileSystem>(
     window: &mut Window,
 ) -> Result<(LogFileFormat, usize)>
     requires { source.size ≡ length (bytes_of source (F.disk file_system.now)) }
-    ensures ok { IfOk result
-        (λ found. SaysFormat (bytes_of source (F.disk file_system.now)) found.0 found.1) }
+    ensures ok { IfOk result (λ found. IsTrue window.new.receipt.honest
+        → SaysFormat (bytes_of source (F.disk file_system.now)) found.0 found.1) }
     ensures inside { IfOk result (λ found. found.1 ≤ source.size) }
-    ensures err { IfErr result (FailsToOpen source.handle (F.disk file_system.now)) }
+    ensures err { IfErr result (λ error. IsTrue window.new.receipt.honest
+        → FailsToOpen source.handle (F.disk file_system.now) error) }
+    ensures receipts { Collects F.tells_truth window.old.receipt.honest window.new.receipt.honest }
 {
     window.begin(0);
     let len = source.size.min(LogFileFormat::max_encoded_len());

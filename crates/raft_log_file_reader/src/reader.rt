@@ -1,5 +1,5 @@
 //! A reader of the batches of a log file.
-ghost use Rattle.std.specs.Prelude.{◌≡◌, ◌≤◌, length, None, Some, Ok, ◌<◌, IsOk, OnOk, OnSome, IfOk, IfErr, OnErr};
+ghost use Rattle.std.specs.Prelude.{◌≡◌, ◌≤◌, length, None, Some, Ok, ◌<◌, IsOk, IsTrue, OnOk, OnSome, IfOk, IfErr, OnErr};
 ghost use Rattle.raft_log_record_frames.specs.Record.{block_of};
 ghost use Rattle.raft_log_record_base.specs.Files.{no_block};
 
@@ -42,7 +42,7 @@ fn no_block() -> FileBlockHandle
 
 impl LogItemBatchFileReader {
     ghost use Rattle.raft_log_fs.specs.Disk.{Disk};
-    ghost use Rattle.raft_log_file_reader.specs.Reader.{IsReading, HasNoneOpen, IsUnmoved, Opens, AnswersBatch, IsInsideFile, file_of, end_of, last_block};
+    ghost use Rattle.raft_log_file_reader.specs.Reader.{IsReading, HasNoneOpen, IsUnmoved, Opens, AnswersBatch, IsInsideFile, file_of, end_of, last_block, honest_of};
     ghost use Rattle.raft_log_file_reader.specs.Source.{bytes_of, CannotRead};
     ghost use Rattle.raft_log_file_reader.specs.Batches.{HasBlock};
     ghost use Rattle.raft_log_file_reader.specs.Foreign.{FindsForeign, IsOffsetInside};
@@ -68,8 +68,9 @@ impl LogItemBatchFileReader {
         ensures closed { HasNoneOpen self.new }
         ensures reading { (d : Disk) → IsReading d self.new }
         ensures last { last_block self.new ≡ last_block self.old }
+        ensures honest { IsTrue (honest_of self.new) }
     {
-        self.window.begin(0);
+        self.window.restart();
         self.file = None;
         self.valid_offset = 0;
     }

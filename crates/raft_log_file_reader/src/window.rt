@@ -1,12 +1,14 @@
 //! The part of a file's bytes that a reader keeps.
-ghost use Rattle.std.specs.Prelude.{◌≡◌, ◌+◌, ◌-◌, ◌≤◌, ◌<◌, ◌^◌, ◌++◌, [], List, ℕ, length, take, drop, min, vec_len, OnOk, OnErr, IfErr};
+ghost use Rattle.std.specs.Prelude.{◌≡◌, ◌+◌, ◌-◌, ◌≤◌, ◌<◌, ◌^◌, ◌++◌, [], List, ℕ, length, take, drop, min, vec_len, IsTrue, OnOk, IfErr};
+ghost use Rattle.raft_log_fs.specs.Receipts.{Collects};
 ghost use Rattle.raft_log_file_reader.specs.Window.{IsPart, Covers};
 ghost use Rattle.raft_log_file_reader.specs.Source.{bytes_of, CannotRead, CannotReadPart};
 
 use crate::source::Source;
-use raft_log_fs::FileSystem;
+use raft_log_fs::{FileSystem, Receipt};
 use raft_log_record_base::{Error, Result};
 use std::alloc::Global;
+use std::io::ErrorKind;
 
 /// If a read skips at least this many bytes, as after long entries, it reads less than a block.
 const SKIPPED: usize = 1_024;
@@ -23,6 +25,8 @@ pub(crate) struct Window {
     start: usize,
     /// How many bytes are read at once if fewer are needed.
     block_size: usize,
+    /// Covers every read of the file, also those whose bytes were dropped.
+    receipt: Receipt,
 }
 
 impl Window {
@@ -33,11 +37,13 @@ impl Window {
         ensures bytes { result.bytes.items ≡ [] }
         ensures start { result.start ≡ 0 }
         ensures block { result.block_size ≡ block_size }
+        ensures receipt { IsTrue result.receipt.honest }
     {
         Window {
             bytes: Vec::new(alloc),
             start: 0,
             block_size,
+            receipt: Receipt::none(),
         }
     }
 
@@ -46,9 +52,21 @@ impl Window {
         ensures bytes { self.new.bytes.items ≡ [] }
         ensures start { self.new.start ≡ offset }
         ensures block { self.new.block_size ≡ self.old.block_size }
+        ensures receipt { self.new.receipt ≡ self.old.receipt }
     {
         self.bytes.clear();
         self.start = offset;
+    }
+
+    /// Empties the window for another file, of which nothing was read yet.
+    pub fn restart(&mut self)
+        ensures bytes { self.new.bytes.items ≡ [] }
+        ensures start { self.new.start ≡ 0 }
+        ensures block { self.new.block_size ≡ self.old.block_size }
+        ensures receipt { IsTrue self.new.receipt.honest }
+    {
+        self.begin(0);
+        self.receipt = Receipt::none();
     }
 
     /// The offset in the file at which the kept bytes end.
@@ -79,8 +97,10 @@ impl Window {
         ensures ok { OnOk result (Covers self.new.start self.new.bytes.items offset size) }
         ensures ahead { OnOk result (Covers self.new.start self.new.bytes.items offset
             (size + min prefetch (source.size - (offset + size)))) }
-        ensures err { IfErr result (CannotRead source offset (F.disk file_system.now)) }
+        ensures err { IfErr result (λ error. IsTrue self.new.receipt.honest
+            → CannotRead source offset (F.disk file_system.now) error) }
         ensures block { self.new.block_size ≡ self.old.block_size }
+        ensures receipts { Collects F.tells_truth self.old.receipt.honest self.new.receipt.honest }
     {
         let end = offset + size;
         let wanted = end + prefetch.min(source.size - end);
@@ -113,7 +133,10 @@ impl Window {
         ensures part { (content : List ℕ) → offset ≤ length content
             → IsPart self.old.start self.old.bytes.items content
             → IsPart self.new.start self.new.bytes.items content }
+        ensures inside { (size : ℕ) → offset ≤ size → self.old.start + length self.old.bytes.items ≤ size
+            → self.new.start + length self.new.bytes.items ≤ size }
         ensures block { self.new.block_size ≡ self.old.block_size }
+        ensures receipt { self.new.receipt ≡ self.old.receipt }
     {
         if self.start <= offset && offset <= self.end() {
             self.drop_front(offset);
@@ -129,6 +152,7 @@ impl Window {
         ensures bytes { self.new.bytes.items ≡ drop (offset - self.old.start) self.old.bytes.items }
         ensures start { self.new.start ≡ offset }
         ensures block { self.new.block_size ≡ self.old.block_size }
+        ensures receipt { self.new.receipt ≡ self.old.receipt }
     {
         let dropped = offset - self.start;
         let left = self.bytes.len() - dropped;
@@ -137,7 +161,7 @@ impl Window {
         self.start = offset;
     }
 
-    /// Reads `room` bytes after those in the window. If it fails, the window is unchanged.
+    /// Reads `room` bytes after those in the window. If it fails, the window has the same bytes as before.
     pub fn read_on<F: FileSystem>(
         &mut self,
         file_system: &F,
@@ -149,16 +173,23 @@ impl Window {
         ensures part { HoldsPart source (F.disk file_system.now) self.new }
         ensures start { self.new.start ≡ self.old.start }
         ensures ok { OnOk result (length self.new.bytes.items ≡ length self.old.bytes.items + room) }
-        ensures err { IfErr result
-            (CannotRead source (self.old.start + length self.old.bytes.items) (F.disk file_system.now)) }
-        ensures unread { IfErr result (CannotReadPart source
-            (self.old.start + length self.old.bytes.items) room (F.disk file_system.now)) }
+        ensures err { IfErr result (λ error. IsTrue self.new.receipt.honest → CannotRead source
+            (self.old.start + length self.old.bytes.items) (F.disk file_system.now) error) }
+        ensures unread { IfErr result (λ error. IsTrue self.new.receipt.honest → CannotReadPart source
+            (self.old.start + length self.old.bytes.items) room (F.disk file_system.now) error) }
         ensures block { self.new.block_size ≡ self.old.block_size }
+        ensures receipts { Collects F.tells_truth self.old.receipt.honest self.new.receipt.honest }
     {
         let held = self.bytes.len();
         self.bytes.resize(held + room, 0)?;
         let at = self.start + held;
-        match fill(file_system, source, at, &mut self.bytes[held..]) {
+        match fill(
+            file_system,
+            source,
+            at,
+            &mut self.bytes[held..],
+            &mut self.receipt,
+        ) {
             Ok(()) => Ok(()),
             Err(error) => {
                 self.bytes.truncate(held);
@@ -170,26 +201,42 @@ impl Window {
     /// The `size` bytes from an offset on, which the window has.
     pub fn held(&self, offset: usize, size: usize) -> &[u8]
         requires { Covers self.now.start self.now.bytes.items offset size }
-        ensures { (content : List ℕ) → IsPart self.now.start self.now.bytes.items content
+        ensures bytes { (content : List ℕ) → IsPart self.now.start self.now.bytes.items content
             → result.now ≡ take size (drop offset content) }
+        ensures len { length result.now ≡ size }
     {
         let at = offset - self.start;
         &self.bytes[at..at + size]
     }
 }
 
-/// Fills the room with the file's bytes from an offset on.
-fn fill<F: FileSystem>(file_system: &F, source: Source, at: usize, room: &mut [u8]) -> Result<()>
+/// Fills the room with the file's bytes from an offset on. A read of fewer bytes is refused: the file has them.
+fn fill<F: FileSystem>(
+    file_system: &F,
+    source: Source,
+    at: usize,
+    room: &mut [u8],
+    receipts: &mut Receipt,
+) -> Result<()>
     requires size { source.size ≡ length (bytes_of source (F.disk file_system.now)) }
     requires inside { at + length room.old ≤ source.size }
-    ensures ok { OnOk result
-        (room.new ≡ take (length room.old) (drop at (bytes_of source (F.disk file_system.now)))) }
-    ensures err { IfErr result (CannotRead source at (F.disk file_system.now)) }
-    ensures unread { IfErr result
-        (CannotReadPart source at (length room.old) (F.disk file_system.now)) }
+    ensures ok { OnOk result (IsTrue receipts.new.honest
+        → room.new ≡ take (length room.old) (drop at (bytes_of source (F.disk file_system.now)))) }
+    ensures err { IfErr result (λ error. IsTrue receipts.new.honest
+        → CannotRead source at (F.disk file_system.now) error) }
+    ensures unread { IfErr result (λ error. IsTrue receipts.new.honest
+        → CannotReadPart source at (length room.old) (F.disk file_system.now) error) }
+    ensures receipts { Collects F.tells_truth receipts.old.honest receipts.new.honest }
 {
+    let wanted = room.len();
     match file_system.read_at(source.handle, at, room) {
-        Ok(_) => Ok(()),
+        Ok(read) => {
+            receipts.note(&read.receipt);
+            if read.count < wanted {
+                return Err(Error::Io(ErrorKind::UnexpectedEof));
+            }
+            Ok(())
+        }
         Err(kind) => Err(Error::Io(kind)),
     }
 }

@@ -18,11 +18,18 @@ returns-in-Ok-clause-part g c =
     let put = take c.len-held.result all ++ (c.fill.new.room ++ drop (length all - c.len-held.result) (drop c.len-held.result all)) in
     let inside : c.len-held.result ≤ length all = omega (arith, c.deref_mut.ensures.len, c.in_ok-resize.ensures.len) in
     let kept : length put ≡ vec_len c.resize.new.self = put-length c.len-held.result all c.fill.new.room inside (c.fill.auto.room) ∙ c.deref_mut.ensures.len in
-    let part = part_put c.args.self.now.start c.len-held.result bytes room all c.fill.new.room content c.requires.part.part held resized c.in-Ok.ensures.ok in
-    record { size = c.requires.part.size; part = subst (λ (l : List ℕ). IsPart c.args.self.now.start l content) (sym (with_items_is c.resize.new.self put kept)) part }
+    let are = with_items_is c.resize.new.self put kept in
+    record {
+      size = c.requires.part.size;
+      inside = omega (arith, ap length are, kept, c.in_ok-resize.ensures.len, held, c.requires.inside);
+      part = λ honest.
+          let before = c.requires.part.part (c.in-Ok.ensures.receipts.falls honest) in
+          let part = part_put c.args.self.now.start c.len-held.result bytes room all c.fill.new.room content before held resized (c.in-Ok.ensures.ok honest) in
+          subst (λ (l : List ℕ). IsPart c.args.self.now.start l content) (sym are) part;
+    }
 
 pub returns-in-Err-clause-unread : goal.returns-in-Err-clause-unread
-returns-in-Err-clause-unread g c =
+returns-in-Err-clause-unread g c = λ honest.
     let d = g.F.FileSystem.disk c.args.file_system.now in
     let bytes = c.args.self.now.bytes.items in
     let all = c.deref_mut.result.now in
@@ -30,4 +37,4 @@ returns-in-Err-clause-unread g c =
     let room = take (length all - c.len-held.result) (drop c.len-held.result all) in
     let count : length room ≡ c.args.room = omega (arith, length-take (length all - c.len-held.result) (drop c.len-held.result all), length-drop c.len-held.result all, c.deref_mut.ensures.len, c.in_ok-resize.ensures.len) in
     subst (λ (n : ℕ). CannotReadPart c.args.source (c.args.self.now.start + length bytes) n d c.in-Err.error) count
-    (subst (λ (n : ℕ). CannotReadPart c.args.source (c.args.self.now.start + n) (length room) d c.in-Err.error) held c.in-Err.ensures.unread)
+    (subst (λ (n : ℕ). CannotReadPart c.args.source (c.args.self.now.start + n) (length room) d c.in-Err.error) held (c.in-Err.ensures.unread honest))

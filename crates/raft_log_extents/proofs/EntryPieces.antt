@@ -171,11 +171,13 @@ module _ (es : List EntryIndex) (i : ℕ) (e : EntryIndex) (t : Bool) (first : 1
 -- The run of a piece.
 pub run_places : (e : Bool) (es : List EntryIndex) (r : Run) (p : Place) (d : EntryIndex) → 0 < length es → p ≡ place_of (slice_index_or es 0 d) → block r ≡ in_block p 0 0
     → r.start ≡ p.entry_offset → r.count ≡ length es → r.size ≡ (slice_index_or es (length es - 1) d).entry_len → AreOnePiece (map place_of es)
-    → (e ≡ true → (k : ℕ) (x : EntryIndex) → k < length es → (slice_index_or es k x).entry_len ≡ r.size) → laid e r (starts_for e es) ≡ map place_of es
+    → (e ≡ true → (k : ℕ) (x : EntryIndex) → k < length es → (slice_index_or es k x).entry_len ≡ r.size) → laid e r (starts_for e es) ++ [] ≡ map place_of es
 run_places true es r p d some p_is b_is start count size one lens =
+    append-nil (laid true r []) ∙
     ap₂ (λ o n. even_places (block r) r.size o n) start count
     ∙ even_piece es (block r) p (slice_index_or es 0 d) r.size some (get_or_default es 0 d (slice_index_or es 0 d) some) p_is b_is one (lens refl)
 run_places false es r p d some p_is b_is start count size one lens =
+    append-nil (laid false r (map start_of_entry es)) ∙
     ap₂ (λ z os. uneven_places (block r) z os) size
     (take_all r.count (map start_of_entry es) (let long = length-map es start_of_entry in omega (arith, long, count)))
     ∙ uneven_piece es (block r) p (slice_index_or es 0 d) (slice_index_or es (length es - 1) d) some (get_or_default es 0 d (slice_index_or es 0 d) some) p_is b_is one

@@ -1,12 +1,14 @@
 pub mod Replacing
 pub mod Rising
-pub mod Sizing
 pub mod RunPlaces
+pub mod WholePlaces
+pub mod RunParts
 pub mod RunLists
 pub mod PieceRuns
 pub mod EntryPieces
 pub mod RunSpots
 pub mod RunTurns
+pub mod RunMore
 pub mod RunSteps
 pub mod RunRoom
 pub mod RunReplacing

@@ -5,9 +5,10 @@ use Rattle.raft_log_extents.specs.declared.run.Run.{Run}
 use Rattle.raft_log_extents.specs.declared.runs.Runs.{Runs}
 use Rattle.raft_log_extents.specs.Blocks.{between, even_places, in_block, rising, uneven_places}
 use Rattle.raft_log_extents.specs.RunLists.{places}
-use Rattle.raft_log_extents.specs.Runs.{IsFound, block, laid}
+use Rattle.raft_log_extents.specs.Runs.{IsFound, block, laid, span}
 use Rattle.raft_log_extents.specs.Spots.{IsSpot}
-use Rattle.raft_log_extents.proofs.RunCopies.{even_are, starts_fit, uneven_are}
+use Rattle.raft_log_extents.specs.Words.{place_from}
+use Rattle.raft_log_extents.proofs.RunCopies.{alone_are, even_are, starts_fit, uneven_are}
 use Rattle.raft_log_extents.proofs.RunPlaces.{drop-uneven, length-uneven, take-even}
 use Rattle.raft_log_extents.proofs.RunReplacing.{sound_length}
 use Rattle.std.proofs.Math.Seq.{take-suc}
@@ -126,3 +127,11 @@ module _ (all : Runs) (position at : ℕ) (r : Run) (low : position < length (pl
   uneven_bounds b count bounds b_is long uneven inside so =
       ap (λ p. between p bounds) b_is ∙ so ∙ uneven_are all.front all.base all.len at rs ss r all.sound found.within is within count uneven inside
       ∙ ap₂ (λ n m. take n (drop m (places all))) (let same : count ≡ length bounds - 1 = omega (arith, long) in same) found_spot.within_is
+
+  -- and those of one that is alone
+  pub alone_bounds : (b : Place) (bounds : List ℕ) → length bounds ≡ 2 → r.count ≤ within → between b bounds ≡ place_from (drop (r.at - all.base + span r within) ss) ∷ []
+      → between b bounds ≡ take (length bounds - 1) (drop position (places all))
+  alone_bounds b bounds long past so =
+      let inside = found_spot.within in
+      so ∙ alone_are all.front all.base all.len at rs ss r all.sound found.within is within 1 past (omega (arith, inside))
+      ∙ ap₂ (λ n m. take n (drop m (places all))) (let same : 1 ≡ length bounds - 1 = omega (arith, long) in same) found_spot.within_is

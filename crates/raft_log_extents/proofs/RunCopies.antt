@@ -1,16 +1,19 @@
 -- Entries that are read from runs, a run at a time.
-use Rattle.std.proofs.Common.{◌≡◌, ℕ, zero, suc, ◌+◌, ◌-◌, ◌*◌, ◌<◌, ◌≤◌, ◌^◌, Bool, true, false, List, [], ◌∷◌, ◌++◌, length, take, drop, slice_index_or, refl, sym, ap, ◌∙◌, nat_le, arith, append_assoc, drop-drop, get_or-drop, length-drop, length-take-le}
+use Rattle.std.proofs.Common.{◌≡◌, ℕ, zero, suc, ◌+◌, ◌-◌, ◌*◌, ◌<◌, ◌≤◌, ◌^◌, Bool, true, false, List, [], ◌∷◌, ◌++◌, length, take, drop, slice_index_or, refl, sym, ap, ◌∙◌, ◌⊎◌, inl, inr, arith, append_assoc, drop-drop, get_or-drop, length-drop, length-take-le}
 use Rattle.std.proofs.lemmas.List.{get_or_default}
+use Rattle.std.proofs.lemmas.Bool.{cases_lt}
 use Rattle.raft_log_record_base.specs.declared.pipe_log.LogQueue.{LogQueue}
 use Rattle.raft_log_record_items.specs.declared.entry.EntryIndex.{EntryIndex}
-use Rattle.raft_log_model_laws.proofs.Cases.{at_bool, from_le_false, from_le_true}
 use Rattle.raft_log_extents.specs.declared.place.Place.{Place}
 use Rattle.raft_log_extents.specs.declared.run.Run.{Run}
 use Rattle.raft_log_extents.specs.Entries.{entries_of, entry_of}
 use Rattle.raft_log_extents.specs.Blocks.{in_block}
-use Rattle.raft_log_extents.specs.Runs.{IsFound, IsSound, block, counts, expand, laid, places_of, widths}
+use Rattle.raft_log_extents.specs.Runs.{IsFound, IsSound, block, counts, expand, laid, places_of, span, total, width, widths}
+use Rattle.raft_log_extents.specs.Words.{whole_places}
 use Rattle.raft_log_extents.proofs.Replacing.{take_next}
 use Rattle.raft_log_extents.proofs.RunLists.{Around, around, part_is, whole}
+use Rattle.raft_log_extents.proofs.RunParts.{part_apart, part_placed}
+use Rattle.raft_log_extents.proofs.WholePlaces.{length-whole, whole-plus}
 use Rattle.raft_log_extents.proofs.RunSpots.{below_end, fits_each, got_inner, got_last, no_width, rise, split_there}
 use Rattle.raft_log_extents.proofs.RunTurns.{all_entries, counts_more}
 
@@ -58,6 +61,17 @@ copied_more q n from i c ps old now new h so e =
     (ap (λ k. entries_of q n (take i rest) ++ entries_of q k more) (let same : n + i ≡ n + length (take i rest) = omega (arith, front) in same)
     ∙ sym (entries_of-append q n (take i rest) more) ∙ ap (entries_of q n) (sym next))
 
+-- the same of places that are kept as numbers
+pub alone_more : (q : LogQueue) (n i c : ℕ) (ws : List ℕ) (old now new : List EntryIndex) → now ≡ old ++ entries_of q n (whole_places i ws)
+    → new ≡ now ++ entries_of q (n + i) (whole_places c (drop (i * 8) ws)) → new ≡ old ++ entries_of q n (whole_places (i + c) ws)
+alone_more q n i c ws old now new so e =
+    let more = whole_places c (drop (i * 8) ws) in
+    let long = length-whole i ws in
+    e ∙ ap (λ l. l ++ entries_of q (n + i) more) so ∙ append_assoc old (entries_of q n (whole_places i ws)) (entries_of q (n + i) more)
+    ∙ ap (λ l. old ++ l)
+    (ap (λ k. entries_of q n (whole_places i ws) ++ entries_of q k more) (let same : n + i ≡ n + length (whole_places i ws) = omega (arith, long) in same)
+    ∙ sym (entries_of-append q n (whole_places i ws) more) ∙ ap (entries_of q n) (sym (whole-plus i c ws)))
+
 -- the run at this position has the entry at another
 pub record Has (rs : List Run) (at position : ℕ) : Type 0 where
   pub there : at < length rs
@@ -99,30 +113,48 @@ module _ (front base len at : ℕ) (rs : List Run) (ss : List ℕ) (r : Run) (so
   pub starts_at : r.at ≡ base + widths (take at rs)
   starts_at = here.at
 
-  pub end_is : counts (take (at + 1) rs) ≡ counts (take at rs) + r.count
+  pub end_is : counts (take (at + 1) rs) ≡ counts (take at rs) + total r
   end_is = counts_more rs at r there is
+
+  pub all_starts : (r.at - base) + width r ≤ length ss
+  all_starts =
+      let begins = starts_at in
+      let all = here.starts in omega (arith, begins, all)
 
   pub starts_fit : r.even ≡ false → (r.at - base) + r.count ≤ length ss
   starts_fit h =
-      let begins = starts_at in
-      let all = here.starts in
-      let wide = no_width r.even r.count h in omega (arith, begins, all, wide)
+      let all = all_starts in
+      let wide = no_width r.even r.count h in omega (arith, all, wide)
 
   pub offsets_fit : r.even ≡ true → (j : ℕ) → j < r.count → r.start + j * r.size < 2 ^ 32
   offsets_fit = fits_each r.even r here.fits
 
   -- so many places behind others of the run
-  places_are : (i c : ℕ) → i + c ≤ r.count → take c (drop i (places_of r (drop (r.at - base) ss))) ≡ take c (drop (counts (take at rs) + i) (expand rs ss))
+  places_are : (i c : ℕ) → i + c ≤ total r → take c (drop i (places_of r (drop (r.at - base) ss))) ≡ take c (drop (counts (take at rs) + i) (expand rs ss))
   places_are i c h =
       let begins = starts_at in
       let wide : r.at - base ≡ widths (take at rs) = omega (arith, begins) in
       ap (λ n. take c (drop i (places_of r (drop n ss)))) wide ∙ sym (part_is front base len rs ss (take at rs) r (drop (at + 1) rs) here i c h)
 
+  enough : width r ≤ length (drop (r.at - base) ss)
+  enough =
+      let all = all_starts in
+      let rest = length-drop (r.at - base) ss in omega (arith, all, rest)
+
+  -- in its block
+  placed_are : (i c : ℕ) → i + c ≤ r.count → take c (drop i (laid r.even r (drop (r.at - base) ss))) ≡ take c (drop (counts (take at rs) + i) (expand rs ss))
+  placed_are i c h = sym (part_placed r (drop (r.at - base) ss) enough i c h) ∙ places_are i c (omega (arith, h))
+
   pub even_are : (i c : ℕ) → r.even ≡ true → i + c ≤ r.count → take c (drop i (laid true r [])) ≡ take c (drop (counts (take at rs) + i) (expand rs ss))
-  even_are i c e h = ap (λ l. take c (drop i l)) (sym (even_laid r.even r (drop (r.at - base) ss) e)) ∙ places_are i c h
+  even_are i c e h = ap (λ l. take c (drop i l)) (sym (even_laid r.even r (drop (r.at - base) ss) e)) ∙ placed_are i c h
 
   pub uneven_are : (i c : ℕ) → r.even ≡ false → i + c ≤ r.count → take c (drop i (laid false r (drop (r.at - base) ss))) ≡ take c (drop (counts (take at rs) + i) (expand rs ss))
-  uneven_are i c e h = ap (λ l. take c (drop i l)) (sym (uneven_laid r.even r (drop (r.at - base) ss) e)) ∙ places_are i c h
+  uneven_are i c e h = ap (λ l. take c (drop i l)) (sym (uneven_laid r.even r (drop (r.at - base) ss) e)) ∙ placed_are i c h
+
+  -- and alone
+  pub alone_are : (i c : ℕ) → r.count ≤ i → i + c ≤ total r → whole_places c (drop (r.at - base + span r i) ss) ≡ take c (drop (counts (take at rs) + i) (expand rs ss))
+  alone_are i c h k =
+      ap (whole_places c) (sym (drop-drop (span r i) (r.at - base) ss)) ∙ sym (part_apart r (drop (r.at - base) ss) enough i c h k) ∙ places_are i c k
 
 -- a run that was found
 pub found_has : (front base len position k : ℕ) (rs : List Run) (ss : List ℕ) → IsSound front base len rs ss → position < len → IsFound (front + position) rs k → Has rs k position
@@ -144,9 +176,10 @@ found_has front base len position k (x ∷ rs) ss sound h found =
 
 -- the run behind another one
 pub next_has : (front base len position k : ℕ) (rs : List Run) (ss : List ℕ) → IsSound front base len rs ss → position < len → k ≤ length rs → counts (take k rs) ≡ position → Has rs k position
-next_has front base len position k rs ss sound h low end =
-    at_bool (nat_le (length rs) k) (λ _. Has rs k position)
-    (λ past. let all = all_entries front base len rs ss sound k (from_le_true (length rs) k past) in absurd (omega (arith, all, end, h)))
-    (λ within. let there = from_le_false (length rs) k within in
-    let more = rise k (k + 1) rs (whole front base rs sound.numbered) (omega arith) (omega (arith, there)) in
-    record { there = there; low = omega (arith, end); high = omega (arith, more, end) })
+next_has front base len position k rs ss sound h low end = by (cases_lt k (length rs))
+  where
+    by : (k < length rs) ⊎ (length rs ≤ k) → Has rs k position
+    by (inl there) =
+        let more = rise k (k + 1) rs (whole front base rs sound.numbered) (omega arith) (omega (arith, there)) in
+        record { there = there; low = omega (arith, end); high = omega (arith, more, end) }
+    by (inr past) = let all = all_entries front base len rs ss sound k past in absurd (omega (arith, all, end, h))

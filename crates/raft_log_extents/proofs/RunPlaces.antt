@@ -4,7 +4,7 @@ use Rattle.std.proofs.lemmas.List.{drop-take, take-append-le}
 use Rattle.raft_log_extents.specs.declared.place.Place.{Place}
 use Rattle.raft_log_extents.specs.declared.run.Run.{Run}
 use Rattle.raft_log_extents.specs.Blocks.{even_places, in_block, uneven_places}
-use Rattle.raft_log_extents.specs.Runs.{StartsFit, block, head, laid, tail, width_of}
+use Rattle.raft_log_extents.specs.Runs.{StartsFit, block, laid, width_of}
 
 pub width_le : (e : Bool) (n : ℕ) → width_of e n ≤ n
 width_le true n = omega arith
@@ -86,7 +86,7 @@ laid-more true r ss ts h = refl
 laid-more false r ss ts h = ap (uneven_places (block r) r.size) (take-append-le r.count ss ts h)
 
 pub take-laid : (e : Bool) (r : Run) (ss : List ℕ) (i : ℕ) (d : Place) → i < r.count → width_of e r.count ≤ length ss
-    → take (suc i) (laid e r ss) ≡ laid e (head r (suc i) (slice_index_or (laid e r ss) i d).entry_len) ss
+    → take (suc i) (laid e r ss) ≡ laid e (record r { count = suc i; size = (slice_index_or (laid e r ss) i d).entry_len; alone = 0 }) ss
 take-laid true r ss i d h k =
     take-even (block r) r.size r.start r.count (suc i) (omega arith)
     ∙ ap (λ z. even_places (block r) z r.start (suc i)) (sym (ap (λ p. p.entry_len) (get-even (block r) r.size r.start r.count i d h)))
@@ -95,12 +95,12 @@ take-laid false r ss i d h k =
     take-uneven (block r) r.size (take r.count ss) i d (omega (arith, long, h))
     ∙ ap (uneven_places (block r) (slice_index_or (laid false r ss) i d).entry_len) (take-take (suc i) r.count ss (omega arith))
 
-pub drop-laid : (e : Bool) (r : Run) (ss : List ℕ) (j k : ℕ) (d : Place) → r.count ≡ j + k → j < r.count
-    → drop j (laid e r ss) ≡ laid e (tail r j k (slice_index_or (laid e r ss) j d).entry_offset) (drop (width_of e j) ss)
-drop-laid true r ss j k d e h = drop-even (block r) r.size r.start r.count j k d e h
-drop-laid false r ss j k d e h =
+pub drop-laid : (e : Bool) (r : Run) (ss : List ℕ) (j k n m : ℕ) (d : Place) → r.count ≡ j + k → j < r.count
+    → drop j (laid e r ss) ≡ laid e (record r { first = n; count = k; at = m; start = (slice_index_or (laid e r ss) j d).entry_offset }) (drop (width_of e j) ss)
+drop-laid true r ss j k n m d e h = drop-even (block r) r.size r.start r.count j k d e h
+drop-laid false r ss j k n m d e h =
     drop-uneven (block r) r.size (take r.count ss) j
-    ∙ ap (λ n. uneven_places (block r) r.size (drop j (take n ss))) e
+    ∙ ap (λ c. uneven_places (block r) r.size (drop j (take c ss))) e
     ∙ ap (uneven_places (block r) r.size) (drop-take j k ss)
 
 -- the place at an offset of a run
@@ -108,18 +108,19 @@ pub get-laid_even : (r : Run) (ss : List ℕ) (j : ℕ) (d : Place) → j < r.co
 get-laid_even r ss j d h = get-even (block r) r.size r.start r.count j d h
 
 -- Offsets of 32 bits.
-pub head_fits : (e : Bool) (r : Run) (ss : List ℕ) (i : ℕ) (d : Place) → i < r.count → StartsFit e r → StartsFit e (head r (suc i) (slice_index_or (laid e r ss) i d).entry_len)
+pub head_fits : (e : Bool) (r : Run) (ss : List ℕ) (i : ℕ) (d : Place) → i < r.count → StartsFit e r
+    → StartsFit e (record r { count = suc i; size = (slice_index_or (laid e r ss) i d).entry_len; alone = 0 })
 head_fits true r ss i d h f =
     subst (λ z. (j : ℕ) → j < suc i → r.start + j * z < 2 ^ 32) (sym (ap (λ p. p.entry_len) (get-even (block r) r.size r.start r.count i d h)))
     (λ j k. f j (omega arith))
 head_fits false r ss i d h f = tt
 
-pub tail_fits : (e : Bool) (r : Run) (ss : List ℕ) (j k : ℕ) (d : Place) → r.count ≡ j + k → j < r.count → StartsFit e r
-    → StartsFit e (tail r j k (slice_index_or (laid e r ss) j d).entry_offset)
-tail_fits true r ss j k d e h f =
+pub tail_fits : (e : Bool) (r : Run) (ss : List ℕ) (j k n m : ℕ) (d : Place) → r.count ≡ j + k → j < r.count → StartsFit e r
+    → StartsFit e (record r { first = n; count = k; at = m; start = (slice_index_or (laid e r ss) j d).entry_offset })
+tail_fits true r ss j k n m d e h f =
     subst (λ o. (i : ℕ) → i < k → o + i * r.size < 2 ^ 32) (sym (ap (λ p. p.entry_offset) (get-even (block r) r.size r.start r.count j d h)))
     (λ i l. let all = f (j + i) (omega arith) in let parts = add-mul j i r.size in omega (arith, all, parts))
-tail_fits false r ss j k d e h f = tt
+tail_fits false r ss j k n m d e h f = tt
 
 -- where the last offset fits, all do
 pub all_fit : (r : Run) → 0 < r.count → r.start + (r.count - 1) * r.size < 2 ^ 32 → StartsFit true r

@@ -1,11 +1,11 @@
 -- Runs that come in the stead of others between two borders.
-use Rattle.std.proofs.Common.{◌≡◌, ℕ, zero, suc, ◌+◌, ◌-◌, ◌<◌, ◌≤◌, List, [], ◌∷◌, ◌++◌, length, take, drop, refl, sym, ap, ap₂, subst, subst₂, ◌∙◌, arith, nat_le, append_assoc, append-nil, length-append, length-drop, length-take-le, take-append-drop, take-take, take_all}
+use Rattle.std.proofs.Common.{◌≡◌, ℕ, zero, suc, ◌+◌, ◌-◌, ◌<◌, ◌≤◌, ◌^◌, List, [], ◌∷◌, ◌++◌, length, take, drop, refl, sym, ap, ap₂, subst, subst₂, ◌∙◌, arith, nat_le, append_assoc, append-nil, length-append, length-drop, length-take-le, take-append-drop, take-take, take_all}
 use Rattle.std.proofs.lemmas.List.{drop_all, drop_at, take-append-le, take_at}
 use Rattle.raft_log_model_laws.proofs.Cases.{at_bool, from_le_false, from_le_true}
 use Rattle.raft_log_extents.specs.declared.place.Place.{Place}
 use Rattle.raft_log_extents.specs.declared.run.Run.{Run}
 use Rattle.raft_log_extents.specs.declared.spot.Spot.{Spot}
-use Rattle.raft_log_extents.specs.Runs.{AreAdded, IsNumbered, IsSound, counts, expand, renumbered, width, widths}
+use Rattle.raft_log_extents.specs.Runs.{AreAdded, IsNumbered, IsSound, counts, expand, renumbered, total, width, widths}
 use Rattle.raft_log_extents.specs.Spots.{IsSpot}
 use Rattle.raft_log_extents.proofs.RunLists.{AreWhole, counts-append, counts-renumbered, expand-renumbered, joined, length-expand, numbered_both, numbered_left, numbered_right, renumbered_is, whole, whole-append, widths-append, widths-renumbered}
 use Rattle.raft_log_extents.proofs.RunTurns.{back_of, counts_more, front_of, parts}
@@ -64,15 +64,15 @@ turned_back xs one two three more i j m k low high one_is two_is m_is k_is three
 -- numbers that are right stay, and those of a list's parts are those of all
 pub renumbered_same : (n m : ℕ) (rs : List Run) → IsNumbered n m rs → renumbered n m rs ≡ rs
 renumbered_same n m [] h = refl
-renumbered_same n m (r ∷ rs) h = ap₂ ◌∷◌ (λ i. record r { first = sym h.0 i; at = sym h.1 i }) (renumbered_same (n + r.count) (m + width r) rs h.4)
+renumbered_same n m (r ∷ rs) h = ap₂ ◌∷◌ (λ i. record r { first = sym h.0 i; at = sym h.1 i }) (renumbered_same (n + total r) (m + width r) rs h.4)
 
 pub renumbered_both : (n m : ℕ) (rs qs : List Run) → renumbered n m (rs ++ qs) ≡ renumbered n m rs ++ renumbered (n + counts rs) (m + widths rs) qs
 renumbered_both n m [] qs = ap₂ (λ a b. renumbered a b qs) (let same : n ≡ n + 0 = omega arith in same) (let same : m ≡ m + 0 = omega arith in same)
 renumbered_both n m (r ∷ rs) qs =
     ap (λ l. record r { first = n; at = m } ∷ l)
-    (renumbered_both (n + r.count) (m + width r) rs qs
-    ∙ ap₂ (λ a b. renumbered (n + r.count) (m + width r) rs ++ renumbered a b qs)
-    (let same : n + r.count + counts rs ≡ n + (r.count + counts rs) = omega arith in same)
+    (renumbered_both (n + total r) (m + width r) rs qs
+    ∙ ap₂ (λ a b. renumbered (n + total r) (m + width r) rs ++ renumbered a b qs)
+    (let same : n + total r + counts rs ≡ n + (total r + counts rs) = omega arith in same)
     (let same : m + width r + widths rs ≡ m + (width r + widths rs) = omega arith in same))
 
 -- the first runs under new numbers, with which those behind go on
@@ -173,13 +173,13 @@ module _ (front base len position n i j : ℕ) (rs more : List Run) (ss kept : L
   pub anew_places : (b : ℕ) → expand (renumbered front b spliced) starts ≡ take position (expand rs ss) ++ (expand more kept ++ drop (position + n) (expand rs ss))
   anew_places b = expand-renumbered front b spliced starts ∙ spliced_places
 
-  pub anew_sound : (b : ℕ) → b ≤ front → IsSound front b len (renumbered front b spliced) starts
+  pub anew_sound : (b : ℕ) → b + widths spliced < 2 ^ 64 → IsSound front b len (renumbered front b spliced) starts
   anew_sound b h = record {
     numbered = renumbered_is front b spliced are_whole;
     count = counts-renumbered front b spliced ∙ sums;
     starts_are = widths-renumbered front b spliced ∙ wides;
     fits = sound.fits;
-    behind = h;
+    starts_fit = let all = wides in omega (arith, all, h);
   }
 
 -- The lists that a replacement makes, one after another: turned and cut, with the new behind, turned back.
@@ -204,12 +204,12 @@ module _ (front base len position n i j from to m k u v : ℕ) (rs one two three
   places_are : take position (expand rs ss) ++ (expand more kept ++ drop (position + n) (expand rs ss)) ≡ take position (expand rs ss) ++ (ps ++ drop (position + n) (expand rs ss))
   places_are = ap (λ l. take position (expand rs ss) ++ (l ++ drop (position + n) (expand rs ss))) added.places
 
-  pub replaced : (last : List Run) (b : ℕ) → b ≤ front → last ≡ renumbered front b three
+  pub replaced : (last : List Run) (b : ℕ) → b + widths three < 2 ^ 64 → last ≡ renumbered front b three
       → (expand last threes ≡ take position (expand rs ss) ++ (ps ++ drop (position + n) (expand rs ss))) × IsSound front b len last threes
   replaced last b h e =
       subst₂ (λ x y. (expand x y ≡ take position (expand rs ss) ++ (ps ++ drop (position + n) (expand rs ss))) × IsSound front b len x y) (ap (renumbered front b) runs_are ∙ sym e) starts_are (
         anew_places front base len position n i j rs more ss kept sound low start stop new b ∙ places_are,
-        anew_sound front base len position n i j rs more ss kept sound low start stop new b h,
+        anew_sound front base len position n i j rs more ss kept sound low start stop new b (subst (λ l. b + widths l < 2 ^ 64) (sym runs_are) h),
       )
 
   -- how they are numbered before that
@@ -241,8 +241,16 @@ module _ (front base len position n i j from to m k u v : ℕ) (rs one two three
       let wide = new.starts_are in omega (arith, sum, wide, from_is)
 
   pub replaced_count : counts three ≡ len
-  replaced_count =
-      let all = anew_sound front base len position n i j rs more ss kept sound low start stop new base sound.behind in
-      let count = all.count in
-      let same = counts-renumbered front base (take i rs ++ (more ++ drop j rs)) in
-      let sum = ap counts runs_are in omega (arith, count, same, sum)
+  replaced_count = ap counts (sym runs_are) ∙ sums front base len position n i j rs more ss kept sound low start stop new
+
+  -- and how many starts they have
+  pub replaced_wide : widths three ≡ from + (length kept + widths (drop j rs))
+  replaced_wide =
+      let all = ap widths (sym runs_are) ∙ widths-append (take i rs) (more ++ drop j rs) in
+      let rest = widths-append more (drop j rs) in
+      let added_starts = new.starts_are in omega (arith, all, rest, added_starts, from_is)
+
+  pub replaced_rest : to + widths (drop k three) ≡ length ss
+  replaced_rest =
+      let same = ap widths back_run in
+      let all = parts front base len rs ss sound j in omega (arith, same, all, to_is)

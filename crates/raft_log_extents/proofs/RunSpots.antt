@@ -1,16 +1,18 @@
 -- Where an entry is in a list of runs, and what becomes of a list that is cut there.
-use Rattle.std.proofs.Common.{◌≡◌, ℕ, zero, suc, ◌+◌, ◌-◌, ◌*◌, ◌<◌, ◌≤◌, ◌^◌, Bool, true, false, List, [], ◌∷◌, ◌++◌, length, take, drop, slice_index_or, refl, sym, ap, ap₂, subst, subst₂, ◌∙◌, nat_le, arith, get_or-drop, get_or-take, length-append, length-drop, length-take-le, take-append-drop, take-take, take_all}
+use Rattle.std.proofs.Common.{◌≡◌, ℕ, zero, suc, ◌+◌, ◌-◌, ◌*◌, ◌<◌, ◌≤◌, ◌^◌, Bool, true, false, List, [], ◌∷◌, ◌++◌, length, take, drop, slice_index_or, refl, sym, ap, ap₂, subst, subst₂, ◌∙◌, nat_le, arith, get_or-drop, get_or-take, length-append, length-drop, length-take-le, take-append-drop, take-take, take_all, drop-drop}
 use Rattle.std.proofs.lemmas.List.{get_or_default, take-append-le, take_more}
 use Rattle.raft_log_model_laws.proofs.Cases.{at_bool, from_le_false, from_le_true}
 use Rattle.raft_log_extents.specs.Blocks.{in_block}
-use Rattle.raft_log_extents.proofs.RunPlaces.{get-laid_even, get-uneven, get-uneven_last, width-plus}
+use Rattle.raft_log_extents.proofs.RunPlaces.{get-laid_even, get-uneven, get-uneven_last}
 use Rattle.raft_log_extents.specs.declared.place.Place.{Place}
 use Rattle.raft_log_extents.specs.declared.run.Run.{Run}
 use Rattle.raft_log_extents.specs.declared.spot.Spot.{Spot}
-use Rattle.raft_log_extents.specs.Runs.{IsFound, IsNumbered, IsSound, StartsFit, block, counts, expand, head, laid, places_of, tail, width, width_of, widths}
+use Rattle.raft_log_extents.specs.Runs.{IsFound, IsNumbered, IsSound, StartsFit, block, counts, expand, head, laid, places_of, span, tail, total, width, width_of, widths}
 use Rattle.raft_log_extents.specs.Spots.{IsSpot}
+use Rattle.raft_log_extents.specs.Words.{place_from}
 use Rattle.raft_log_extents.proofs.Replacing.{drop_at}
-use Rattle.raft_log_extents.proofs.RunLists.{AreWhole, Around, around, back_cut, back_sound, counts-append, front_cut, front_sound, place_is, whole, widths_le}
+use Rattle.raft_log_extents.proofs.RunLists.{AreWhole, Around, around, back_cut, back_sound, counts-append, front_cut, front_sound, place_is, whole}
+use Rattle.raft_log_extents.proofs.RunParts.{first-tail, get-apart, get-placed, span_le, width-head}
 
 -- A list of runs that isn't empty.
 pub some_runs : (front base len : ℕ) (rs : List Run) (ss : List ℕ) → IsSound front base len rs ss → 0 < len → 0 < length rs
@@ -35,10 +37,10 @@ first_of_next n m [] d h k = absurd (omega arith)
 first_of_next n m (q ∷ qs) d h k = h.0
 
 pub below_end : (front base len number k : ℕ) (rs : List Run) (ss : List ℕ) (r : Run) → Around front base len rs ss (take k rs) r (drop (k + 1) rs)
-    → IsFound number rs k → number < front + len → number < r.first + r.count
+    → IsFound number rs k → number < front + len → number < r.first + total r
 below_end front base len number k rs ss r here found h = by (drop (k + 1) rs) refl
   where
-    by : (after : List Run) → drop (k + 1) rs ≡ after → number < r.first + r.count
+    by : (after : List Run) → drop (k + 1) rs ≡ after → number < r.first + total r
     by [] e =
         let none : counts (drop (k + 1) rs) ≡ 0 = ap counts e in
         let first = here.first in
@@ -46,7 +48,7 @@ below_end front base len number k rs ss r here found h = by (drop (k + 1) rs) re
     by (q ∷ after) e =
         let long : length rs - (k + 1) ≡ suc (length after) = sym (length-drop (k + 1) rs) ∙ ap length e in
         let high = found.high r (omega (arith, long)) in
-        let same = first_of_next (r.first + r.count) (r.at + width r) (drop (k + 1) rs) r here.right (let more : length (drop (k + 1) rs) ≡ suc (length after) = ap length e in omega (arith, more)) in
+        let same = first_of_next (r.first + total r) (r.at + width r) (drop (k + 1) rs) r here.right (let more : length (drop (k + 1) rs) ≡ suc (length after) = ap length e in omega (arith, more)) in
         let there = ap (λ (x : Run). x.first) (get_or-drop (k + 1) rs 0 r ∙ ap (λ n. slice_index_or rs n r) (let zero : k + 1 + 0 ≡ k + 1 = omega arith in zero)) in
         omega (arith, high, same, there)
 
@@ -94,33 +96,36 @@ module _ (front base len position : ℕ) (rs : List Run) (ss : List ℕ) (s : Sp
       let one : s.within + 1 ≡ suc s.within = omega arith in
       let whole : h ≡ head s.run (suc s.within) size = cut ∙ ap₂ (λ n z. head s.run n z) one (ap (λ q. q.entry_len) (is ∙ same_starts s.within p)) in
       let all : counts before + suc s.within ≡ count = (let there = spot.within_is in omega (arith, there, last, some)) in
-      let wide : s.from + width h ≡ widths before + width_of s.run.even (suc s.within) = ap₂ (λ m (x : Run). m + width x) spot.from_is whole in
+      let low = spot.within in
+      let same_width = width-head s.run (suc s.within) size (omega (arith, low)) in
+      let from = spot.from_is in
+      let wide : s.from + width h ≡ widths before + span s.run (suc s.within) = (let w = ap (λ (x : Run). width x) whole in omega (arith, w, same_width, from)) in
       let runs_are : before ++ (head s.run (suc s.within) size ∷ []) ≡ new = ap (λ x. before ++ (x ∷ [])) (sym whole) ∙ sym runs in
-      let starts_are : take (widths before + width_of s.run.even (suc s.within)) ss ≡ left = ap (λ n. take n ss) (sym wide) ∙ sym starts in
+      let starts_are : take (widths before + span s.run (suc s.within)) ss ≡ left = ap (λ n. take n ss) (sym wide) ∙ sym starts in
       subst₂ (λ a b. (expand a b ≡ take count (expand rs ss)) × IsSound front base count a b) runs_are starts_are (
         back_cut front base len rs ss before s.run (drop (s.at + 1) rs) here s.within p spot.within ∙ ap (λ n. take n (expand rs ss)) all,
-        subst (λ n. IsSound front base n (before ++ (head s.run (suc s.within) size ∷ [])) (take (widths before + width_of s.run.even (suc s.within)) ss)) all
-            (back_sound front base len rs ss before s.run (drop (s.at + 1) rs) here s.within p spot.within sound.fits sound.behind),
+        subst (λ n. IsSound front base n (before ++ (head s.run (suc s.within) size ∷ [])) (take (widths before + span s.run (suc s.within)) ss)) all
+            (back_sound front base len rs ss before s.run (drop (s.at + 1) rs) here s.within p spot.within sound.fits sound.starts_fit),
       )
 
   -- the entries from it on
   pub dropped : (p : Place) (t : Run) (new : List Run) (left : List ℕ) → p ≡ slice_index_or (places_of s.run (drop s.from ss)) s.within p
-      → t ≡ tail s.run s.within (s.run.count - s.within) p.entry_offset → new ≡ t ∷ drop (s.at + 1) rs → left ≡ drop (t.at - base) ss
+      → t ≡ tail s.run s.within p.entry_offset → new ≡ t ∷ drop (s.at + 1) rs → left ≡ drop (t.at - base) ss
       → (expand new left ≡ drop position (expand rs ss)) × IsSound (front + position) (base + (t.at - base)) (len - position) new left
   dropped p t new left is cut runs starts =
       let before = take s.at rs in
       let after = drop (s.at + 1) rs in
       let offset = (slice_index_or (places_of s.run (drop (widths before) ss)) s.within p).entry_offset in
-      let k = s.run.count - s.within in
-      let parts : s.run.count ≡ s.within + k = (let low = spot.within in omega (arith, low)) in
-      let whole : t ≡ tail s.run s.within k offset = cut ∙ ap (λ o. tail s.run s.within k o) (ap (λ q. q.entry_offset) (is ∙ same_starts s.within p)) in
-      let gone : widths before + width_of s.run.even s.within ≡ t.at - base = (let same = ap (λ (x : Run). x.at) whole in let at = here.at in omega (arith, same, at)) in
-      let runs_are : tail s.run s.within k offset ∷ after ≡ new = ap (λ x. x ∷ after) (sym whole) ∙ sym runs in
-      let starts_are : drop (widths before + width_of s.run.even s.within) ss ≡ left = ap (λ n. drop n ss) gone ∙ sym starts in
+      let whole : t ≡ tail s.run s.within offset = cut ∙ ap (λ o. tail s.run s.within o) (ap (λ q. q.entry_offset) (is ∙ same_starts s.within p)) in
+      let low = spot.within in
+      let begins = (first-tail s.run s.within offset).1 in
+      let gone : widths before + span s.run s.within ≡ t.at - base = (let same = ap (λ (x : Run). x.at) whole in let at = here.at in omega (arith, same, at, begins)) in
+      let runs_are : tail s.run s.within offset ∷ after ≡ new = ap (λ x. x ∷ after) (sym whole) ∙ sym runs in
+      let starts_are : drop (widths before + span s.run s.within) ss ≡ left = ap (λ n. drop n ss) gone ∙ sym starts in
       subst₂ (λ a b. (expand a b ≡ drop position (expand rs ss)) × IsSound (front + position) (base + (t.at - base)) (len - position) a b) runs_are starts_are (
-        front_cut front base len rs ss before s.run after here s.within k p parts spot.within ∙ ap (λ n. drop n (expand rs ss)) spot.within_is,
-        subst₂ (λ n m. IsSound (front + n) (base + m) (len - n) (tail s.run s.within k offset ∷ after) (drop (widths before + width_of s.run.even s.within) ss)) spot.within_is gone
-            (front_sound front base len rs ss before s.run after here s.within k p parts spot.within sound.fits sound.behind),
+        front_cut front base len rs ss before s.run after here s.within p low ∙ ap (λ n. drop n (expand rs ss)) spot.within_is,
+        subst₂ (λ n m. IsSound (front + n) (base + m) (len - n) (tail s.run s.within offset ∷ after) (drop (widths before + span s.run s.within) ss)) spot.within_is gone
+            (front_sound front base len rs ss before s.run after here s.within p low sound.fits sound.starts_fit),
       )
 
 -- a run's starts come behind the first of all
@@ -142,7 +147,7 @@ rise (suc a) (suc b) (r ∷ rs) w h k = let rest = rise a b rs w.2 (omega arith)
 
 -- runs that end at or before the last entry that stays
 pub ends_kept : (front base len position count k : ℕ) (rs : List Run) (ss : List ℕ) (s : Spot) (h : Run) (new : List Run) → IsSound front base len rs ss → IsSpot rs ss position s
-    → position ≡ count - 1 → 0 < count → h.count ≡ s.within + 1 → new ≡ take s.at rs ++ (h ∷ []) → k ≤ length rs → counts (take k rs) ≤ count
+    → position ≡ count - 1 → 0 < count → total h ≡ s.within + 1 → new ≡ take s.at rs ++ (h ∷ []) → k ≤ length rs → counts (take k rs) ≤ count
     → (k ≤ length new) × (counts (take k new) ≡ counts (take k rs))
 ends_kept front base len position count k rs ss s h new sound spot last some is runs low few =
     let there = spot.there in
@@ -161,13 +166,13 @@ ends_kept front base len position count k rs ss s h new sound spot last some is 
     let end : k ≡ s.at + 1 = omega (arith, past, grown, next, wide, few, inside, last, some) in
     let whole_new = ap counts (ap (λ l. take k l) runs ∙ take_all k (take s.at rs ++ (h ∷ [])) (let l = ap length (sym runs) in omega (arith, l, long, end)))
     ∙ counts-append (take s.at rs) (h ∷ []) in
-    let all : counts (take s.at rs) + (h.count + 0) ≡ counts (take k rs) = omega (arith, end, grown, next, wide, few, inside, last, some, is) in
+    let all : counts (take s.at rs) + (total h + 0) ≡ counts (take k rs) = omega (arith, end, grown, next, wide, few, inside, last, some, is) in
     (omega (arith, end, long), whole_new ∙ all))
   where
-    counts_at : (rs : List Run) (i : ℕ) (r : Run) → i < length rs → r ≡ slice_index_or rs i r → counts (take (i + 1) rs) ≡ counts (take i rs) + r.count
+    counts_at : (rs : List Run) (i : ℕ) (r : Run) → i < length rs → r ≡ slice_index_or rs i r → counts (take (i + 1) rs) ≡ counts (take i rs) + total r
     counts_at rs i r h e =
         ap counts (take_more rs i r h) ∙ counts-append (take i rs) (slice_index_or rs i r ∷ [])
-        ∙ (let same : (slice_index_or rs i r).count ≡ r.count = ap (λ (x : Run). x.count) (sym e) in omega (arith, same))
+        ∙ (let same : total (slice_index_or rs i r) ≡ total r = ap (λ (x : Run). total x) (sym e) in omega (arith, same))
 
 -- a place at a run that was found
 pub got : (e : Bool) (r : Run) (ss : List ℕ) (j : ℕ) (d : Place) → e ≡ true → j < r.count → slice_index_or (laid e r ss) j d ≡ in_block (block r) (r.start + j * r.size) r.size
@@ -200,18 +205,19 @@ got_last false r starts from j o d h all low o_is =
 
 -- the numbers behind an entry fit
 pub spot_numbers : (front base len position : ℕ) (rs : List Run) (ss : List ℕ) (s : Spot) → IsSound front base len rs ss → IsSpot rs ss position s
-    → (s.run.first + s.within < 2 ^ 64) × (s.run.at + s.within < 2 ^ 64) × (base ≤ s.run.at) × (base + s.from ≡ s.run.at)
+    → (s.run.first + s.within < 2 ^ 64) × (s.run.at + span s.run s.within < 2 ^ 64) × (base ≤ s.run.at) × (base + s.from ≡ s.run.at)
 spot_numbers front base len position rs ss s sound spot =
     let around_is = here front base len position rs ss s sound spot in
     let first = around_is.first in
     let at = around_is.at in
     let count = around_is.count in
+    let starts = around_is.starts in
     let fits = sound.fits in
+    let room = sound.starts_fit in
     let low = spot.within in
-    let less = widths_le (take s.at rs) in
-    let behind = sound.behind in
+    let few = span_le s.run s.within (omega (arith, low)) in
     let from = spot.from_is in
-    (omega (arith, first, count, fits, low), omega (arith, at, first, count, fits, low, less, behind), omega (arith, at), omega (arith, at, from))
+    (omega (arith, first, count, fits, low), omega (arith, at, starts, few, room), omega (arith, at), omega (arith, at, from))
 
 pub no_width : (e : Bool) (n : ℕ) → e ≡ false → width_of e n ≡ n
 no_width true n h = absurd (let clash : true ≡ false = h in let never : ⊥ = cc in never)
@@ -219,11 +225,21 @@ no_width false n h = refl
 
 -- the starts that go with so many entries of a run are there
 pub tail_inside : (front base len position : ℕ) (rs : List Run) (ss : List ℕ) (s : Spot) → IsSound front base len rs ss → IsSpot rs ss position s → (t : Run)
-    → t.at ≡ s.run.at + width_of s.run.even s.within → (base ≤ t.at) × (t.at - base ≤ length ss)
+    → t.at ≡ s.run.at + span s.run s.within → (base ≤ t.at) × (t.at - base ≤ length ss)
 tail_inside front base len position rs ss s sound spot t e =
     let fit = (spot_numbers front base len position rs ss s sound spot).3 in
     let all = spot.enough in
     let low = spot.within in
-    let parts : width s.run ≡ width_of s.run.even s.within + width_of s.run.even (s.run.count - s.within) =
-    ap (width_of s.run.even) (let same : s.run.count ≡ s.within + (s.run.count - s.within) = omega (arith, low) in same) ∙ width-plus s.run.even s.within (s.run.count - s.within) in
-    (omega (arith, e, fit), omega (arith, e, fit, all, parts))
+    let few = span_le s.run s.within (omega (arith, low)) in
+    (omega (arith, e, fit), omega (arith, e, fit, all, few))
+
+-- a place of an entry of a run, in its block or alone
+pub got_placed : (r : Run) (starts : List ℕ) (from j : ℕ) (d : Place) → from + width r ≤ length starts → j < r.count
+    → slice_index_or (places_of r (drop from starts)) j d ≡ slice_index_or (laid r.even r (drop from starts)) j d
+got_placed r starts from j d all h = let rest = length-drop from starts in get-placed r (drop from starts) (omega (arith, rest, all)) j d h
+
+pub got_apart : (r : Run) (starts : List ℕ) (from j : ℕ) (d : Place) → from + width r ≤ length starts → r.count ≤ j → j < total r
+    → slice_index_or (places_of r (drop from starts)) j d ≡ place_from (drop (from + span r j) starts)
+got_apart r starts from j d all h k =
+    let rest = length-drop from starts in
+    get-apart r (drop from starts) (omega (arith, rest, all)) j d h k ∙ ap place_from (drop-drop (span r j) from starts)

@@ -1,6 +1,8 @@
--- Counts of places at the front of a list: those in files up to a number, and those whose lengths fit a limit.
-use Rattle.std.specs.Prelude.{ℕ, suc, ◌-◌, List, [], ◌∷◌, Option, Some, None, if◌then◌else◌, nat_le, length}
+-- Counts of places at the front of a list: those in files up to a number, and those whose lengths fit a limit. Also the
+-- bytes that store places.
+use Rattle.std.specs.Prelude.{ℕ, suc, ◌+◌, ◌-◌, ◌*◌, ◌==◌, ◌&&◌, nat_lt, List, [], ◌∷◌, Option, Some, None, if◌then◌else◌, nat_le, length}
 use Rattle.raft_log_extents.specs.declared.place.Place.{Place}
+use Rattle.raft_log_extents.specs.Blocks.{pieces}
 
 -- how many places at the front are in files with numbers up to `gate`
 abbrev pub passing : ℕ → List Place → ℕ
@@ -18,3 +20,9 @@ abbrev pub sized : Option ℕ → List Place → ℕ
 sized None ps = length ps
 sized (Some max) [] = 0
 sized (Some max) (p ∷ ps) = if nat_le p.entry_len max then suc (fitting (max - p.entry_len) ps) else 1
+
+-- The most bytes that more places take after `count` others. A place that comes alone takes 32. Otherwise, and if it is
+-- the first of all, each piece takes 64, and each place four more if its piece has different lengths.
+abbrev pub bytes_for : ℕ → List Place → ℕ
+bytes_for count ps =
+    if (length ps == 1) && (nat_lt 0 count && nat_lt count 4294967295) then 32 else pieces ps * 64 + length ps * 4

@@ -1,5 +1,5 @@
 -- The entries of a group, and their places.
-use Rattle.std.specs.Prelude.{ℕ, ◌+◌, List, [], ◌∷◌, Option, Some, None, map, if◌then◌else◌, Bool}
+use Rattle.std.specs.Prelude.{ℕ, ◌+◌, ◌*◌, List, [], ◌∷◌, Option, Some, None, map, if◌then◌else◌, Bool}
 use Rattle.raft_log_record_base.specs.declared.pipe_log.LogQueue.{LogQueue}
 use Rattle.raft_log_record_base.specs.declared.pipe_log.LogQueue.TheVariants.{Append, Rewrite}
 use Rattle.raft_log_record_base.specs.declared.pipe_log.FileBlockHandle.{FileBlockHandle}
@@ -10,13 +10,18 @@ use Rattle.raft_log_model_laws.specs.Item.Item.{Run}
 use Rattle.raft_log_extents.specs.declared.place.Place.{Place}
 use Rattle.raft_log_extents.specs.Blocks.{between}
 
--- The places of a table's entries. `runs` is the number of runs that store them. `wanted` is how many more places,
--- and `moves` how many replacements, are reserved in advance.
+-- The places of a table's entries. `runs` is the number of runs, and `starts` that of the starts, that store them.
+-- `wanted` is how many more places, and `moves` how many replacements, are reserved in advance.
 pub record PlaceList : Type 0 where
   pub items : List Place
   pub runs : ℕ
+  pub starts : ℕ
   pub wanted : ℕ
   pub moves : ℕ
+
+-- the bytes that store these places: 64 for each run, and four for each start
+abbrev pub kept_bytes : PlaceList → ℕ
+kept_bytes p = p.runs * 64 + p.starts * 4
 
 -- the place of entry `e` in this block; an entry without a block has file 0 and a block of length 0 at offset 0
 abbrev pub place_in : Option FileBlockHandle → EntryIndex → Place

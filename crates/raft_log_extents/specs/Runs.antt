@@ -1,35 +1,46 @@
 -- Lists of runs, which encode the locations of entries. A run has consecutive entries of a group that are adjacent in
--- one block. If all its entries have one length, the run is even, and stores only the offset of its first entry.
--- Otherwise a second list, of starts, has the offset of each entry.
-use Rattle.std.specs.Prelude.{◌≡◌, ℕ, ◌+◌, ◌*◌, ◌<◌, ◌≤◌, ◌^◌, Bool, true, false, List, [], ◌∷◌, ◌++◌, length, map, take, drop, slice_index_or}
+-- one block. If all these have one length, the run is even, and stores only the offset of its first entry. Otherwise a
+-- second list, of starts, has the offset of each entry. Then a run has entries that are alone in their blocks: the list
+-- of starts has the place of each of them, as eight numbers.
+use Rattle.std.specs.Prelude.{◌≡◌, ℕ, ◌+◌, ◌-◌, ◌*◌, ◌<◌, ◌≤◌, ◌^◌, Bool, true, false, List, [], ◌∷◌, ◌++◌, if◌then◌else◌, nat_le, nat_lt, length, map, take, drop, slice_index_or}
 use Rattle.std.specs.Coded.{Unit-prop, le_prop, Coded-set, coded_ℕ}
 use Rattle.raft_log_record_items.specs.declared.entry.EntryIndex.{EntryIndex}
 use Rattle.raft_log_extents.specs.declared.place.Place.{Place}
 use Rattle.raft_log_extents.specs.declared.run.Run.{Run}
 use Rattle.raft_log_extents.specs.Blocks.{even_places, uneven_places}
+use Rattle.raft_log_extents.specs.Words.{whole_places}
 
 -- the block of run `r`, as a place of length 0 in it
 abbrev pub block : Run → Place
 block r = record { file = r.file; offset = r.offset; len = r.len; entry_offset = 0; entry_len = 0 }
 
--- how many starts are stored for `count` entries: none if they have one length, else one for each
+-- how many starts are stored for `count` entries in the block: none if they have one length, else one for each
 abbrev pub width_of : Bool → ℕ → ℕ
 width_of true count = 0
 width_of false count = count
 
+-- the number of entries of run `r`: those in its block, and those that are alone
+abbrev pub total : Run → ℕ
+total r = r.count + r.alone
+
 -- how many starts are stored for run `r`
 abbrev pub width : Run → ℕ
-width r = width_of r.even r.count
+width r = width_of r.even r.count + r.alone * 8
 
--- The places of run `r`. If its entries have one length, they follow from that; otherwise `starts` begins with their
--- offsets.
+-- how many starts are stored for the first `count` entries of run `r`
+abbrev pub span : Run → ℕ → ℕ
+span r count =
+    if nat_lt count r.count then width_of r.even count else width_of r.even r.count + (count - r.count) * 8
+
+-- The places of the entries in the block of run `r`. If these have one length, their places follow from that;
+-- otherwise `starts` begins with their offsets.
 abbrev pub laid : Bool → Run → List ℕ → List Place
 laid true r starts = even_places (block r) r.size r.start r.count
 laid false r starts = uneven_places (block r) r.size (take r.count starts)
 
--- the places of run `r`, if its stored starts are the first of `starts`
+-- the places of run `r`, if its stored starts are the first of `starts`: those in its block, and then those alone
 abbrev pub places_of : Run → List ℕ → List Place
-places_of r starts = laid r.even r starts
+places_of r starts = laid r.even r starts ++ whole_places r.alone (drop (width_of r.even r.count) starts)
 
 -- the places of these runs, whose stored starts are `starts`, in order
 abbrev pub expand : List Run → List ℕ → List Place
@@ -39,49 +50,63 @@ expand (r ∷ rs) starts = places_of r starts ++ expand rs (drop (width r) start
 -- the total number of entries in these runs
 abbrev pub counts : List Run → ℕ
 counts [] = 0
-counts (r ∷ rs) = r.count + counts rs
+counts (r ∷ rs) = total r + counts rs
 
 -- the total number of starts that are stored for these runs
 abbrev pub widths : List Run → ℕ
 widths [] = 0
 widths (r ∷ rs) = width r + widths rs
 
--- the first `count` entries of run `r`; `size` is the length of the last one, or of each if the run is even
+-- run `r` with one more entry that is alone in its block
+abbrev pub one_more : Run → Run
+one_more r = record r { alone = r.alone + 1 }
+
+-- The first `count` entries of run `r`. If these are in the block, `size` is the length of the last one, or of each if
+-- the run is even.
 abbrev pub head : Run → ℕ → ℕ → Run
-head r count size = record r { count = count; size = size }
+head r count size =
+    if nat_le count r.count then record r { count = count; size = size; alone = 0 }
+    else record r { alone = count - r.count }
 
--- run `r` without its first `gone` entries: `count` are left, and the first of them is at offset `start`
-abbrev pub tail : Run → ℕ → ℕ → ℕ → Run
-tail r gone count start =
-    record r { first = r.first + gone; count = count; at = r.at + width_of r.even gone; start = start }
+-- run `r` without its first `gone` entries: if the first that is left is in the block, its offset is `start`
+abbrev pub tail : Run → ℕ → ℕ → Run
+tail r gone start =
+    if nat_lt gone r.count
+    then record r { first = r.first + gone; count = r.count - gone; at = r.at + span r gone; start = start }
+    else record r {
+      first = r.first + gone;
+      count = 0;
+      at = r.at + span r gone;
+      alone = r.alone - (gone - r.count);
+    }
 
--- if the run is even, each of its entries begins at an offset below 2 ^ 32
+-- if the run is even, each entry in its block begins at an offset below 2 ^ 32
 abbrev pub StartsFit : Bool → Run → Type 0
 StartsFit true r = (j : ℕ) → j < r.count → r.start + j * r.size < 2 ^ 32
 StartsFit false r = Unit {0}
 
 -- Every run has entries. The entries of all runs are numbered consecutively from `first`, and their starts from `at`.
--- In even runs, each entry begins at an offset below 2 ^ 32.
+-- In even runs, each entry in the block begins at an offset below 2 ^ 32.
 abbrev pub IsNumbered : ℕ → ℕ → List Run → Type 0
 IsNumbered first at [] = Unit {0}
 IsNumbered first at (r ∷ rs) =
-    (r.first ≡ first) × (r.at ≡ at) × (0 < r.count) × StartsFit r.even r
-    × IsNumbered (first + r.count) (at + width r) rs
+    (r.first ≡ first) × (r.at ≡ at) × (0 < total r) × StartsFit r.even r
+    × IsNumbered (first + total r) (at + width r) rs
 
 -- the runs, renumbered: their entries count from `first` on, and their starts from `at` on
 abbrev pub renumbered : ℕ → ℕ → List Run → List Run
 renumbered first at [] = []
 renumbered first at (r ∷ rs) =
-    record r { first = first; at = at } ∷ renumbered (first + r.count) (at + width r) rs
+    record r { first = first; at = at } ∷ renumbered (first + total r) (at + width r) rs
 
--- The invariant of a list of runs and its starts. Entries are numbered from `front`, and starts from `base`, which is
--- at most `front`. The runs have `len` entries in total, and as many starts as are stored. No number reaches 2 ^ 64.
+-- The invariant of a list of runs and its starts. Entries are numbered from `front`, and starts from `base`. The runs
+-- have `len` entries in total, and as many starts as are stored. No number reaches 2 ^ 64.
 pub record IsSound (front base len : ℕ) (rs : List Run) (starts : List ℕ) : Type 0 where
   pub numbered : IsNumbered front base rs
   pub count : counts rs ≡ len
   pub starts_are : widths rs ≡ length starts
   pub fits : front + len < 2 ^ 64
-  pub behind : base ≤ front
+  pub starts_fit : base + length starts < 2 ^ 64
 
 -- The runs `more` and the starts `kept` were appended. They are numbered from `first` and `at`, and encode `len`
 -- entries at the places `ps`.
@@ -114,7 +139,7 @@ pub IsNumbered-prop : (first at : ℕ) (rs : List Run) → IsProp (IsNumbered fi
 IsNumbered-prop first at [] = Unit-prop
 IsNumbered-prop first at (r ∷ rs) =
     let fits = StartsFit-prop r.even r in
-    let rest = IsNumbered-prop (first + r.count) (at + width r) rs in
+    let rest = IsNumbered-prop (first + total r) (at + width r) rs in
     let numbers : (n m : ℕ) → IsProp (n ≡ m) = λ n m. Coded-set coded_ℕ n m in
     let one = numbers r.first first in
     let two = numbers r.at at in

@@ -2,7 +2,7 @@
 use Rattle.std.specs.Prelude.{◌≡◌, ℕ, ◌+◌, ◌*◌, ◌<◌, ◌≤◌, ◌^◌, true, List, length, take, slice_index_or}
 use Rattle.raft_log_extents.specs.declared.run.Run.{Run}
 use Rattle.raft_log_extents.specs.declared.spot.Spot.{Spot}
-use Rattle.raft_log_extents.specs.Runs.{counts, width, widths}
+use Rattle.raft_log_extents.specs.Runs.{counts, total, width, widths}
 
 -- The entry at `position` of runs with these starts is described by `s`: the position of its run among the runs, and
 -- the run. It also has the number of starts stored before that run, and the number of entries before it in the run.
@@ -11,6 +11,6 @@ pub record IsSpot (rs : List Run) (starts : List ℕ) (position : ℕ) (s : Spot
   pub run_is : s.run ≡ slice_index_or rs s.at s.run
   pub from_is : s.from ≡ widths (take s.at rs)
   pub within_is : counts (take s.at rs) + s.within ≡ position
-  pub within : s.within < s.run.count
+  pub within : s.within < total s.run
   pub enough : s.from + width s.run ≤ length starts
   pub fits : s.run.even ≡ true → (j : ℕ) → j < s.run.count → s.run.start + j * s.run.size < 2 ^ 32

@@ -1,18 +1,21 @@
-//! The places of entries, as runs of entries that follow one another in a block.
-ghost use Rattle.std.specs.Prelude.{◌≡◌, ℕ, ◌+◌, ◌*◌, ◌-◌, ◌≤◌, ◌<◌, ◌^◌, ◌++◌, [], ◌∷◌, true, length, map, take, drop, slice_get, slice_index_or, OnOk, OnErr};
+//! The places of entries, as runs of entries that follow one another in a block, each with entries that came alone.
+ghost use Rattle.std.specs.Prelude.{◌≡◌, ℕ, ◌+◌, ◌*◌, ◌-◌, ◌≤◌, ◌<◌, ◌^◌, ◌++◌, [], ◌∷◌, true, length, map, take, drop, slice_index_or, OnOk, OnErr};
 ghost use Rattle.std.specs.VecDeque.{deque_capacity, deque_len};
 ghost use Rattle.raft_log_extents.specs.Entries.{place_of};
 ghost use Rattle.raft_log_extents.specs.Blocks.{pieces};
-ghost use Rattle.raft_log_extents.specs.Runs.{counts, places_of, width, IsFound, IsSound, IsSound-prop};
+ghost use Rattle.raft_log_extents.specs.Counts.{bytes_for};
+ghost use Rattle.raft_log_extents.specs.Runs.{counts, places_of, total, width, IsFound, IsSound, IsSound-prop};
 ghost use Rattle.raft_log_extents.specs.Spots.{IsSpot};
 
+mod alone;
 mod bounds;
 mod copying;
 mod cutting;
 mod pieces;
 
 use crate::spot::Spot;
-use crate::{Place, Run};
+use crate::words::place_in_deque;
+use crate::{Place, Run, place_of};
 use pieces::push_pieces;
 use raft_log_record_items::EntryIndex;
 use std::alloc::{AllocError, Global};
@@ -24,10 +27,8 @@ const FIRST: usize = 0x8000_0000_0000_0000;
 
 const FIRST_START: usize = 0x4000_0000_0000_0000;
 
-/// The places of consecutive entries, as runs of entries that follow one another in a block.
-///
-/// A run whose entries have one length has that length once. For a run whose entries have different lengths, the start
-/// of each entry is kept, in the order of the runs.
+/// The places of consecutive entries, as runs. In their order, the starts have where each entry of a run with different
+/// lengths starts, and the whole place of each entry that came alone, as eight starts.
 #[derive(Drop)]
 pub struct Runs {
     pub(crate) runs: VecDeque<Run>,
@@ -42,12 +43,12 @@ pub struct Runs {
 }
 
 impl Runs {
-    ghost use Rattle.raft_log_extents.specs.RunLists.{places, HasRoom};
+    ghost use Rattle.raft_log_extents.specs.RunLists.{places, bytes_of, HasRoom};
 
     /// No places.
     pub fn new(alloc: Global) -> Runs
         ensures items { places result ≡ [] }
-        ensures runs { deque_len result.runs ≡ 0 }
+        ensures sizes { (deque_len result.runs ≡ 0) × (deque_len result.starts ≡ 0) }
         ensures room { HasRoom result 0 }
     {
         Runs {
@@ -73,11 +74,19 @@ impl Runs {
         self.runs.len()
     }
 
+    /// The number of starts.
+    pub fn start_count(&self) -> usize
+        ensures { result ≡ deque_len self.now.starts }
+    {
+        self.starts.len()
+    }
+
     /// The place of the entry at this position, which must be there. Its run is looked for at the hint first; then the
     /// hint is that run.
     pub fn at(&self, position: usize, hint: &mut usize) -> Place
         requires { position < length (places self.now) }
-        ensures { result ≡ slice_index_or (places self.now) position result }
+        ensures value { result ≡ slice_index_or (places self.now) position result }
+        ensures fits { length (places self.now) < 2 ^ 64 }
     {
         let spot = self.spot(position, *hint);
         *hint = spot.at;
@@ -100,21 +109,11 @@ impl Runs {
         }
     }
 
-    /// The place of the entry at this position, if there is one.
-    pub fn get(&self, position: usize) -> Option<Place>
-        ensures { result ≡ slice_get (places self.now) position }
-    {
-        if position < self.len() {
-            Some(self.at(position, &mut 0))
-        } else {
-            None
-        }
-    }
-
     /// Makes room for `count` more entries, wherever they are stored. If it fails, nothing changes.
     pub fn reserve(&mut self, count: usize) -> Result<(), AllocError>
         ensures items { places self.new ≡ places self.old }
-        ensures runs { deque_len self.new.runs ≡ deque_len self.old.runs }
+        ensures sizes { (deque_len self.new.runs ≡ deque_len self.old.runs)
+            × (deque_len self.new.starts ≡ deque_len self.old.starts) }
         ensures ok { OnOk result (HasRoom self.new count) }
         ensures room { (m : ℕ) → HasRoom self.old m → HasRoom self.new m }
     {
@@ -122,30 +121,45 @@ impl Runs {
         if end.checked_add(count).is_none() {
             return Err(AllocError);
         }
-        make_room(&mut self.runs, count)?;
-        make_room(&mut self.starts, count)
+        let Some(starts) = count.checked_mul(8) else {
+            return Err(AllocError);
+        };
+        let end = self.base + self.starts.len();
+        if end.checked_add(starts).is_none() {
+            return Err(AllocError);
+        }
+        let spare = (self.runs.len() / 4).max(3);
+        make_room(&mut self.runs, count, spare)?;
+        let spare = (self.starts.len() / 2).max(3);
+        make_room(&mut self.starts, starts, spare)
     }
 
     /// Gives back memory if there is much more room than for `count` more entries.
-    pub(crate) fn give_back(&mut self, count: usize)
+    pub fn give_back(&mut self, count: usize)
         requires { HasRoom self.old count }
         ensures items { places self.new ≡ places self.old }
-        ensures runs { deque_len self.new.runs ≡ deque_len self.old.runs }
+        ensures sizes { (deque_len self.new.runs ≡ deque_len self.old.runs)
+            × (deque_len self.new.starts ≡ deque_len self.old.starts) }
         ensures room { HasRoom self.new count }
     {
-        shrink(&mut self.runs, count);
-        shrink(&mut self.starts, count);
+        shrink(&mut self.runs, count, 4);
+        shrink(&mut self.starts, count * 8, 32);
     }
 
-    /// Appends the places of these entries, for which there must be room. Each piece of entries that follow one another
-    /// in a block is a run.
+    /// Appends the places of these entries, for which there must be room. An entry that came alone is kept with the
+    /// last run. Otherwise each piece of entries that follow one another in a block is a run.
     pub fn push(&mut self, entries: &[EntryIndex])
         requires { HasRoom self.old (length entries.now) }
         ensures items { places self.new ≡ places self.old ++ map place_of entries.now }
         ensures runs { deque_len self.new.runs ≤ deque_len self.old.runs + pieces (map place_of entries.now) }
-        ensures front { take (deque_len self.old.runs) self.new.runs.items ≡ self.old.runs.items }
         ensures room { (m : ℕ) → HasRoom self.old (length entries.now + m) → HasRoom self.new m }
+        ensures bytes { bytes_of self.new
+            ≤ bytes_of self.old + bytes_for (length (places self.old)) (map place_of entries.now) }
     {
+        if entries.len() == 1 && self.takes_alone() {
+            self.push_alone(place_of(&entries[0]));
+            return;
+        }
         let first = self.front + self.len;
         let at = self.base + self.starts.len();
         push_pieces(&mut self.runs, &mut self.starts, entries, first, at);
@@ -156,6 +170,7 @@ impl Runs {
     pub fn truncate(&mut self, count: usize)
         ensures items { places self.new ≡ take count (places self.old) }
         ensures runs { deque_len self.new.runs ≤ deque_len self.old.runs }
+        ensures starts { deque_len self.new.starts ≤ deque_len self.old.starts }
         ensures room { (m : ℕ) → HasRoom self.old m → HasRoom self.new m }
 
         // the first runs that ended at or before the last entry that stays still end at the same places
@@ -184,6 +199,7 @@ impl Runs {
         requires { count ≤ length (places self.old) }
         ensures items { places self.new ≡ drop count (places self.old) }
         ensures runs { deque_len self.new.runs ≤ deque_len self.old.runs }
+        ensures starts { deque_len self.new.starts ≤ deque_len self.old.starts }
         ensures room { (m : ℕ) → HasRoom self.old m → HasRoom self.new m }
     {
         if count == 0 {
@@ -197,9 +213,9 @@ impl Runs {
         let next = place_in(&spot.run, &self.starts, spot.from, spot.within);
         let tail = spot.run.tail(spot.within, next.entry_offset);
         let gone = tail.at - self.base;
-        drop_runs(&mut self.runs, spot.at + 1);
+        drop_first(&mut self.runs, spot.at + 1);
         self.runs.push_front_reserved(tail);
-        drop_starts(&mut self.starts, gone);
+        drop_first(&mut self.starts, gone);
         self.front += count;
         self.base += gone;
         self.len -= count;
@@ -209,6 +225,7 @@ impl Runs {
     fn clear(&mut self)
         ensures items { places self.new ≡ [] }
         ensures runs { self.new.runs.items ≡ [] }
+        ensures starts { deque_len self.new.starts ≡ 0 }
         ensures room { (m : ℕ) → HasRoom self.old m → HasRoom self.new m }
     {
         self.runs.clear();
@@ -219,53 +236,44 @@ impl Runs {
     }
 }
 
-/// Makes room for `count` more. If there isn't enough, it also makes room for a quarter of what is there, at least for
-/// three. Many small batches then don't move all of it each time.
-fn make_room<T>(queue: &mut VecDeque<T>, count: usize) -> Result<(), AllocError>
+/// Makes room for `count` more. If there isn't enough, it also makes room for `spare` others. Many small batches then
+/// don't move all of it each time.
+fn make_room<T>(queue: &mut VecDeque<T>, count: usize, spare: usize) -> Result<(), AllocError>
     ensures items { queue.new.items ≡ queue.old.items }
     ensures len { deque_len queue.new ≡ deque_len queue.old }
     ensures capacity { deque_capacity queue.old ≤ deque_capacity queue.new }
     ensures ok { OnOk result (deque_len queue.new + count ≤ deque_capacity queue.new) }
 {
-    if let Some(spare) = queue.capacity().checked_sub(queue.len()) {
-        if spare >= count {
+    if let Some(free) = queue.capacity().checked_sub(queue.len()) {
+        if free >= count {
             return Ok(());
         }
     }
-    queue.reserve_exact(count.saturating_add((queue.len() / 4).max(3)))
+    queue.reserve_exact(count.saturating_add(spare))
 }
 
-/// If much of the capacity is unused with `count` more items, shrinks it to what they need and a quarter.
-fn shrink<T>(queue: &mut VecDeque<T>, count: usize)
+/// If much of the capacity is unused with `count` more items, and more than twice `spare`, shrinks it to what they need
+/// and a quarter.
+fn shrink<T>(queue: &mut VecDeque<T>, count: usize, spare: usize)
     requires { deque_len queue.old + count ≤ deque_capacity queue.old }
     ensures items { queue.new.items ≡ queue.old.items }
     ensures len { deque_len queue.new ≡ deque_len queue.old }
     ensures room { deque_len queue.new + count ≤ deque_capacity queue.new }
 {
     let needed = queue.len() + count;
-    if queue.capacity() / 2 > needed.saturating_add(needed / 4).saturating_add(4) {
+    if queue.capacity() / 2 > needed.saturating_add(needed / 4).saturating_add(spare) {
         queue.shrink_to(needed.saturating_add(needed / 4));
     }
 }
 
-/// Drops the first `count` runs.
-fn drop_runs(runs: &mut VecDeque<Run>, count: usize)
-    requires { count ≤ deque_len runs.old }
-    ensures items { runs.new.items ≡ drop count runs.old.items }
-    ensures len { deque_len runs.new + count ≡ deque_len runs.old }
-    ensures capacity { deque_capacity runs.new ≡ deque_capacity runs.old }
+/// Drops the first `count` items.
+fn drop_first<T: Drop>(queue: &mut VecDeque<T>, count: usize)
+    requires { count ≤ deque_len queue.old }
+    ensures items { queue.new.items ≡ drop count queue.old.items }
+    ensures len { deque_len queue.new + count ≡ deque_len queue.old }
+    ensures capacity { deque_capacity queue.new ≡ deque_capacity queue.old }
 {
-    runs.drain(..count);
-}
-
-/// Drops the first `count` starts.
-fn drop_starts(starts: &mut VecDeque<u32>, count: usize)
-    requires { count ≤ deque_len starts.old }
-    ensures items { starts.new.items ≡ drop count starts.old.items }
-    ensures len { deque_len starts.new + count ≡ deque_len starts.old }
-    ensures capacity { deque_capacity starts.new ≡ deque_capacity starts.old }
-{
-    starts.drain(..count);
+    queue.drain(..count);
 }
 
 /// The position of the run that has the entry of this number, which isn't before the first. It is looked for at the
@@ -314,12 +322,15 @@ fn search(runs: &VecDeque<Run>, number: usize) -> usize
 
 /// The place of an entry of a run, whose first start is at this position if it has starts.
 pub(crate) fn place_in(run: &Run, starts: &VecDeque<u32>, from: usize, within: usize) -> Place
-    requires within { within < run.now.count }
+    requires within { within < total run.now }
     requires fits { run.now.even ≡ true → (j : ℕ) → j < run.now.count
         → run.now.start + j * run.now.size < 2 ^ 32 }
     requires there { from + width run.now ≤ length starts.now.items }
     ensures { result ≡ slice_index_or (places_of run.now (drop from starts.now.items)) within result }
 {
+    if run.count <= within {
+        return place_in_deque(starts, from + run.span(within));
+    }
     if run.even {
         let offset = run.start as u64 + within as u64 * run.size as u64;
         return run.place(offset as u32, run.size);

@@ -23,8 +23,8 @@ mod reads;
 mod replay;
 
 use crate::ends::Ends;
-use raft_log_extents::{Bounds, Places, entry_of};
-use raft_log_memtable_index::{GroupFiles, HeldValue, KeyMap};
+use raft_log_extents::{Bounds, entry_of};
+use raft_log_memtable_index::{GroupFiles, HeldValue, KeyMap, Places};
 use raft_log_record_base::{Error, FileBlockHandle, FileId, FileSeq, LogQueue, Result};
 use raft_log_record_items::{Bytes, EntryIndex};
 use std::alloc::{AllocError, Global};
@@ -113,7 +113,7 @@ impl MemTable {
         self.places.len()
     }
 
-    /// The number of runs that keep the places of the entries. Runs are all that is kept of the places.
+    /// The number of runs that keep the places of the entries. An entry that came alone is kept with the run before it.
     pub fn run_count(&self) -> usize
         ensures { result ≡ runs_of self.now }
     {

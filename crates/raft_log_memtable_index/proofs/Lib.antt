@@ -19,3 +19,4 @@ pub mod Joining
 pub mod Telling
 pub mod Merging
 pub mod Alone
+pub mod Sizing

@@ -5,7 +5,9 @@
 pub mod group_files;
 pub mod key_map;
 pub mod laws;
+pub mod places;
 pub mod replay_laws;
 
 pub use group_files::GroupFiles;
 pub use key_map::{HeldValue, KeyMap, lesser};
+pub use places::Places;

@@ -4,9 +4,9 @@
 //! This crate only re-exports; the page of each part says what its calls promise.
 #![tactic(auto)]
 
-pub use raft_log_extents::{Place, Places};
+pub use raft_log_extents::Place;
 pub use raft_log_memtable::{GlobalStats, MemTable};
-pub use raft_log_memtable_index::{GroupFiles, HeldValue, KeyMap};
+pub use raft_log_memtable_index::{GroupFiles, HeldValue, KeyMap, Places};
 pub use raft_log_memtables::{MemTables, MemTables as MemTableAccessor};
 pub use raft_log_replay::{Factory, ReadSegments, ReplayMachine, ReplaySource, replay_segments};
 pub use raft_log_replay_context::{MemTableRecoverContext, MemTableRecoverContextFactory};

@@ -3,8 +3,11 @@ ghost use Rattle.std.specs.Prelude.{◌≡◌, ℕ, ◌+◌, ◌*◌, ◌≤◌,
 ghost use Rattle.std.specs.VecDeque.{deque_len};
 ghost use Rattle.raft_log_extents.specs.Entries.{entries_of};
 ghost use Rattle.raft_log_extents.specs.Runs.{counts, laid};
+ghost use Rattle.raft_log_extents.specs.Words.{whole_places};
 
+use super::bounds::starts_from;
 use super::{Runs, find};
+use crate::words::{place_in_deque, place_in_slice};
 use crate::{Run, entry_of};
 use raft_log_record_base::LogQueue;
 use raft_log_record_items::EntryIndex;
@@ -40,13 +43,31 @@ impl Runs {
         let mut done = 0;
         while done < count {
             let index = index + done as u64;
-            done += self.copy_run(at, within, count - done, queue, index, entries);
-            at += 1;
-            within = 0;
+            let more = self.copy_run(at, within, count - done, queue, index, entries);
+            done += more;
+            (at, within) = self.next_place(at, within + more);
         }
     }
 
-    /// Adds the entries of this run after the first `within` ones, at most `limit`, and returns how many.
+    /// Where the entry after the first `within` ones of this run is: in the run, or the first of the next one.
+    fn next_place(&self, at: usize, within: usize) -> (usize, usize)
+        requires there { at < deque_len self.now.runs }
+        requires within { counts (take at self.now.runs.items) + within
+            ≤ counts (take (at + 1) self.now.runs.items) }
+        ensures same { counts (take result.0 self.now.runs.items) + result.1
+            ≡ counts (take at self.now.runs.items) + within }
+        ensures there { counts (take at self.now.runs.items) + within < self.now.len
+            → (result.0 < deque_len self.now.runs) × (counts (take result.0 self.now.runs.items) + result.1
+            < counts (take (result.0 + 1) self.now.runs.items)) }
+    {
+        if within == self.runs[at].total() {
+            return (at + 1, 0);
+        }
+        (at, within)
+    }
+
+    /// Adds entries of this run after the first `within` ones, at most `limit`, and returns how many: those in its
+    /// block, or some of those that are alone.
     fn copy_run(
         &self,
         at: usize,
@@ -63,19 +84,23 @@ impl Runs {
         requires indexes { index + limit < 2 ^ 64 }
         requires room { vec_len entries.old + limit ≤ vec_capacity entries.old }
         ensures count { (0 < result) × (result ≤ limit) }
-        ensures end { result < limit → counts (take at self.now.runs.items) + within + result
-            ≡ counts (take (at + 1) self.now.runs.items) }
+        ensures end { counts (take at self.now.runs.items) + within + result
+            ≤ counts (take (at + 1) self.now.runs.items) }
         ensures items { entries.new.items ≡ entries.old.items ++ entries_of queue index
             (take result (drop (counts (take at self.now.runs.items) + within) (places self.now))) }
         ensures len { vec_len entries.new ≡ vec_len entries.old + result }
         ensures capacity { vec_capacity entries.new ≡ vec_capacity entries.old }
     {
         let run = &self.runs[at];
+        let from = run.at - self.base;
+        if run.count <= within {
+            let count = limit.min(run.total() - within);
+            return self.copy_alone(from + run.span(within), count, queue, index, entries);
+        }
         let count = limit.min(run.count - within);
         if run.even {
             push_even(run, within, count, queue, index, entries);
         } else {
-            let from = run.at - self.base;
             push_uneven(
                 run,
                 &self.starts,
@@ -88,6 +113,58 @@ impl Runs {
             );
         }
         count
+    }
+
+    /// Adds the first of `count` entries that are alone in their blocks, whose places are in the starts from this
+    /// position on, and returns how many: those up to where the deque wraps to the front of its buffer, at least one.
+    fn copy_alone(
+        &self,
+        from: usize,
+        count: usize,
+        queue: LogQueue,
+        index: u64,
+        entries: &mut Vec<EntryIndex>,
+    ) -> usize
+        requires there { (0 < count) × (from + count * 8 ≤ length self.now.starts.items) }
+        requires indexes { index + count < 2 ^ 64 }
+        requires room { vec_len entries.old + count ≤ vec_capacity entries.old }
+        ensures count { (0 < result) × (result ≤ count) }
+        ensures items { entries.new.items ≡ entries.old.items
+            ++ entries_of queue index (whole_places result (drop from self.now.starts.items)) }
+        ensures sizes { (vec_len entries.new ≡ vec_len entries.old + result)
+            × (vec_capacity entries.new ≡ vec_capacity entries.old) }
+    {
+        let words = starts_from(&self.starts, from, count * 8);
+        let more = words.len() / 8;
+        if more == 0 {
+            let place = place_in_deque(&self.starts, from);
+            entries.push_reserved(entry_of(queue, index, place));
+            return 1;
+        }
+        push_whole(words, more, queue, index, entries);
+        more
+    }
+}
+
+/// Adds the entries at the first `count` places that these numbers encode.
+fn push_whole(
+    words: &[u32],
+    count: usize,
+    queue: LogQueue,
+    index: u64,
+    entries: &mut Vec<EntryIndex>,
+)
+    requires there { count * 8 ≤ length words.now }
+    requires indexes { index + count < 2 ^ 64 }
+    requires room { vec_len entries.old + count ≤ vec_capacity entries.old }
+    ensures items { entries.new.items ≡ entries.old.items
+        ++ entries_of queue index (whole_places count words.now) }
+    ensures len { vec_len entries.new ≡ vec_len entries.old + count }
+    ensures capacity { vec_capacity entries.new ≡ vec_capacity entries.old }
+{
+    for i in 0..count {
+        let place = place_in_slice(words, i * 8);
+        entries.push_reserved(entry_of(queue, index + i as u64, place));
     }
 }
 

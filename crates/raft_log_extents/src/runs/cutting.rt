@@ -1,9 +1,9 @@
 //! Cuts runs in two, replaces and joins them.
-ghost use Rattle.std.specs.Prelude.{◌≡◌, ℕ, ◌+◌, ◌-◌, ◌≤◌, ◌<◌, ◌^◌, ◌++◌, ◌∷◌, length, map, take, drop};
+ghost use Rattle.std.specs.Prelude.{◌≡◌, ℕ, ◌+◌, ◌-◌, ◌≤◌, ◌<◌, ◌^◌, ◌++◌, ◌∷◌, length, map, max, take, drop};
 ghost use Rattle.std.specs.VecDeque.{deque_capacity, deque_len};
 ghost use Rattle.raft_log_extents.specs.Entries.{place_of};
 ghost use Rattle.raft_log_extents.specs.Blocks.{pieces};
-ghost use Rattle.raft_log_extents.specs.Runs.{counts, renumbered, widths, IsNumbered};
+ghost use Rattle.raft_log_extents.specs.Runs.{counts, renumbered, width, total, widths, IsNumbered};
 
 use super::pieces::push_pieces;
 use super::{Runs, place_in};
@@ -46,6 +46,7 @@ impl Runs {
             ≤ deque_capacity self.old.runs + 1 }
         requires starts { deque_len self.old.starts + length entries.now
             ≤ deque_capacity self.old.starts }
+        requires numbers { self.old.base + deque_len self.old.starts + length entries.now < 2 ^ 64 }
         ensures items { places self.new ≡ take position (places self.old)
             ++ (map place_of entries.now ++ drop (position + length entries.now) (places self.old)) }
         ensures runs { deque_len self.new.runs + 1
@@ -54,7 +55,9 @@ impl Runs {
             ≤ deque_len self.old.starts + length entries.now }
         ensures capacities { (deque_capacity self.new.runs ≡ deque_capacity self.old.runs)
             × (deque_capacity self.new.starts ≡ deque_capacity self.old.starts) }
-        ensures numbers { (self.new.front ≡ self.old.front) × (self.new.len ≡ self.old.len) }
+        ensures numbers { (self.new.front ≡ self.old.front) × (self.new.len ≡ self.old.len)
+            × (self.new.base + deque_len self.new.starts
+            ≤ self.old.base + deque_len self.old.starts + length entries.now) }
     {
         let from = self.starts_before(before);
         let to = self.starts_before(end);
@@ -77,6 +80,7 @@ impl Runs {
         requires { HasRoom self.old (length (places more)) }
         ensures items { places self.new ≡ places self.old ++ places more }
         ensures runs { deque_len self.new.runs ≡ deque_len self.old.runs + deque_len more.runs }
+        ensures starts { deque_len self.new.starts ≡ deque_len self.old.starts + deque_len more.starts }
         ensures room { (m : ℕ) → HasRoom self.old (length (places more) + m) → HasRoom self.new m }
     {
         let first = self.front + self.len;
@@ -107,7 +111,7 @@ impl Runs {
             → counts (take k self.new.runs.items) ≡ counts (take k self.old.runs.items) }
         ensures capacity { deque_capacity self.new.runs ≡ deque_capacity self.old.runs }
         ensures rest { (self.new.starts ≡ self.old.starts) × (self.new.front ≡ self.old.front)
-            × (self.new.len ≡ self.old.len) }
+            × (self.new.len ≡ self.old.len) × (self.new.base ≡ self.old.base) }
     {
         if position == self.len {
             return self.runs.len();
@@ -181,9 +185,11 @@ fn number_anew(
     requires behind { IsNumbered (front + counts (take count runs.old.items)) (base + to)
         (drop count runs.old.items) }
     requires stop { stop ≡ widths (take count runs.old.items) }
-    requires numbers { (base ≤ front) × (front + counts runs.old.items < 2 ^ 64) × (base + to < 2 ^ 64) }
+    requires numbers { (front + counts runs.old.items < 2 ^ 64) × (base + widths runs.old.items < 2 ^ 64)
+        × (base + to + widths (drop count runs.old.items) < 2 ^ 64) }
     ensures items { runs.new.items ≡ renumbered front result runs.old.items }
-    ensures base { result ≤ front }
+    ensures base { (result + widths runs.old.items < 2 ^ 64) × (result + widths runs.old.items
+        ≤ max (base + widths runs.old.items) (base + to + widths (drop count runs.old.items))) }
     ensures len { deque_len runs.new ≡ deque_len runs.old }
     ensures capacity { deque_capacity runs.new ≡ deque_capacity runs.old }
 {
@@ -191,7 +197,7 @@ fn number_anew(
         return base;
     }
     let end = base + to;
-    if stop <= end && end - stop <= front {
+    if stop <= end {
         renumber(runs, count, front, end - stop);
         return end - stop;
     }
@@ -215,7 +221,7 @@ fn renumber(runs: &mut VecDeque<Run>, count: usize, first: usize, at: usize)
     for i in 0..count {
         let run = runs[i];
         runs[i] = run.numbered(first, at);
-        first += run.count;
+        first += run.total();
         at += run.width();
     }
 }
@@ -233,7 +239,7 @@ fn move_runs(runs: &mut VecDeque<Run>, more: &VecDeque<Run>, first: usize, at: u
     for i in 0..more.len() {
         let run = more[i];
         runs.push_back_reserved(run.numbered(first, at));
-        first += run.count;
+        first += run.total();
         at += run.width();
     }
 }

@@ -4,7 +4,7 @@ ghost use Rattle.std.specs.VecDeque.{deque_capacity, deque_len};
 ghost use Rattle.raft_log_record_items.specs.declared.entry.EntryIndex.{EntryIndex};
 ghost use Rattle.raft_log_extents.specs.Entries.{place_of};
 ghost use Rattle.raft_log_extents.specs.Blocks.{follows, pieces, AreOnePiece};
-ghost use Rattle.raft_log_extents.specs.Runs.{places_of, start_of_entry, starts_for, width, AreAdded, StartsFit};
+ghost use Rattle.raft_log_extents.specs.Runs.{places_of, start_of_entry, starts_for, total, width, AreAdded, StartsFit};
 
 use crate::{Run, place_of};
 use raft_log_record_items::EntryIndex;
@@ -21,11 +21,11 @@ pub(super) fn push_pieces(
 )
     requires runs { deque_len runs.old + length entries.now ≤ deque_capacity runs.old }
     requires starts { deque_len starts.old + length entries.now ≤ deque_capacity starts.old }
-    requires numbers { (at ≤ first) × (first + length entries.now < 2 ^ 64) }
+    requires numbers { (first + length entries.now < 2 ^ 64) × (at + length entries.now < 2 ^ 64) }
     ensures added { (more : List Run) × ((kept : List ℕ)
         × (AreAdded first at (length entries.now) (map place_of entries.now) runs.old.items runs.new.items
         starts.old.items starts.new.items more kept
-        × (length more ≤ pieces (map place_of entries.now)))) }
+        × (length more ≤ pieces (map place_of entries.now)) × (length kept ≤ length entries.now))) }
     ensures capacities { (deque_capacity runs.new ≡ deque_capacity runs.old)
         × (deque_capacity starts.new ≡ deque_capacity starts.old) }
 {
@@ -73,7 +73,7 @@ fn lies_behind(before: &EntryIndex, entry: &EntryIndex) -> bool
 fn run_of_piece(piece: &[EntryIndex], first: usize, at: usize) -> Run
     requires some { 0 < length piece.now }
     requires one { AreOnePiece (map place_of piece.now) }
-    ensures numbers { (result.first ≡ first) × (result.at ≡ at) × (result.count ≡ length piece.now) }
+    ensures numbers { (result.first ≡ first) × (result.at ≡ at) × (total result ≡ length piece.now) }
     ensures fits { StartsFit result.even result }
     ensures places { places_of result (starts_for result.even piece.now) ≡ map place_of piece.now }
     ensures starts { width result ≡ length (starts_for result.even piece.now) }
@@ -90,6 +90,7 @@ fn run_of_piece(piece: &[EntryIndex], first: usize, at: usize) -> Run
         len: front.len,
         start: front.entry_offset,
         size,
+        alone: 0,
         even: have_length(piece, size) && fit(front.entry_offset, count - 1, size),
     }
 }

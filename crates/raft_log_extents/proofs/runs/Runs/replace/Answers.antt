@@ -21,11 +21,19 @@ replace_runs-requires-clause-within c =
       c.cut-end.ensures.within,
     )
 
+pub replace_runs-requires-clause-numbers : goal.replace_runs-requires-clause-numbers
+replace_runs-requires-clause-numbers c =
+    let numbers = c.requires.room.3 in
+    let one = ap deque_len c.cut-before.ensures.rest.0 in
+    let two = ap deque_len c.cut-end.ensures.rest.0 in
+    omega (arith, numbers, one, two, c.cut-before.ensures.rest.3, c.cut-end.ensures.rest.3)
+
 pub returns-clause-room : goal.returns-clause-room
 returns-clause-room c = λ m has.
     let runs = has.0 in
     let starts = has.1 in
     let fits = has.2 in
+    let numbers = has.3 in
     let few = c.replace_runs.ensures.runs in
     let one = ap deque_len c.cut-before.ensures.rest.0 in
     let two = ap deque_len c.cut-end.ensures.rest.0 in
@@ -36,9 +44,11 @@ returns-clause-room c = λ m has.
     let room = c.replace_runs.ensures.capacities.1 in
     let front = c.replace_runs.ensures.numbers.0 in
     let len = c.replace_runs.ensures.numbers.1 in
+    let base = c.replace_runs.ensures.numbers.2 in
     let small = pieces_le (map place_of c.args.entries.now) in
     let long = length-map c.args.entries.now place_of in (
       omega (arith, runs, few, most, small, long, c.if-entries-eq0.false, c.cut-before.ensures.runs, c.cut-before.ensures.capacity, c.cut-end.ensures.runs, c.cut-end.ensures.capacity),
       omega (arith, starts, kept, room, one, two, three, four),
       omega (arith, fits, front, len, c.cut-before.ensures.rest.1, c.cut-before.ensures.rest.2, c.cut-end.ensures.rest.1, c.cut-end.ensures.rest.2),
+      omega (arith, numbers, base, one, two, c.cut-before.ensures.rest.3, c.cut-end.ensures.rest.3),
     )

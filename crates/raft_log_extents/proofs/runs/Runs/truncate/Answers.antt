@@ -1,5 +1,6 @@
 use Rattle.std.proofs.Common.{◌+◌, ◌-◌, ◌++◌, [], ◌∷◌, ap, arith, refl, sym, take, take_all, ◌∙◌}
-use Rattle.raft_log_extents.specs.Runs.{expand}
+use Rattle.raft_log_extents.specs.Runs.{expand, total}
+use Rattle.raft_log_extents.proofs.RunParts.{total-head}
 use Rattle.raft_log_extents.proofs.RunReplacing.{sound_length}
 use Rattle.raft_log_extents.proofs.RunSpots.{ends_kept, truncated}
 use Rattle.raft_log_extents.proofs.runs.Runs.truncate.Goals as goal
@@ -40,7 +41,7 @@ returns-clause-ends c = λ k low few.
     let h = c.head-head.result in
     let len = r.runs.ok.0 in
     let kept = ends_kept r.front r.base r.len (c.args.count - 1) c.args.count k r.runs.items r.starts.items s h c.push_back_reserved.new.self.items r.sound c.spot-spot.ensures
-    refl (omega (arith, c.if-count-eq0.false)) (ap (λ x. x.count) c.head-head.ensures)
+    refl (omega (arith, c.if-count-eq0.false)) (ap (λ x. total x) c.head-head.ensures ∙ total-head s.run (s.within + 1) c.place_in-last.result.entry_len (omega (arith, c.spot-spot.ensures.within)))
     (c.push_back_reserved.ensures.items ∙ ap (λ l. l ++ (h ∷ [])) c.truncate.ensures.items) (omega (arith, low, len)) few in
     let now = c.push_back_reserved.new.self.ok.0 in
     let within = kept.0 in

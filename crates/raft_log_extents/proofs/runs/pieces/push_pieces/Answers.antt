@@ -7,7 +7,7 @@ use Rattle.raft_log_extents.proofs.runs.pieces.push_pieces.Goals as goal
 pub loop-done-init : goal.loop-done-init
 loop-done-init c = record {
   within = omega arith;
-  added = ([], ([], (none_added c.args.first c.args.at c.args.runs.now.items c.args.starts.now.items c.requires.numbers.0 (omega (arith, c.requires.numbers.1)), omega arith)));
+  added = ([], ([], (none_added c.args.first c.args.at c.args.runs.now.items c.args.starts.now.items (omega (arith, c.requires.numbers.1)) (omega (arith, c.requires.numbers.0)), omega arith, omega arith)));
   runs = omega arith;
   starts = omega arith;
   capacities = (refl, refl);
@@ -26,6 +26,7 @@ loop-done-preserved c =
     let kept = i.added.1.0 in
     let a = i.added.1.1.0 in
     let small = i.added.1.1.1 in
+    let thin = i.added.1.1.2 in
     let within = i.within in
     let runs = i.runs in
     let starts = i.starts in
@@ -39,9 +40,14 @@ loop-done-preserved c =
     let were = c.args.starts.now.ok.0 in
     let parts = ap length a.starts_are ∙ length-append c.args.starts.now.items kept in
     let has : length kept ≡ c.len.result - c.len-before.result = omega (arith, now, were, parts, c.len.ensures, c.len-before.ensures) in
-    let last = c.requires.numbers.1 in
+    let last = c.requires.numbers.0 in
+    let room = c.requires.numbers.1 in
     let numbers = c.run_of_piece-run.ensures.numbers in
     let one = length-append more (run ∷ []) in
+    let both = length-append kept (starts_for run.even piece) in
+    let put = ap length c.keep_starts.ensures.items ∙ length-append c.loop-done.starts.items (starts_for run.even piece) in
+    let then = c.keep_starts.new.starts.ok.0 in
+    let part : length (starts_for run.even piece) ≤ count = omega (arith, put, then, now, long, c.keep_starts.ensures.len) in
     record {
       within = all;
       added = (
@@ -50,10 +56,11 @@ loop-done-preserved c =
           kept ++ starts_for run.even piece,
           (
             piece_added c.args.first c.args.at done count es rest piece c.args.runs.now.items c.loop-done.runs.items c.push_back_reserved.new.self.items c.args.starts.now.items c.loop-done.starts.items
-                c.keep_starts.new.starts.items more kept run a c.split_at.ensures.back c.split_at-in-loop-done.ensures.front (omega (arith, all, last)) some numbers.0
+                c.keep_starts.new.starts.items more kept run a c.split_at.ensures.back c.split_at-in-loop-done.ensures.front (omega (arith, all, last)) (omega (arith, all, thin, part, room)) some numbers.0
                 (numbers.1 ∙ ap (λ n. c.args.at + n) (sym has)) (omega (arith, numbers.2, long)) c.run_of_piece-run.ensures.fits c.run_of_piece-run.ensures.places c.run_of_piece-run.ensures.starts
                 c.push_back_reserved.ensures.items c.keep_starts.ensures.items,
             omega (arith, one, left, small),
+            omega (arith, both, thin, part),
           ),
         ),
       );

@@ -11,7 +11,7 @@ invariant-loop-done l = record {
   within : l.done ≤ length l.entries;
   added : (more : List Run) × ((kept : List ℕ)
       × (AreAdded l.first l.at l.done (map place_of (take l.done l.entries)) l.fn.runs.items l.runs.items l.fn.starts.items l.starts.items more kept
-      × (length more + pieces (map place_of (drop l.done l.entries)) ≤ pieces (map place_of l.entries))));
+      × (length more + pieces (map place_of (drop l.done l.entries)) ≤ pieces (map place_of l.entries)) × (length kept ≤ l.done)));
   runs : deque_len l.runs ≤ deque_len l.fn.runs + l.done;
   starts : deque_len l.starts ≤ deque_len l.fn.starts + l.done;
   capacities : (deque_capacity l.runs ≡ deque_capacity l.fn.runs) × (deque_capacity l.starts ≡ deque_capacity l.fn.starts);

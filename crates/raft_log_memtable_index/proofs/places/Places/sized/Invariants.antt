@@ -1,6 +1,6 @@
 use Rattle.std.proofs.Common.{◌≡◌, ◌+◌, ◌-◌, ◌≤◌, Some, take, drop}
 use Rattle.raft_log_extents.specs.Counts.{fitting, sized}
-use Rattle.raft_log_extents.proofs.places.Places.sized.Given as goal
+use Rattle.raft_log_memtable_index.proofs.places.Places.sized.Given as goal
 
 abbrev pub invariant-loop-i : goal.invariant-loop-i
 invariant-loop-i l =

@@ -1,5 +1,5 @@
 use Rattle.std.proofs.Common.{◌+◌}
-use Rattle.raft_log_extents.proofs.places.Places.truncate.Goals as goal
+use Rattle.raft_log_memtable_index.proofs.places.Places.truncate.Goals as goal
 
 pub invariant_of-self : goal.invariant_of-self
 invariant_of-self c = let p = c.self.inside in c.truncate.ensures.room (p.wanted + (p.moves + p.moves)) c.self.invariant

@@ -2,26 +2,21 @@
 ghost use Rattle.std.specs.Prelude.{◌≡◌, ◌<◌, ◌≤◌, [], false, true, is_some, length, sum_by, None};
 ghost use Rattle.raft_voter.specs.Rounds.{World};
 ghost use Rattle.raft_voter.specs.Service.{IsOpenAt};
+ghost use Rattle.raft_voter_rounds.specs.Journal.{IsLegal, reached};
 ghost use Rattle.raft_voter_shared.specs.Failing.{CameToFailAs};
-ghost use Rattle.raft_voter_shared.specs.Journal.{IsLegal, reached};
 ghost use Rattle.raft_voter_shared.specs.Standing.{is_last, standing};
 
-use crate::done::{Done, fetch};
 use crate::failure::{Failure, failure_behind, failure_in_purge};
-use crate::hall::Hall;
-use crate::journal::Journal;
 use crate::maintenance::Maintenance;
-use crate::merged_round::MergedRound;
-use crate::opening::Opening;
-use crate::receipt::{Receipt, SharedFault};
 use crate::receipts::Check;
-use crate::records::{hand_out, note_answers, note_cuts, refuse_all};
 use crate::seat::{Seat, have_all, merged};
 use crate::settled::{SettleCause, Settled};
-use crate::taken::Taken;
-use crate::ticket::Ticket;
 use raft_voter::{Round, RoundFault, RoundService};
 use raft_voter_history::{History, Keeper};
+use raft_voter_rounds::{
+    Done, Hall, Journal, MergedRound, Opening, Receipt, SharedFault, Taken, Ticket, fetch,
+    hand_out, note_answers, note_cuts, refuse_all,
+};
 use std::alloc::Global;
 use std::marker::PhantomData;
 use std::sync::Wait;
@@ -66,8 +61,8 @@ pub struct Desk<R, S: RoundService<R>, L: Opening> {
 impl<R, S: RoundService<R>, L: Opening> Desk<R, S, L> {
     ghost use Rattle.std.specs.Prelude.{◌==◌, ◌-◌, ◌++◌, nat_lt, map, IfErr, IfSome, OnOk};
     ghost use Rattle.std.specs.List.{All};
-    ghost use Rattle.raft_voter_shared.specs.Noting.{GivesNoReplies, NotesAnswered};
-    ghost use Rattle.raft_voter_shared.specs.Proving.{IsAt};
+    ghost use Rattle.raft_voter_rounds.specs.Noting.{GivesNoReplies, NotesAnswered};
+    ghost use Rattle.raft_voter_rounds.specs.Proving.{IsAt};
     ghost use Rattle.raft_voter_shared.specs.Settling.{IsSettled, SettlesUnless, TakesKept};
 
     /// Returns a desk with an empty journal, which keeps its records in memory or not.

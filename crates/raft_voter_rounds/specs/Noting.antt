@@ -66,9 +66,9 @@ cut_told place cause (n ∷ counts) = Err (faults.Cut place cause) ∷ cut_told 
 
 -- Steps.
 
--- The store replied with `told` to the rounds, as one round, and the callers get `replies`. These may have `Refused` for
--- Reads whose entries couldn't be copied. The records were appended to the journal, and each caller gets the answer of
--- its own.
+-- The store replied with `told` to the rounds, as one round, and the callers get `replies`. These may have `Refused`
+-- for Reads whose entries couldn't be copied. The records were appended to the journal, and each caller gets the answer
+-- of its own.
 pub record NotesAnswered {S : Type 0} (v : Service S) (counts : List ℕ) (requests : List (ℕ × Request))
     (old : S) (rounds : List Round) (new : S) (rounds' : List Round) (answers : List (Result Told SharedFault))
     : Type 0 where

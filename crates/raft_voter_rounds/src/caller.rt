@@ -27,8 +27,8 @@ pub struct Caller<L: Opening> {
 }
 
 impl<L: Opening> Caller<L> {
-    /// Returns the answer to a round with these replies: its place and its replies. The claim proves that the history has
-    /// its record there. The book and the share count the record.
+    /// Returns the answer to a round with these replies: its place and its replies. The claim proves that the history
+    /// has its record there. The book and the share count the record.
     pub fn answered(
         self,
         book: &mut Book<L>,

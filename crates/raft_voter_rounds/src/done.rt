@@ -55,7 +55,8 @@ impl<L: Opening> Done<L> {
 
     /// Returns the receipt, or why there is none, the share, and how many rounds of the seat are in the journal.
     pub fn into_receipt(self) -> (Result<Receipt<L>, SharedFault>, Share<L>, u64)
-        ensures seat { IfOk result.0 (λ receipt. (receipt.seat ≡ self.ticket.number) × (receipt.turn ≡ self.ticket.turn)) }
+        ensures seat { IfOk result.0 (λ receipt. (receipt.seat ≡ self.ticket.number)
+            × (receipt.turn ≡ self.ticket.turn)) }
         ensures requests { IfOk result.0 (λ receipt. receipt.requests ≡ self.requests) }
         ensures length { (OnOk result.0 (self.ticket.count ≤ 4096))
             × (IfErr result.0 (λ fault. ToldOfLength fault self.ticket.count)) }
@@ -79,7 +80,8 @@ impl<L: Opening> Done<L> {
     }
 }
 
-/// Returns the receipt of a round with these replies. The claim, which must be there, proves that the history has its record.
+/// Returns the receipt of a round with these replies. The claim, which must be there, proves that the history has its
+/// record.
 fn receipt_of<L: Opening>(
     ticket: Ticket,
     requests: Items<(u64, Request)>,

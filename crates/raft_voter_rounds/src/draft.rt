@@ -105,7 +105,8 @@ impl Draft {
     ) -> Round
         requires none { self.requests.items ≡ [] }
         requires few { length (places_within start self.count refused.now) ≤ self.count }
-        ensures round { result ≡ cut_off (take self.count asked.old.items) (places_within start self.count refused.now) }
+        ensures round { result ≡ cut_off (take self.count asked.old.items)
+            (places_within start self.count refused.now) }
         ensures asked { asked.new.items ≡ drop self.count asked.old.items }
     {
         let Draft {

@@ -10,8 +10,8 @@ use std::alloc::Global;
 use std::collections::VecDeque;
 use std::mem;
 
-/// The rounds that wait, as a queue of merged rounds, and the answers that callers haven't fetched. One caller leads: it has
-/// the store serve a merged round for all.
+/// The rounds that wait, as a queue of merged rounds, and the answers that callers haven't fetched. One caller leads:
+/// it has the store serve a merged round for all.
 #[derive(Drop)]
 pub struct Hall<L: Opening> {
     alloc: Global,

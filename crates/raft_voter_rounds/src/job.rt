@@ -49,8 +49,8 @@ pub struct Part<L: Opening> {
 impl<L: Opening> Job<L> {
     ghost use Rattle.std.specs.Prelude.{◌++◌, vec_capacity, vec_len};
 
-    /// Returns the part of the round in a merged one, and appends its requests to those of the others. There must be room for
-    /// them.
+    /// Returns the part of the round in a merged one, and appends its requests to those of the others. There must be
+    /// room for them.
     pub fn join(self, asked: &mut Vec<(u64, Request)>) -> Part<L>
         requires { vec_len asked.old + self.ticket.count ≤ vec_capacity asked.old }
         ensures ticket { result.ticket ≡ self.ticket }

@@ -10,8 +10,8 @@ use std::alloc::{AllocError, Global};
 use std::mem;
 use std::sync::Wait;
 
-/// The journal of a shared store: the history of its rounds, which exists in proofs alone, and the last records, if they are
-/// kept in memory.
+/// The journal of a shared store: the history of its rounds, which exists in proofs alone, and the last records, if
+/// they are kept in memory.
 #[derive(Drop)]
 pub struct Journal<L: Opening> {
     alloc: Global,
@@ -63,8 +63,8 @@ impl<L: Opening> Journal<L> {
         self.kept.reserve(more)
     }
 
-    /// Adds a record at the end, and returns a claim for it. It is kept in memory only if records are. There must be room
-    /// for it.
+    /// Adds a record at the end, and returns a claim for it. It is kept in memory only if records are. There must be
+    /// room for it.
     pub fn note<R: Wait>(&mut self, rt: &R, history: &History<L>, round: Round) -> Claim<L>
         requires room { vec_len self.old.kept < vec_capacity self.old.kept }
         requires count { length self.old.history + 1 < 2 ^ 64 }
@@ -137,8 +137,8 @@ impl<L: Opening> Journal<L> {
         }
     }
 
-    /// Returns the records that are kept, and the place of the first. The history has all records that were taken, as its
-    /// first ones.
+    /// Returns the records that are kept, and the place of the first. The history has all records that were taken, as
+    /// its first ones.
     pub fn close<R: Wait>(
         self,
         rt: &R,

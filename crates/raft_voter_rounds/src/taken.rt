@@ -7,8 +7,8 @@ use raft_voter_history::{Claim, History, Keeper};
 use std::marker::{Model, PhantomData};
 use std::sync::Wait;
 
-/// The records that were taken from a journal, one after another from the first on. Contracts see it as these records. In
-/// memory it has only their number.
+/// The records that were taken from a journal, one after another from the first on. Contracts see it as these records.
+/// In memory it has only their number.
 #[derive(Drop)]
 pub struct Taken<L: Opening> {
     claim: Claim<L>,

@@ -23,14 +23,14 @@ use std::sync::Wait;
 use std::sync::ledger::Book;
 
 /// The store, the journal of the rounds that it served, how it failed, and the ledger's book, which counts the records.
-/// Also the answers that the hall hasn't taken over, how many rounds were served together last, and how often the store was
-/// called.
+/// Also the answers that the hall hasn't taken over, how many rounds were served together last, and how often the store
+/// was called.
 ///
 /// For any voters that the store served when it was shared:
 /// - The journal is a legal history of them.
 /// - Unless the store failed, it serves the voters that the journal leads to.
-/// - A crash leaves these voters. If the store failed in rounds that it served together, a crash leaves voters that took
-///   these up to some place.
+/// - A crash leaves these voters. If the store failed in rounds that it served together, a crash leaves voters that
+///   took these up to some place.
 /// - If a failure is noted, a file call failed between two states of the store. The first served the voters that the
 ///   records before had led to.
 #[derive(Drop)]
@@ -122,12 +122,12 @@ impl<R, S: RoundService<R>, L: Opening> Desk<R, S, L> {
         1 < self.together
     }
 
-    /// The store serves a merged round, with one sync. A record of each of its rounds is appended to the journal, with the
-    /// replies that its caller gets, or as cut off. Each caller's answer has the place of its own record and its own
-    /// replies. If a read can't be copied for lack of memory, its reply is `Refused`.
+    /// The store serves a merged round, with one sync. A record of each of its rounds is appended to the journal, with
+    /// the replies that its caller gets, or as cut off. Each caller's answer has the place of its own record and its
+    /// own replies. If a read can't be copied for lack of memory, its reply is `Refused`.
     ///
-    /// Fails with `Cut` and the place of the first record if the rounds were cut off. Fails with `Memory` if there is no
-    /// memory for the records; then nothing was taken, and each caller's answer is `Memory`.
+    /// Fails with `Cut` and the place of the first record if the rounds were cut off. Fails with `Memory` if there is
+    /// no memory for the records; then nothing was taken, and each caller's answer is `Memory`.
     pub fn serve(
         &mut self,
         rt: &R,
@@ -233,8 +233,8 @@ impl<R, S: RoundService<R>, L: Opening> Desk<R, S, L> {
         self.journal.confirm(rt, history, receipts);
     }
 
-    /// Removes the records that the journal keeps and returns them, if they follow those that were taken before: then all
-    /// records were taken. Otherwise nothing changes and none are returned.
+    /// Removes the records that the journal keeps and returns them, if they follow those that were taken before: then
+    /// all records were taken. Otherwise nothing changes and none are returned.
     pub fn take(&mut self, rt: &R, history: &History<L>, taken: &mut Taken<L>) -> Vec<Round>
     where
         R: Wait,
@@ -270,8 +270,8 @@ impl<R, S: RoundService<R>, L: Opening> Desk<R, S, L> {
         }
     }
 
-    /// Returns the store and the records that the journal keeps. All seats must be there; the history has as many records
-    /// as they count, and begins with those that were taken.
+    /// Returns the store and the records that the journal keeps. All seats must be there; the history has as many
+    /// records as they count, and begins with those that were taken.
     pub fn close(
         self,
         rt: &R,

@@ -1,5 +1,5 @@
-//! A store of voters that many threads share. Rounds that wait are served together, with one sync, and the journal of the
-//! rounds is a legal history of voters.
+//! A store of voters that many threads share. Rounds that wait are served together, with one sync, and the journal of
+//! the rounds is a legal history of voters.
 #![tactic(auto)]
 
 mod clashes;

@@ -4,8 +4,8 @@ use Rattle.raft_voter_messages.specs.declared.reply.Reply.{Reply}
 use Rattle.raft_voter_messages.specs.declared.round.Outcome.TheVariants.{Answered}
 use Rattle.raft_voter_messages.specs.declared.round.Round.{Round}
 use Rattle.raft_voter.specs.Rounds.{World, replies_of}
-use Rattle.raft_voter_shared.specs.Journal.{IsLegal, behind_outcome, owed_by, reached, said}
-use Rattle.raft_voter_shared.specs.Proving.{ReceiptsAgree, RepliesAreVoters, record_of}
+use Rattle.raft_voter_rounds.specs.Journal.{IsLegal, behind_outcome, owed_by, reached, said}
+use Rattle.raft_voter_rounds.specs.Proving.{ReceiptsAgree, RepliesAreVoters, record_of}
 
 same_some : {A : Type 0} (x y : A) → Some x ≡ Some y → x ≡ y
 same_some x y e = grind arith

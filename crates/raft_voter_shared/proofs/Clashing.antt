@@ -5,7 +5,7 @@ use Rattle.std.specs.List.{enumerate_from, list_any}
 use Rattle.std.proofs.lemmas.Bool.{and_parts, cases_lt, eqb-true, leb-true, ltb-true}
 use Rattle.std.proofs.lemmas.Bool.Decides.{nat_tests}
 use Rattle.std.proofs.lemmas.Option.{slice_get_within}
-use Rattle.raft_voter_shared.specs.declared.receipt.Statement.{Statement}
+use Rattle.raft_voter_rounds.specs.declared.receipt.Statement.{Statement}
 use Rattle.raft_voter_shared.specs.Clashing.{AreNoted, NoneClashes, RiseBelow}
 use Rattle.raft_voter_shared.specs.Receipts.{clash}
 

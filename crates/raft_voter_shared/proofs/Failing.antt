@@ -7,9 +7,9 @@ use Rattle.raft_voter.specs.Rounds.{World}
 use Rattle.raft_voter.specs.Service.{CutRound, CutsOff, FailsAs, IsOpenAt, Service, uncut}
 use Rattle.raft_voter.specs.declared.service.Cause.{Cause}
 use Rattle.raft_voter.specs.declared.service.Cause.TheVariants.{FileSystem, Memory, Failed, TooLong}
+use Rattle.raft_voter_rounds.specs.Journal.{reached}
 use Rattle.raft_voter_shared.specs.declared.failure.Failure.{Failure}
 use Rattle.raft_voter_shared.specs.Failing.{CameToFailAs}
-use Rattle.raft_voter_shared.specs.Journal.{reached}
 use Rattle.raft_voter_shared.specs.Purging.{KeepsServed, failure_in_purge}
 use Rattle.raft_voter_shared.specs.Standing.{failure_behind, is_last, standing}
 use Rattle.raft_voter_shared.proofs.Journals.{AreCutOff, standing-append, standing_here}

@@ -13,7 +13,7 @@ use Rattle.raft_voter.specs.Rules.{next, reply}
 use Rattle.raft_voter.specs.Rounds.{World, after, after_one, are_rising, is_among, put, replies_from, taken_from}
 use Rattle.raft_voter.specs.Service.{Answers, AnswersRound, Service, is_refused, refused_from}
 use Rattle.raft_voter.proofs.Places.{among_before, replies_behind, taken_behind}
-use Rattle.raft_voter_shared.specs.Handing.{HandsOut, is_read}
+use Rattle.raft_voter_rounds.specs.Handing.{HandsOut, is_read}
 
 -- A read changes nothing.
 

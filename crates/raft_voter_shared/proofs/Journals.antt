@@ -12,11 +12,11 @@ use Rattle.raft_voter_messages.specs.declared.round.Outcome.TheVariants.{Answere
 use Rattle.raft_voter_messages.specs.declared.round.Round.{Round}
 use Rattle.raft_voter.specs.Rounds.{World, after, after_one, are_rising, replies_from, taken_from}
 use Rattle.raft_voter.specs.Service.{Answers, refused_from, uncut}
+use Rattle.raft_voter_rounds.specs.Journal.{IsLegal, behind_outcome, owed, owed_by, reached, said}
+use Rattle.raft_voter_rounds.specs.Noting.{answered}
 use Rattle.raft_voter_shared.specs.declared.failure.Failure.{Failure}
 use Rattle.raft_voter_shared.specs.declared.failure.Failure.TheVariants.{InRounds, InPurge}
-use Rattle.raft_voter_shared.specs.Journal.{IsLegal, behind_outcome, owed, owed_by, reached, said}
 use Rattle.raft_voter_shared.specs.Standing.{are_cut, between, cut_together, is_cut, is_last, refused_of, requests_of, standing}
-use Rattle.raft_voter_shared.specs.Noting.{answered}
 
 -- the voters behind more records
 pub reached-append :

@@ -13,9 +13,9 @@ use Rattle.raft_voter.specs.Rounds.{Leads, World, after, are_rising, fresh_world
 use Rattle.raft_voter.specs.Service.{Files, Service}
 use Rattle.raft_voter.proofs.Joining.{rounds_join}
 use Rattle.raft_voter.proofs.Places.{taken_none}
+use Rattle.raft_voter_rounds.specs.Journal.{IsLegal, behind_outcome, owed_by, reached, said}
 use Rattle.raft_voter_shared.specs.declared.failure.Failure.{Failure}
 use Rattle.raft_voter_shared.specs.declared.failure.Failure.TheVariants.{InRounds, InPurge}
-use Rattle.raft_voter_shared.specs.Journal.{IsLegal, behind_outcome, owed_by, reached, said}
 use Rattle.raft_voter_shared.specs.Openings.{OpeningsAreExplained, OpeningsGoOn, OpeningsLead, TookUpTo, all_cuts, all_rounds, cuts_at, own_cut, spread, untaken}
 use Rattle.raft_voter_shared.specs.Standing.{are_cut, between, is_cut, is_last, refused_of, requests_of, standing}
 use Rattle.raft_voter_shared.proofs.Journals.{last_facts}

@@ -3,13 +3,10 @@ pub mod Journals
 pub mod Splitting
 pub mod Cutting
 pub mod Spreading
-pub mod Noted
 pub mod Steps
-pub mod Requests
 pub mod Right
 pub mod Agreeing
 pub mod Clashing
 pub mod Leading
 pub mod PurgeSteps
 pub mod Failing
-pub mod Kept

@@ -3,7 +3,7 @@ use Rattle.std.proofs.Common.{◌≡◌, ℕ, ◌+◌, ◌<◌, List, min, slice
 use Rattle.std.specs.Prelude.{IfSome}
 use Rattle.std.proofs.lemmas.Bool.{cases_lt}
 use Rattle.raft_voter_messages.specs.declared.round.Round.{Round}
-use Rattle.raft_voter_shared.specs.declared.receipt.Statement.{Statement}
+use Rattle.raft_voter_rounds.specs.declared.receipt.Statement.{Statement}
 use Rattle.raft_voter_shared.specs.Receipts.{IsLeastBelow, IsRight, IsWrongBelow}
 
 module _ (first : ℕ) (rounds : List Round) (rs : List Statement) (end : ℕ) (this : Statement) (is : slice_get rs end ≡ Some this) where

@@ -11,8 +11,8 @@ use Rattle.raft_voter_messages.specs.declared.round.Round.{Round}
 use Rattle.raft_voter.specs.Rules.{reply}
 use Rattle.raft_voter.specs.Rounds.{World, after, after_one, replies_from, taken_from}
 use Rattle.raft_voter.specs.Service.{Answers, is_refused, refused_from}
-use Rattle.raft_voter_shared.specs.Journal.{IsLegal, behind_outcome, reached}
-use Rattle.raft_voter_shared.specs.Noting.{answered, answered_each}
+use Rattle.raft_voter_rounds.specs.Journal.{IsLegal, behind_outcome, reached}
+use Rattle.raft_voter_rounds.specs.Noting.{answered, answered_each}
 use Rattle.raft_voter_shared.proofs.Handing.{either_way, length-told, refused_adds, refused_rise, refused_taken, refused_told, taken_there, told_there, unrefused}
 use Rattle.raft_voter_shared.proofs.Journals.{answered_reaches, answered_says, legal_first}
 

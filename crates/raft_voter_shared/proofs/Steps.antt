@@ -14,13 +14,13 @@ use Rattle.raft_voter.specs.Rounds.{World, are_rising}
 use Rattle.raft_voter.specs.Service.{AnswersRound, CutRound, CutsOff, FailsAs, IsOpenAt, Service}
 use Rattle.raft_voter.specs.declared.service.Cause.{Cause}
 use Rattle.raft_voter.specs.declared.service.Cause.TheVariants.{FileSystem, Memory, Failed, TooLong}
+use Rattle.raft_voter_rounds.specs.Journal.{IsLegal, reached}
+use Rattle.raft_voter_rounds.specs.declared.receipt.SharedFault.{SharedFault}
+use Rattle.raft_voter_rounds.specs.declared.receipt.SharedFault.TheVariants as faults
+use Rattle.raft_voter_rounds.specs.declared.done.Told.{Told}
+use Rattle.raft_voter_rounds.specs.Noting.{ToldOfLength, answered_each, may_cut, may_tell}
 use Rattle.raft_voter_shared.specs.declared.failure.Failure.{Failure}
-use Rattle.raft_voter_shared.specs.Journal.{IsLegal, reached}
 use Rattle.raft_voter_shared.specs.Standing.{failure_behind, is_last, standing}
-use Rattle.raft_voter_shared.specs.declared.receipt.SharedFault.{SharedFault}
-use Rattle.raft_voter_shared.specs.declared.receipt.SharedFault.TheVariants as faults
-use Rattle.raft_voter_shared.specs.declared.done.Told.{Told}
-use Rattle.raft_voter_shared.specs.Noting.{ToldOfLength, answered_each, may_cut, may_tell}
 use Rattle.raft_voter_shared.proofs.Journals.{AreCutOff, last-append, last_here, legal-append, reached-append, standing-append, standing_here}
 use Rattle.raft_voter_shared.proofs.Splitting.{each_is_legal}
 

@@ -1,7 +1,7 @@
 -- A quick test that no receipts contradict each other. At the place of each record that is kept, it notes the seat and
 -- the turn of the receipt there. Then the turns of each seat must rise with the places.
 use Rattle.std.specs.Prelude.{◌≡◌, ◌≢◌, ℕ, ◌-◌, ◌<◌, ◌≤◌, false, List, slice_get, Option, Some}
-use Rattle.raft_voter_shared.specs.declared.receipt.Statement.{Statement}
+use Rattle.raft_voter_rounds.specs.declared.receipt.Statement.{Statement}
 use Rattle.raft_voter_shared.specs.Receipts.{clashes}
 
 -- The receipts whose index in the list is below `end` have different places, from place `first` on. The seat and turn of

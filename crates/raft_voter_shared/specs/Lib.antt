@@ -1,9 +1,5 @@
-pub mod Journal
 pub mod Standing
 pub mod Failing
-pub mod Handing
-pub mod Noting
-pub mod Proving
 pub mod Receipts
 pub mod Clashing
 pub mod Settling

@@ -6,9 +6,9 @@ use Rattle.raft_voter_messages.specs.declared.round.Outcome.TheVariants.{Answere
 use Rattle.raft_voter_messages.specs.declared.round.Round.{Round}
 use Rattle.raft_voter.specs.Rounds.{Explains, Leads, World, after, fresh_world, taken_from}
 use Rattle.raft_voter.specs.Service.{CutRound, Files, FindsVoters, IsOpenAt, LeavesInFiles, LeavesStanding, MayFollow, Service}
+use Rattle.raft_voter_rounds.specs.Journal.{IsLegal}
 use Rattle.raft_voter_shared.specs.declared.failure.Failure.{Failure}
 use Rattle.raft_voter_shared.specs.declared.failure.Failure.TheVariants.{InRounds}
-use Rattle.raft_voter_shared.specs.Journal.{IsLegal}
 use Rattle.raft_voter_shared.specs.Standing.{between, is_last, standing}
 
 -- the cut `place` if the round was cut off; no cut if it has replies

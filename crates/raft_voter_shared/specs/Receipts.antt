@@ -4,7 +4,7 @@ use Rattle.std.specs.Prelude.{◌≡◌, ℕ, ◌-◌, ◌<◌, ◌≤◌, ◌==
 use Rattle.std.specs.List.{enumerate_from, list_any}
 use Rattle.raft_voter_messages.specs.declared.round.Outcome.TheVariants.{Answered}
 use Rattle.raft_voter_messages.specs.declared.round.Round.{Round}
-use Rattle.raft_voter_shared.specs.declared.receipt.Statement.{Statement}
+use Rattle.raft_voter_rounds.specs.declared.receipt.Statement.{Statement}
 
 -- record `round` has the requests and the replies of receipt `r`
 abbrev pub IsRecordOf : Statement → Round → Type 0

@@ -1,13 +1,14 @@
 -- When a shared store can be settled: all seats are handed in, and all receipts are right. What is so then.
-use Rattle.std.specs.Prelude.{◌≡◌, ◌≢◌, ℕ, ◌+◌, ◌≤◌, ◌++◌, Bool, true, false, is_some, List, drop, length, Option, None, Some}
+use Rattle.std.specs.Prelude.{◌≡◌, ◌≢◌, ℕ, ◌+◌, ◌≤◌, Bool, true, false, is_some, List, drop, length, Option, None, Some}
 use Rattle.raft_voter_messages.specs.declared.round.Round.{Round}
 use Rattle.raft_voter.specs.Rounds.{World}
 use Rattle.raft_voter.specs.Service.{IsOpenAt, Service}
+use Rattle.raft_voter_rounds.specs.Journal.{IsLegal, reached}
+use Rattle.raft_voter_rounds.specs.declared.receipt.Statement.{Statement}
+use Rattle.raft_voter_rounds.specs.Taking.{HasTaken, TakesKept}
 use Rattle.raft_voter_shared.specs.Failing.{CameToFailAs}
-use Rattle.raft_voter_shared.specs.Journal.{IsLegal, reached}
 use Rattle.raft_voter_shared.specs.Standing.{is_last, standing}
 use Rattle.raft_voter_shared.specs.declared.failure.Failure.{Failure}
-use Rattle.raft_voter_shared.specs.declared.receipt.Statement.{Statement}
 use Rattle.raft_voter_shared.specs.declared.settled.SettleCause.{SettleCause}
 use Rattle.raft_voter_shared.specs.declared.settled.SettleCause.TheVariants as causes
 use Rattle.raft_voter_shared.specs.Receipts.{AllRight, IsLeastWrong}
@@ -22,17 +23,6 @@ IsCause first rounds all parts receipts (causes.Receipt place) = (parts ≡ all)
 abbrev pub SettlesUnless : ℕ → List Round → ℕ → ℕ → List Statement → Option SettleCause → Type 0
 SettlesUnless first rounds all parts receipts None = (parts ≡ all) × AllRight first rounds receipts
 SettlesUnless first rounds all parts receipts (Some cause) = IsCause first rounds all parts receipts cause
-
--- the history begins with the records that were taken from the journal
-abbrev pub HasTaken : List Round → List Round → Type 0
-HasTaken history taken = (later : List Round) × (history ≡ taken ++ later)
-
--- Records were taken from a journal with this history, which kept `kept` before and `kept'` after. It begins with those
--- that were taken before, `old`. If the kept ones follow these, all records were taken. Otherwise nothing changed.
-pub record TakesKept (history kept kept' old new : List Round) : Type 0 where
-  pub begins : HasTaken history old
-  pub all : length old + length kept ≡ length history → (new ≡ history) × (length kept' ≡ 0)
-  pub none : length old + length kept ≢ length history → (new ≡ old) × (kept' ≡ kept)
 
 -- A store's journal has a history, which is legal for the voters that the store served when it was shared, and kept its
 -- last records. Of these, records were taken as `TakesKept` says.

@@ -10,9 +10,9 @@ use Rattle.raft_voter.specs.Rounds.{World}
 use Rattle.raft_voter.specs.Service.{CutRound, uncut}
 use Rattle.raft_voter.specs.declared.service.Cause.{Cause}
 use Rattle.raft_voter.specs.declared.service.Cause.TheVariants.{FileSystem}
+use Rattle.raft_voter_rounds.specs.Journal.{reached}
 use Rattle.raft_voter_shared.specs.declared.failure.Failure.{Failure}
 use Rattle.raft_voter_shared.specs.declared.failure.Failure.TheVariants.{InRounds}
-use Rattle.raft_voter_shared.specs.Journal.{reached}
 
 -- the requests of these rounds, in order
 abbrev pub requests_of : List Round → List (ℕ × Request)

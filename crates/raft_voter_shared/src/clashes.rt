@@ -4,8 +4,7 @@ ghost use Rattle.std.specs.BTreeMap.{get};
 ghost use Rattle.std.specs.Ordering.{nat_cmp};
 ghost use Rattle.raft_voter_shared.specs.Clashing.{AreNoted, NoneClashes, RiseBelow};
 
-use crate::opening::Opening;
-use crate::receipt::{Receipt, Statement};
+use raft_voter_rounds::{Opening, Receipt, Statement};
 use std::alloc::Global;
 use std::collections::BTreeMap;
 

@@ -2,40 +2,35 @@
 ghost use Rattle.std.specs.Prelude.{◌≡◌, ◌<◌, ◌≤◌, [], false, true, is_some, length, sum_by, None};
 ghost use Rattle.raft_voter.specs.Rounds.{World};
 ghost use Rattle.raft_voter.specs.Service.{IsOpenAt};
+ghost use Rattle.raft_voter_rounds.specs.Journal.{IsLegal, reached};
 ghost use Rattle.raft_voter_shared.specs.Failing.{CameToFailAs};
-ghost use Rattle.raft_voter_shared.specs.Journal.{IsLegal, reached};
 ghost use Rattle.raft_voter_shared.specs.Standing.{is_last, standing};
 
-use crate::done::{Done, fetch};
 use crate::failure::{Failure, failure_behind, failure_in_purge};
-use crate::hall::Hall;
-use crate::journal::Journal;
 use crate::maintenance::Maintenance;
-use crate::merged_round::MergedRound;
-use crate::opening::Opening;
-use crate::receipt::{Receipt, SharedFault};
 use crate::receipts::Check;
-use crate::records::{hand_out, note_answers, note_cuts, refuse_all};
 use crate::seat::{Seat, have_all, merged};
 use crate::settled::{SettleCause, Settled};
-use crate::taken::Taken;
-use crate::ticket::Ticket;
 use raft_voter::{Round, RoundFault, RoundService};
 use raft_voter_history::{History, Keeper};
+use raft_voter_rounds::{
+    Done, Hall, Journal, MergedRound, Opening, Receipt, SharedFault, Taken, Ticket, fetch,
+    hand_out, note_answers, note_cuts, refuse_all,
+};
 use std::alloc::Global;
 use std::marker::PhantomData;
 use std::sync::Wait;
 use std::sync::ledger::Book;
 
 /// The store, the journal of the rounds that it served, how it failed, and the ledger's book, which counts the records.
-/// Also the answers that the hall hasn't taken over, how many rounds were served together last, and how often the store was
-/// called.
+/// Also the answers that the hall hasn't taken over, how many rounds were served together last, and how often the store
+/// was called.
 ///
 /// For any voters that the store served when it was shared:
 /// - The journal is a legal history of them.
 /// - Unless the store failed, it serves the voters that the journal leads to.
-/// - A crash leaves these voters. If the store failed in rounds that it served together, a crash leaves voters that took
-///   these up to some place.
+/// - A crash leaves these voters. If the store failed in rounds that it served together, a crash leaves voters that
+///   took these up to some place.
 /// - If a failure is noted, a file call failed between two states of the store. The first served the voters that the
 ///   records before had led to.
 #[derive(Drop)]
@@ -66,8 +61,8 @@ pub struct Desk<R, S: RoundService<R>, L: Opening> {
 impl<R, S: RoundService<R>, L: Opening> Desk<R, S, L> {
     ghost use Rattle.std.specs.Prelude.{◌==◌, ◌-◌, ◌++◌, nat_lt, map, IfErr, IfSome, OnOk};
     ghost use Rattle.std.specs.List.{All};
-    ghost use Rattle.raft_voter_shared.specs.Noting.{GivesNoReplies, NotesAnswered};
-    ghost use Rattle.raft_voter_shared.specs.Proving.{IsAt};
+    ghost use Rattle.raft_voter_rounds.specs.Noting.{GivesNoReplies, NotesAnswered};
+    ghost use Rattle.raft_voter_rounds.specs.Proving.{IsAt};
     ghost use Rattle.raft_voter_shared.specs.Settling.{IsSettled, SettlesUnless, TakesKept};
 
     /// Returns a desk with an empty journal, which keeps its records in memory or not.
@@ -127,12 +122,12 @@ impl<R, S: RoundService<R>, L: Opening> Desk<R, S, L> {
         1 < self.together
     }
 
-    /// The store serves a merged round, with one sync. A record of each of its rounds is appended to the journal, with the
-    /// replies that its caller gets, or as cut off. Each caller's answer has the place of its own record and its own
-    /// replies. If a read can't be copied for lack of memory, its reply is `Refused`.
+    /// The store serves a merged round, with one sync. A record of each of its rounds is appended to the journal, with
+    /// the replies that its caller gets, or as cut off. Each caller's answer has the place of its own record and its
+    /// own replies. If a read can't be copied for lack of memory, its reply is `Refused`.
     ///
-    /// Fails with `Cut` and the place of the first record if the rounds were cut off. Fails with `Memory` if there is no
-    /// memory for the records; then nothing was taken, and each caller's answer is `Memory`.
+    /// Fails with `Cut` and the place of the first record if the rounds were cut off. Fails with `Memory` if there is
+    /// no memory for the records; then nothing was taken, and each caller's answer is `Memory`.
     pub fn serve(
         &mut self,
         rt: &R,
@@ -238,8 +233,8 @@ impl<R, S: RoundService<R>, L: Opening> Desk<R, S, L> {
         self.journal.confirm(rt, history, receipts);
     }
 
-    /// Removes the records that the journal keeps and returns them, if they follow those that were taken before: then all
-    /// records were taken. Otherwise nothing changes and none are returned.
+    /// Removes the records that the journal keeps and returns them, if they follow those that were taken before: then
+    /// all records were taken. Otherwise nothing changes and none are returned.
     pub fn take(&mut self, rt: &R, history: &History<L>, taken: &mut Taken<L>) -> Vec<Round>
     where
         R: Wait,
@@ -275,8 +270,8 @@ impl<R, S: RoundService<R>, L: Opening> Desk<R, S, L> {
         }
     }
 
-    /// Returns the store and the records that the journal keeps. All seats must be there; the history has as many records
-    /// as they count, and begins with those that were taken.
+    /// Returns the store and the records that the journal keeps. All seats must be there; the history has as many
+    /// records as they count, and begins with those that were taken.
     pub fn close(
         self,
         rt: &R,

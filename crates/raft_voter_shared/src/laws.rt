@@ -1,6 +1,6 @@
 //! Laws about receipts, and about journals of successive openings. Each is the contract of an empty function.
+ghost use Rattle.raft_voter_rounds.specs.Proving.{ReceiptsAgree, RepliesAreVoters};
 ghost use Rattle.raft_voter_shared.specs.Openings.{OpeningsAreExplained, OpeningsGoOn, OpeningsLead};
-ghost use Rattle.raft_voter_shared.specs.Proving.{ReceiptsAgree, RepliesAreVoters};
 
 use raft_voter::{RoundService, StoreFiles};
 

@@ -5,9 +5,8 @@ ghost use Rattle.raft_voter_shared.specs.Clashing.{NoneClashes};
 ghost use Rattle.raft_voter_shared.specs.Receipts.{clash, clashes, AllRight, IsLeastBelow, IsLeastWrong, IsRecordOf, IsRight, StandsIn};
 
 use crate::clashes::are_apart;
-use crate::opening::Opening;
-use crate::receipt::{Receipt, Statement};
 use raft_voter::{Items, Outcome, Reply, Request, Round};
+use raft_voter_rounds::{Opening, Receipt, Statement, are_asked};
 use std::alloc::Global;
 
 /// Receipts that are checked against the records that a journal keeps, the first of which is at a place.
@@ -116,13 +115,6 @@ fn is_record_of(receipt: &Statement, round: &Round) -> bool
         }
         Outcome::Cut => false,
     }
-}
-
-/// Whether these are the same requests.
-pub fn are_asked(requests: &[(u64, Request)], others: &[(u64, Request)]) -> bool
-    ensures { Decides result (requests.now ≡ others.now) }
-{
-    requests == others
 }
 
 /// Whether these are the same replies.

@@ -2,7 +2,7 @@
 ghost use Rattle.std.specs.Prelude.{◌≡◌, ◌+◌, ◌/◌, ◌<◌, ◌≤◌, ◌^◌, [], sum_by, None, IfSome};
 ghost use Rattle.std.specs.Bool.{Decides};
 
-use crate::opening::Opening;
+use raft_voter_rounds::Opening;
 use std::sync::ledger::Share;
 
 /// A seat at a shared store: some of the parts of the store's ledger, and how many of its rounds are in the journal.

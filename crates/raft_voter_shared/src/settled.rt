@@ -1,11 +1,9 @@
 //! The results of settling a shared store.
 use crate::failure::Failure;
-use crate::opening::Opening;
-use crate::receipt::Receipt;
 use crate::seat::Seat;
-use crate::taken::Taken;
 use crate::unsettled::Unsettled;
 use raft_voter::{Round, RoundService};
+use raft_voter_rounds::{Opening, Receipt, Taken};
 
 /// A shared store after it was settled.
 #[derive(Drop)]

@@ -3,23 +3,17 @@ ghost use Rattle.std.specs.Prelude.{◌≡◌, ◌<◌, length, IfErr, IfOk, IfS
 ghost use Rattle.raft_voter.specs.Rounds.{World};
 ghost use Rattle.raft_voter.specs.Service.{IsOpenAt};
 
-use crate::copies::copy_requests;
 use crate::desk::Desk;
-use crate::done::Done;
-use crate::draft::Draft;
-use crate::hall::Hall;
-use crate::job::Job;
 use crate::maintenance::Maintenance;
-use crate::merged_round::MergedRound;
-use crate::opening::Opening;
-use crate::receipt::{Receipt, SharedFault};
 use crate::seat::Seat;
 use crate::settled::{SettleFault, Settled};
-use crate::taken::Taken;
-use crate::ticket::Ticket;
 use crate::unsettled::Unsettled;
 use raft_voter::{Items, Memory, Request, Round, RoundService};
 use raft_voter_history::{FreshHistory, History};
+use raft_voter_rounds::{
+    Done, Draft, Hall, Job, MergedRound, Opening, Receipt, SharedFault, Taken, Ticket,
+    copy_requests,
+};
 use std::alloc::Global;
 use std::sync::ledger::Blank;
 use std::sync::{Condvar, Mutex, Wait};
@@ -46,8 +40,8 @@ pub struct SharedStore<R, S: RoundService<R>, L: Opening> {
 impl<R, S: RoundService<R>, L: Opening> SharedStore<R, S, L> {
     ghost use Rattle.std.specs.Prelude.{◌+◌, ◌-◌, ◌≤◌, ◌++◌, [], sum_by, OnOk};
     ghost use Rattle.raft_voter_history.specs.Names.{id_of};
-    ghost use Rattle.raft_voter_shared.specs.Noting.{records_of, ToldOfLength};
-    ghost use Rattle.raft_voter_shared.specs.Proving.{AreInHistory};
+    ghost use Rattle.raft_voter_rounds.specs.Noting.{records_of, ToldOfLength};
+    ghost use Rattle.raft_voter_rounds.specs.Proving.{AreInHistory};
     ghost use Rattle.raft_voter_shared.specs.Receipts.{AllRight};
     ghost use Rattle.raft_voter_shared.specs.Settling.{AreTaken, IsCause, IsSettled};
 

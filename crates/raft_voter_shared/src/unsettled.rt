@@ -2,11 +2,10 @@
 ghost use Rattle.std.specs.Prelude.{◌≡◌, ◌<◌};
 
 use crate::desk::Desk;
-use crate::hall::Hall;
-use crate::opening::Opening;
 use crate::shared::SharedStore;
 use raft_voter::{Round, RoundService};
 use raft_voter_history::History;
+use raft_voter_rounds::{Hall, Opening};
 use std::alloc::Global;
 use std::sync::{Condvar, Mutex};
 

@@ -3,7 +3,7 @@
 use Rattle.std.specs.Prelude.{◌≡◌, ◌≤◌, true, List, [], ◌∷◌, length, map}
 use Rattle.raft_voter.specs.Rounds.{Explains, World, fresh_world}
 use Rattle.raft_voter.specs.Service.{CutRound, IsOpenAt, MayFollow, Service}
-use Rattle.raft_voter_shared.specs.Journal.{IsLegal}
+use Rattle.raft_voter_rounds.specs.Journal.{IsLegal}
 use Rattle.raft_voter_shared.specs.Openings.{Session, TookUpTo, all_cuts, all_rounds}
 use Rattle.raft_voter_shared.specs.Standing.{is_last, standing}
 

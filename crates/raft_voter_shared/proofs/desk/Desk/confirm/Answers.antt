@@ -1,8 +1,8 @@
 use Rattle.std.proofs.Common.{◌≡◌, ◌≤◌, true, List, length, sym, ap, subst, ◌∙◌}
 use Rattle.raft_voter_messages.specs.declared.round.Round.{Round}
 use Rattle.raft_voter.specs.Service.{IsOpenAt}
+use Rattle.raft_voter_rounds.specs.Journal.{IsLegal, reached}
 use Rattle.raft_voter_shared.specs.Failing.{CameToFailAs}
-use Rattle.raft_voter_shared.specs.Journal.{IsLegal, reached}
 use Rattle.raft_voter_shared.specs.Standing.{is_last, standing}
 use Rattle.raft_voter_shared.proofs.desk.Desk.confirm.Goals as goal
 

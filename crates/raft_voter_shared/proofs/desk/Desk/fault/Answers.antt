@@ -1,6 +1,6 @@
 use Rattle.std.proofs.Common.{◌≡◌, ℕ, ◌-◌, List, length, subst, ◌∙◌}
 use Rattle.raft_voter_messages.specs.declared.round.Round.{Round}
-use Rattle.raft_voter_shared.specs.declared.receipt.Statement.{Statement}
+use Rattle.raft_voter_rounds.specs.declared.receipt.Statement.{Statement}
 use Rattle.raft_voter_shared.specs.Receipts.{AllRight, IsLeastWrong}
 use Rattle.raft_voter_shared.proofs.desk.Desk.fault.Goals as goal
 

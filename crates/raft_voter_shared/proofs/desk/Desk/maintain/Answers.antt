@@ -1,9 +1,9 @@
 use Rattle.std.proofs.Common.{◌≡◌, true, is_some, Option, refl, sym, ap, subst, ◌∙◌}
 use Rattle.std.proofs.Math.Logic.{∥∥₁_map}
 use Rattle.raft_voter.specs.Service.{CutRound}
+use Rattle.raft_voter_rounds.specs.Journal.{reached}
 use Rattle.raft_voter_shared.specs.declared.failure.Failure.{Failure}
 use Rattle.raft_voter_shared.specs.Failing.{CameToFailAs}
-use Rattle.raft_voter_shared.specs.Journal.{reached}
 use Rattle.raft_voter_shared.specs.Purging.{failure_in_purge}
 use Rattle.raft_voter_shared.specs.Standing.{is_last, standing}
 use Rattle.raft_voter_shared.proofs.Failing.{purged_why}

@@ -3,7 +3,7 @@ use Rattle.std.proofs.Math.Logic.{∥∥₁_map}
 use Rattle.std.proofs.lemmas.Bool.{false≢true}
 use Rattle.raft_voter_messages.specs.declared.round.Round.{Round}
 use Rattle.raft_voter.specs.Service.{IsOpenAt, uncut}
-use Rattle.raft_voter_shared.specs.Journal.{IsLegal, reached}
+use Rattle.raft_voter_rounds.specs.Journal.{IsLegal, reached}
 use Rattle.raft_voter_shared.proofs.desk.Desk.new.Goals as goal
 
 pub invariant_of-result : goal.invariant_of-result

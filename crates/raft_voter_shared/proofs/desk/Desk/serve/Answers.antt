@@ -9,12 +9,12 @@ use Rattle.raft_voter_messages.specs.declared.request.Request.{Request}
 use Rattle.raft_voter_messages.specs.declared.round.Round.{Round}
 use Rattle.raft_voter.specs.Rounds.{World}
 use Rattle.raft_voter.specs.Service.{AnswersRound, CutsOff, FailsAs, IsOpenAt, refused_from}
+use Rattle.raft_voter_rounds.specs.Handing.{HandsOut}
+use Rattle.raft_voter_rounds.specs.Journal.{IsLegal, reached}
+use Rattle.raft_voter_rounds.specs.Noting.{answered_each, cut_each, told_each}
 use Rattle.raft_voter_shared.specs.declared.failure.Failure.{Failure}
 use Rattle.raft_voter_shared.specs.Failing.{CameToFailAs}
-use Rattle.raft_voter_shared.specs.Handing.{HandsOut}
-use Rattle.raft_voter_shared.specs.Journal.{IsLegal, reached}
 use Rattle.raft_voter_shared.specs.Standing.{failure_behind, is_last, standing}
-use Rattle.raft_voter_shared.specs.Noting.{answered_each, cut_each, told_each}
 use Rattle.raft_voter_shared.proofs.Cutting.{each_is_cut}
 use Rattle.raft_voter_shared.proofs.Failing.{cut_why}
 use Rattle.raft_voter_shared.proofs.Handing.{handed_round}

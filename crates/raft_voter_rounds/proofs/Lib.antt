@@ -1,0 +1,4 @@
+pub mod Within
+pub mod Noted
+pub mod Requests
+pub mod Kept

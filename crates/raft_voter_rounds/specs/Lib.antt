@@ -1,0 +1,5 @@
+pub mod Journal
+pub mod Handing
+pub mod Noting
+pub mod Proving
+pub mod Taking

@@ -1,0 +1,14 @@
+-- How records are taken from a journal.
+use Rattle.std.specs.Prelude.{◌≡◌, ◌≢◌, ◌+◌, ◌++◌, List, length}
+use Rattle.raft_voter_messages.specs.declared.round.Round.{Round}
+
+-- the history begins with the records that were taken from the journal
+abbrev pub HasTaken : List Round → List Round → Type 0
+HasTaken history taken = (later : List Round) × (history ≡ taken ++ later)
+
+-- Records were taken from a journal with this history, which kept `kept` before and `kept'` after. It begins with those
+-- that were taken before, `old`. If the kept ones follow these, all records were taken. Otherwise nothing changed.
+pub record TakesKept (history kept kept' old new : List Round) : Type 0 where
+  pub begins : HasTaken history old
+  pub all : length old + length kept ≡ length history → (new ≡ history) × (length kept' ≡ 0)
+  pub none : length old + length kept ≢ length history → (new ≡ old) × (kept' ≡ kept)

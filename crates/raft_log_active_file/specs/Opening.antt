@@ -28,8 +28,9 @@ pub record CanBegin {R : Type 0} (F : Format R) (own : List ℕ → Type 0) (bas
   pub header_is : F.IsHeader header
   pub path_is : F.IsPath 1 path
 
--- If the queue could begin, it has begun in its file 1 at this path. The file has the header and no record, and the
--- queue is open to the writer. The handle may write the file, zeros may be allocated in it, and there is no file 0.
+-- If the queue could begin before the call (`CanBegin`), it now has its file 1 at this path, open to the writer. The
+-- file has the header and no record; zeros may be allocated after the header. The handle may write the file. There is
+-- no file 0.
 abbrev pub BeginsQueue : {R : Type 0} → Format R → (List ℕ → Type 0) → List ℕ → List ℕ → Handle
     → LogFileWriter → Disk → Disk → Type 0
 BeginsQueue {R} F own header path handle writer old new = (base : Disk) (older : ℕ → Past R)

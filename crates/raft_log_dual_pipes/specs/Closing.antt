@@ -67,8 +67,8 @@ NamesAreReserved {R} log = AreTwoQueues log → (which : Which) (o : OpenPipes) 
     × IsOpenOrClosed log (with_open which o None) (next_log which s (spanned_at which s).files new)
     × FailsWhole (Ties log) (Ties log) s (next_log which s (spanned_at which s).files new)
 
--- the disks that a close of both pipes goes through: both active files are finished or that fails, then the files kept
--- for recycling are renamed
+-- The disks that a close of both pipes goes through. It finishes the active files, Append's first. Then it renames the
+-- files kept for recycling, Append's first. Each of these steps may fail, and its queue keeps its records.
 pub record ClosesBoth {R E V : Type 0} (log : TwoQueues R E V) (p : Pipes) (old new : Disk) : Type 0 where
   pub one : Disk
   pub two : Disk

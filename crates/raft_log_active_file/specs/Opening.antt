@@ -39,7 +39,8 @@ BeginsQueue {R} F own header path handle writer old new = (base : Disk) (older :
     × IsOpen F own base writer (with_room room (fresh_queue older header)) path
     (update bytes_eq old.names path (Some handle.file)) new × IsAbsent F 0 new
 
--- the queue may still begin, or it has its file 1 without a record; zeros may be allocated in that
+-- The queue may still begin. Or the files of `q` are on the disk, and its last file holds its records, perhaps with
+-- zeros allocated after them.
 abbrev pub IsHalfBegun : {R : Type 0} → Format R → (List ℕ → Type 0) → Disk → LogFiles R → Disk → Type 0
 IsHalfBegun F own base q d = IsFresh F own base d ⊎ ((room : ℕ) × StandsWithRecords F own base (with_room room q) d)
 

@@ -55,8 +55,8 @@ abbrev pub CloseIsAStep : {R E V : Type 0} → TwoQueues R E V → Type 0
 CloseIsAStep {R} log = AreTwoQueues log → (which : Which) (o : OpenPipes) (files : PipeFiles)
     (s : LogOnDisk R) → IsOpenOrClosed log (with_open which o (Some files)) s → ClosesBeside log which o files s
 
--- The pipe of a queue is closed, and the files that it kept for recycling get reserved names. If those with a number
--- were below the live range, the queue loses nothing, and the log's numbered files are the same.
+-- The pipe of a queue is closed, and the files that it kept for recycling got reserved names or failed to. If those
+-- with a number were below the live range, the queue loses nothing, and the log's numbered files are the same.
 abbrev pub NamesAreReserved : {R E V : Type 0} → TwoQueues R E V → Type 0
 NamesAreReserved {R} log = AreTwoQueues log → (which : Which) (o : OpenPipes) (kept : List Listed)
     (s : LogOnDisk R) (new : Disk) → IsOpenOrClosed log (with_open which o None) s

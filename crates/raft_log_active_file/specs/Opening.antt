@@ -28,8 +28,9 @@ pub record CanBegin {R : Type 0} (F : Format R) (own : List ℕ → Type 0) (bas
   pub header_is : F.IsHeader header
   pub path_is : F.IsPath 1 path
 
--- If the queue could begin, it has begun in its file 1 at this path. The file has the header and no record, and the
--- queue is open to the writer. The handle may write the file, zeros may be allocated in it, and there is no file 0.
+-- If the queue could begin before the call (`CanBegin`), it now has its file 1 at this path, open to the writer. The
+-- file has the header and no record; zeros may be allocated after the header. The handle may write the file. There is
+-- no file 0.
 abbrev pub BeginsQueue : {R : Type 0} → Format R → (List ℕ → Type 0) → List ℕ → List ℕ → Handle
     → LogFileWriter → Disk → Disk → Type 0
 BeginsQueue {R} F own header path handle writer old new = (base : Disk) (older : ℕ → Past R)
@@ -38,7 +39,8 @@ BeginsQueue {R} F own header path handle writer old new = (base : Disk) (older :
     × IsOpen F own base writer (with_room room (fresh_queue older header)) path
     (update bytes_eq old.names path (Some handle.file)) new × IsAbsent F 0 new
 
--- the queue may still begin, or it has its file 1 without a record; zeros may be allocated in that
+-- The queue may still begin. Or the files of `q` are on the disk, and its last file holds its records, perhaps with
+-- zeros allocated after them.
 abbrev pub IsHalfBegun : {R : Type 0} → Format R → (List ℕ → Type 0) → Disk → LogFiles R → Disk → Type 0
 IsHalfBegun F own base q d = IsFresh F own base d ⊎ ((room : ℕ) × StandsWithRecords F own base (with_room room q) d)
 

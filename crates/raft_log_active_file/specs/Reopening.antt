@@ -1,4 +1,4 @@
--- The last file of a queue after a stop: how far it is read, and the queue with what was read.
+-- The last file of a queue after a stop: how far it is read, and what the queue is afterwards.
 use Rattle.std.specs.Prelude.{◌≡◌, ℕ, ◌+◌, Option, Some, None, List, [], length}
 use Rattle.raft_log_fs.specs.Disk.{File}
 use Rattle.raft_log_file_writer.specs.LawsChains.{Written, Reads, spelled}

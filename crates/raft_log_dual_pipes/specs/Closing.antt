@@ -1,5 +1,5 @@
--- Closing the pipes of a log: each active file is truncated after its records and synced (finished), then the files
--- kept for recycling get reserved names.
+-- Closing the pipes of a log. First each active file is finished: truncated after its records, and synced. Then the
+-- files kept for recycling get reserved names.
 use Rattle.std.specs.Prelude.{◌≡◌, ◌⊎◌, Some, None, List}
 use Rattle.raft_log_model_laws.specs.Item.{Record}
 use Rattle.raft_log_model_laws.specs.Groups.{Map}
@@ -55,8 +55,8 @@ abbrev pub CloseIsAStep : {R E V : Type 0} → TwoQueues R E V → Type 0
 CloseIsAStep {R} log = AreTwoQueues log → (which : Which) (o : OpenPipes) (files : PipeFiles)
     (s : LogOnDisk R) → IsOpenOrClosed log (with_open which o (Some files)) s → ClosesBeside log which o files s
 
--- If the pipe of a queue is closed, giving reserved names to the files that it kept for recycling removes nothing from
--- the queue. The log's numbered files are the same.
+-- The pipe of a queue is closed, and the files that it kept for recycling got reserved names or failed to. If those
+-- with a number were below the live range, the queue loses nothing, and the log's numbered files are the same.
 abbrev pub NamesAreReserved : {R E V : Type 0} → TwoQueues R E V → Type 0
 NamesAreReserved {R} log = AreTwoQueues log → (which : Which) (o : OpenPipes) (kept : List Listed)
     (s : LogOnDisk R) (new : Disk) → IsOpenOrClosed log (with_open which o None) s
@@ -67,8 +67,8 @@ NamesAreReserved {R} log = AreTwoQueues log → (which : Which) (o : OpenPipes) 
     × IsOpenOrClosed log (with_open which o None) (next_log which s (spanned_at which s).files new)
     × FailsWhole (Ties log) (Ties log) s (next_log which s (spanned_at which s).files new)
 
--- the disks that a close of both pipes goes through: both active files are finished or that fails, then the files kept
--- for recycling are renamed
+-- The disks that a close of both pipes goes through. It finishes the active files, Append's first. Then it renames the
+-- files kept for recycling, Append's first. Each of these steps may fail, and its queue keeps its records.
 pub record ClosesBoth {R E V : Type 0} (log : TwoQueues R E V) (p : Pipes) (old new : Disk) : Type 0 where
   pub one : Disk
   pub two : Disk

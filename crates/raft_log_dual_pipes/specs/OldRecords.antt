@@ -1,4 +1,5 @@
--- A record that was signed for one file isn't a record of another file.
+-- A record that was signed for one file isn't a record of another. This holds in files of version 2, if the low 32 bits
+-- of the two numbers differ.
 use Rattle.std.specs.Prelude.{◌≡◌, ◌%◌, ◌^◌, ℕ, List, ◌++◌}
 use Rattle.raft_log_fs.specs.Disk.{zeros}
 use Rattle.raft_log_record_base.specs.declared.pipe_log.LogQueue.{LogQueue}
@@ -14,7 +15,8 @@ use Rattle.raft_log_active_file.specs.declared.record.LogRecord.{LogRecord}
 abbrev pub AreApart : ℕ → ℕ → Type 0
 AreApart m n = m % 2 ^ 32 ≡ n % 2 ^ 32 → ⊥
 
--- `bytes` begin with a whole record that was signed for another number, whose low 32 bits differ, under this header
+-- `bytes` begin with a whole record of another file with the same header. The low 32 bits of that file's number differ
+-- from those of `number`.
 pub record BeginsOld (F : Format LogRecord) (number : ℕ) (header bytes : List ℕ) : Type 0 where
   pub other : ℕ
   pub apart : AreApart other number
@@ -24,8 +26,8 @@ pub record BeginsOld (F : Format LogRecord) (number : ℕ) (header bytes : List 
   pub are : bytes ≡ old.bytes ++ rest
 
 -- In a file of version 2, bytes that begin with such an old record begin with no record of this file (`one`). This
--- doesn't depend on the old record's entries or on the bytes after it. The same holds for all old records of a file
--- with zeros after them (`all`).
+-- doesn't depend on the old record's entries or on the bytes after it. The same holds for bytes that are old records of
+-- one other file, then zeros (`all`).
 pub record OldRecordsBeginNoRecord : Type 0 where
   pub one : (queue : LogQueue) (directories : List (List ℕ)) (format : LogFileFormat) → format.version ≡ V2
       → (number : ℕ) (bytes : List ℕ) → BeginsOld (log_format queue directories) number (header_bytes format) bytes

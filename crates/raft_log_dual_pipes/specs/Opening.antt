@@ -1,4 +1,4 @@
--- Opening both pipes of a log, over what was found of its queues.
+-- Opening both pipes of a log, each over the files that an open found for its queue (`FoundPipe`).
 use Rattle.std.specs.Prelude.{◌≡◌, ◌⊎◌, List, [], ℕ, map, false}
 use Rattle.std.specs.String.{string_bytes}
 use Rattle.raft_log_fs.specs.Disk.{Disk}
@@ -39,8 +39,8 @@ pub record IsFoundAs (queue : LogQueue) (directories : List (List ℕ)) (p : Fou
   pub told : p.settings.queue ≡ queue
   pub lies : map string_bytes p.layout.paths.items ≡ directories
 
--- A log is at rest on the disk `d`, as a stop or a close left it. Its contents are the map `m`, and `append` and
--- `rewrite` are what was found of its queues.
+-- A log is at rest on the disk `d`, as a stop or a close left it. Its contents are the map `m`. `append` and `rewrite`
+-- are what an open found for each queue.
 pub record RestsAsFound (log : LogSense) (m : Map (List ℕ) (List ℕ)) (append rewrite : FoundPipe)
     (d : Disk) : Type 0 where
   pub append_as : IsFoundAs Append log.append append

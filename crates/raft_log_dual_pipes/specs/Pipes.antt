@@ -1,4 +1,4 @@
--- The two pipes of a log, which write the files of its queues, and the log over which they run.
+-- The two pipes of a log, which write the files of its two queues. `RunsOn` says when both run over a log on a disk.
 use Rattle.std.specs.Prelude.{◌≡◌, ℕ, ◌<◌, Bool, false, ◌||◌, List, length}
 use Rattle.raft_log_model_laws.specs.Item.{Record}
 use Rattle.raft_log_fs.specs.Disk.{Disk}
@@ -45,12 +45,12 @@ one_at InRewrite v = v.rewrite
 abbrev pub main_directory : LogPipes → List ℕ
 main_directory v = directory_at v.append.directories 0
 
--- the queue with this name
+-- the queue, as the machine's laws name it (`Which`)
 abbrev pub which_of : LogQueue → Which
 which_of Append = InAppend
 which_of Rewrite = InRewrite
 
--- the name of a queue
+-- the queue, as the code names it (`LogQueue`)
 abbrev pub queue_of : Which → LogQueue
 queue_of InAppend = Append
 queue_of InRewrite = Rewrite

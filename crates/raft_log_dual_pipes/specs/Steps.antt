@@ -1,4 +1,5 @@
--- What each append of a pipe leaves, if both pipes run: the log and its numbered files.
+-- What an append to one queue leaves, if both pipes ran before it: the pipes, the log on the disk, and the model's
+-- numbered files.
 use Rattle.std.specs.Prelude.{◌≡◌, ℕ, ◌⊎◌, List}
 use Rattle.raft_log_model_laws.specs.Item.{Record}
 use Rattle.raft_log_fs.specs.Disk.{Disk}
@@ -65,8 +66,8 @@ LeavesCutBack {R} log which p s header after new = (files : LogFiles R)
     × Run log (with_pipe which p after) (next_log which s files new)
     × CutsBack (Ties log) which s (next_log which s files new)
 
--- No record was added, and both pipes still run. The queue is unchanged; or it may have rotated, and all its records
--- are synced.
+-- No record was added, and both pipes still run. Either the queue is unchanged, or all its records are synced, perhaps
+-- after a rotation.
 abbrev pub LeavesWithout : {R E V : Type 0} → TwoQueues R E V → Which → Pipes → LogOnDisk R → List ℕ
     → PipeFiles → Disk → Type 0
 LeavesWithout {R} log which p s header after new = (files : LogFiles R)

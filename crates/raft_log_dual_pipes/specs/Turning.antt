@@ -20,7 +20,8 @@ GoesOnInNext header kept d q p = (room : ℕ) × (stale : List ℕ) × IsStaleOf
 abbrev pub IsOrGoesOn : {R : Type 0} → List ℕ → List Listed → Disk → LogFiles R → LogFiles R → Type 0
 IsOrGoesOn header kept d q p = (p ≡ q) ⊎ GoesOnInNext header kept d q p
 
--- `r` is the queue `q`, maybe after a rotation, with one more record; zeros may be allocated before that
+-- `r` is the queue `q` with one more record at its end. Before that record was added, the queue may have rotated, and
+-- zeros may have been allocated in its last file.
 abbrev pub HasTaken : {R : Type 0} → List ℕ → List Listed → Disk → LogFiles R → LogFiles R → Type 0
 HasTaken {R} header kept d q r = (p : LogFiles R) × IsOrGoesOn header kept d q p × (room : ℕ)
     × (w : Written R) × (r ≡ with_more (w ∷ []) (with_room room p))

@@ -1,4 +1,4 @@
--- The sizes of the queues above which a purge collects garbage.
+-- When a purge collects garbage: above which size of each queue, and for Rewrite above which share of garbage.
 use Rattle.raft_log_file_settings.specs.Settings.{Settings}
 use Rattle.raft_log_purge_policy.specs.declared.thresholds.Thresholds.{Thresholds}
 

@@ -1,5 +1,5 @@
--- The list of items in a log batch: what callers see of it, its approximate size, and its items with the places of
--- their entries after a footer is decoded.
+-- The list of items in a log batch: what callers see of it, and its approximate size. Also the items that decoding a
+-- footer returns, with the places of their entries.
 use Rattle.std.specs.Prelude.{◌≡◌, ℕ, ◌+◌, ◌-◌, ◌*◌, ◌≤◌, List, [], ◌∷◌, ◌++◌, length, take, drop, map, flat_map, sum_by, All, Option, Some, None, Result, Ok, Err, IfOk, MatchResult}
 use Rattle.raft_log_record_base.specs.declared.errors.Error.{Error}
 use Rattle.raft_log_record_base.specs.declared.errors.Error.TheVariants as errors

@@ -1,4 +1,5 @@
--- The functions that read items from the front of a list. They fail at the first fault, in the order of the bytes.
+-- The functions that read items from the front of a list of bytes. They fail at the first fault, in the order of the
+-- bytes.
 use Rattle.std.specs.Prelude.{Result, ℕ, zero, suc, ◌+◌, List, [], ◌∷◌, ◌++◌, length, take, drop, Ok, Err, nat_lt, ◌==◌, if◌then◌else◌, codes}
 use Rattle.std.specs.Fmt.{decimal}
 use Rattle.std.specs.declared.io.ErrorKind.TheVariants.{UnexpectedEof}

@@ -1,5 +1,5 @@
--- The pieces of atomic groups that are cut by the two ends of a segment. A segment may begin in the middle of a group
--- and leave a group open at its end.
+-- The pieces of atomic groups that are cut by the two ends of a segment. A segment (not a segment file) is consecutive
+-- records that one worker reads on their own. It may begin in the middle of a group and leave a group open at its end.
 use Rattle.std.specs.Prelude.{◌≡◌, ℕ, ◌-◌, min, max, slice_get, ◌==◌, Bool, false, List, [], ◌∷◌, ◌++◌, map, length, Option, Some, None, codes}
 use Rattle.std.specs.String.{string_bytes}
 use Rattle.std.specs.Global.{Vec}
@@ -104,7 +104,7 @@ pub record ArePieces (rs : List ReadRecord) (p : GroupPieces) : Type 0 where
   pub heads : (φ : Reading) (n : ℕ) → head_at φ p n ≡ head n [] (seen_by φ rs)
   pub left_open : (φ : Reading) → left_open φ p ≡ unfinished (seen_by φ rs)
 
--- if `old` has the pieces of some records, `new` has those of these records and then `r`
+-- if `old` has the pieces of some records, `new` has the pieces of those records followed by `r`
 abbrev pub TakesRecord : ReadRecord → GroupPieces → GroupPieces → Type 0
 TakesRecord r old new = (rs : List ReadRecord) → ArePieces rs old → ArePieces (rs ++ r ∷ []) new
 

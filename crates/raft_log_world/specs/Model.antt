@@ -1,5 +1,5 @@
 -- The model log: a log as its callers see it. It says which answers an event may have, and what the log is afterwards.
--- A crash of the machine loses at most its last batches that aren't synced yet.
+-- A crash loses at most a suffix of the batches that aren't synced yet.
 use Rattle.std.specs.Prelude.{◌≡◌, ◌⊎◌, ◌≤◌, ℕ, Bool, true, false, List, [], ◌∷◌, ◌++◌, length, take, option_map}
 use Rattle.raft_log_model_laws.specs.Item.{Record, items_of}
 use Rattle.raft_log_model_laws.specs.Item.Item.{Compact as CompactItem}
@@ -71,12 +71,12 @@ Compacts m pending group index next = RunsOn m (pending ++ compacts group index 
 abbrev pub FailsAt : Contents → List BatchRecord → BatchRecord → ModelLog → Type 0
 FailsAt m pending batch next = (next ≡ failed m pending) ⊎ (next ≡ failed m (pending ++ batch ∷ []))
 
--- How an engine that runs answers a call, and what the log is then. Its contents are `m`, and `pending` are the pending
--- batches. `says` gives the record of a batch.
+-- How an engine that runs answers a call, and what the log is afterwards. Before the call its durable contents are `m`,
+-- and `pending` are the pending batches. `says` gives the record of a batch.
 -- - A write that succeeds adds its batch, and a compaction its record. A sync, and a purge, make all batches durable.
--- - A read returns what the contents have after all batches. A read of the first or last index doesn't fail.
--- - If a call fails and the engine runs on, the call leaves no trace of its batch, and loses no other.
--- - If the engine fails in a write, its batch may be written or not.
+-- - A read returns what the contents have once all batches are applied. A read of the first or last index doesn't fail.
+-- - If a call fails and the engine runs on, the call leaves no trace of its batch, and loses no other batch.
+-- - If the engine fails in a write or a compaction, the batch or the record of the compaction may be written or not.
 abbrev pub Serves : {B : Type 0} → (B → BatchRecord) → Contents → List BatchRecord → Call B → Answer → ModelLog → Type 0
 Serves says m pending (Write batch sync) Done next = Adds sync m pending (says batch) next
 Serves says m pending (Write batch sync) Refused next = RunsOn m pending next

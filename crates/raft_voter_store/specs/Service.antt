@@ -1,6 +1,6 @@
--- A store as a service of rounds, with its log in known directories or in any. A voter's outline is the voter without
--- the data of its entries. Voters are possible after a cut-off round if they took its requests before some position,
--- without the refused ones.
+-- A store as a service of rounds. `service_in` says in which directories its log is, `voter_service` only that there
+-- are some. A voter's outline is the voter without the data of its entries. Voters are possible after a cut-off round
+-- if they took its requests before some position, without the refused ones.
 use Rattle.std.specs.Prelude.{◌≡◌, ℕ, true, List}
 use Rattle.raft_log_fs.specs.Causes.{Fails}
 use Rattle.raft_log_engine.specs.raft_log_engine_laws.specs.EngineState.{LogDirectories, EngineState, has_failed}

@@ -41,7 +41,8 @@ pub record Moves {S F : Type 0} (v : Service S) (u : Upkeep S) (d : Disk S F) (e
   pub noted : Grows event old.notes ms new.notes
   pub ready : IsReady v old → IsReady v new
 
--- if the disk of world `old` has stopped, a crash followed; the world's `left` says what that left
+-- If the disk of world `old` has stopped, a crash happened and left of the unsynced changes what `old.left` says.
+-- Otherwise nothing happened. The world is `new` afterwards, with the same `left`.
 pub record Falling {S F : Type 0} (v : Service S) (u : Upkeep S) (d : Disk S F) (event : ℕ) (old : World S F)
     (new : World S F) : Type 0 where
   pub moments : List (Moment S F)

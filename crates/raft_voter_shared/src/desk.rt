@@ -63,7 +63,8 @@ impl<R, S: RoundService<R>, L: Opening> Desk<R, S, L> {
     ghost use Rattle.std.specs.List.{All};
     ghost use Rattle.raft_voter_rounds.specs.Noting.{GivesNoReplies, NotesAnswered};
     ghost use Rattle.raft_voter_rounds.specs.Proving.{IsAt};
-    ghost use Rattle.raft_voter_shared.specs.Settling.{IsSettled, SettlesUnless, TakesKept};
+    ghost use Rattle.raft_voter_rounds.specs.Taking.{TakesKept};
+    ghost use Rattle.raft_voter_shared.specs.Settling.{IsSettled, SettlesUnless};
 
     /// Returns a desk with an empty journal, which keeps its records in memory or not.
     pub fn new(

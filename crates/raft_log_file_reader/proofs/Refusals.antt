@@ -12,7 +12,7 @@ cannot_read_earlier source d early late (errors.Io kind) le h =
     record { at = h.at; count = h.count; behind = omega (arith, h.behind); inside = h.inside; unread = h.unread }
 cannot_read_earlier source d early late _ le h = h
 
--- the same of what a read answered, if its receipt is honest
+-- the same of what a read returned, if its receipt is honest
 pub refused_earlier : {X : Type 0} (honest : Bool) (source : Source) (d : Disk) (early late : ℕ) (r : Result X Error) → early ≤ late
     → IfErr r (λ error. IsTrue honest → CannotRead source late d error) → IfErr r (λ error. IsTrue honest → CannotRead source early d error)
 refused_earlier honest source d early late (Ok x) le h = h

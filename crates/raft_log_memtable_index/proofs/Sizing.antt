@@ -10,7 +10,7 @@ if_le a b x y h = ap (λ t. if t then x else y) (let yes : nat_le a b ≡ true =
 if_more : {A : Type 0} (a b : ℕ) (x y : A) → b < a → (if nat_le a b then x else y) ≡ y
 if_more a b x y h = ap (λ t. if t then x else y) (let no : nat_le a b ≡ false = grind (arith, nat_tests) in no)
 
--- a list from a place on, by what stands there
+-- a list from a position on, by its element there
 drop_at : {A : Type 0} (n : ℕ) (xs : List A) (d : A) → n < length xs → drop n xs ≡ slice_index_or xs n d ∷ drop (n + 1) xs
 drop_at zero [] d h = absurd (omega arith)
 drop_at (suc n) [] d h = absurd (omega arith)

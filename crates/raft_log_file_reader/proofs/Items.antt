@@ -1,15 +1,17 @@
 -- What a call of a reader of items makes of what still comes.
 use Rattle.std.specs.Vec.Iter.{into_iter_items}
-use Rattle.std.proofs.Common.{◌≡◌, ◌+◌, ◌<◌, ◌≤◌, List, [], ◌∷◌, ◌++◌, length, Ok, Err, refl, sym, ap, subst, ◌∙◌, arith}
+use Rattle.std.proofs.Common.{◌≡◌, ◌+◌, ◌<◌, ◌≤◌, List, [], ◌∷◌, ◌++◌, length, None, Ok, Err, refl, sym, ap, subst, ◌∙◌, arith}
 use Rattle.raft_log_record_base.specs.declared.errors.Error.{Error}
 use Rattle.raft_log_record_items.specs.declared.item.LogItem.{LogItem}
 use Rattle.raft_log_fs.specs.Disk.{Disk}
-use Rattle.raft_log_file_reader.specs.Answers.{Answer, given}
-use Rattle.raft_log_file_reader.specs.ItemBatches.{GivesRest, AnswersGoOn, most_left}
+use Rattle.raft_log_file_reader.specs.Answers.{Answer, given, GivesFiles}
+use Rattle.raft_log_file_reader.specs.ItemBatches.{GivesRest, AnswersGoOn, files_of, most_left}
 use Rattle.raft_log_file_reader.specs.ItemReader.{IsFileAtWork, StillGives, disk_of, most_to_come}
 use Rattle.raft_log_file_reader.specs.ItemLaws.{CallsGiveAll}
+use Rattle.raft_log_file_reader.specs.Reader.{file_of}
+use Rattle.raft_log_file_reader.specs.declared.log_file.LogFile.{LogFile}
 use Rattle.raft_log_file_reader.specs.declared.item_reader.LogItemReader.{LogItemReader}
-use Rattle.raft_log_file_reader.proofs.Steps.{goes_further}
+use Rattle.raft_log_file_reader.proofs.Steps.{closed_gives, goes_further}
 
 -- nothing came yet on the way from the one to the other
 pub record HasReadTo {F : Type 0} (disk : F → Disk) (old new : LogItemReader F) : Type 0 where
@@ -88,6 +90,16 @@ refused disk error old from new come none still same step fewer =
       goes_further (StillGives disk) old from new (Err error ∷ []) come.goes_on goes_on,
       omega (arith, come.fewer, fewer, left, ap length none, ap length still),
     )
+
+-- of a reader that has no file open and no item left comes what its files give
+pub gives_files : {F : Type 0} (disk : F → Disk) (reader : LogItemReader F) (files : List LogFile) (answers : List Answer) → into_iter_items reader.items ≡ [] → file_of reader.batches.reader ≡ None
+    → files_of reader.batches ≡ files → StillGives disk reader answers → GivesFiles (disk_of disk reader) files answers
+gives_files disk reader files answers none closed are still =
+    let d = disk_of disk reader in
+    let rest = still.of_rest in
+    let nothing = closed_gives d reader.batches.reader rest.current closed rest.of_current in
+    let all : answers ≡ rest.later = still.all ∙ ap (λ (items : List LogItem). given items ++ still.rest) none ∙ rest.both ∙ ap (λ (l : List Answer). l ++ rest.later) nothing in
+    subst (GivesFiles d files) (sym all) (subst (λ (fs : List LogFile). GivesFiles d fs rest.later) are rest.of_later)
 
 -- whoever calls until nothing comes gets all
 pub calls_give_all_is : {F : Type 0} (disk : F → Disk) → CallsGiveAll disk

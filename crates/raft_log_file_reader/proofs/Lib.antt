@@ -5,7 +5,6 @@ pub mod Paths
 pub mod Found
 pub mod Items
 pub mod Telling
-pub mod Told
 pub mod Parts
 pub mod Refusals
 pub mod Headers

@@ -1,5 +1,5 @@
 -- What comes of the next file, opened or refused.
-use Rattle.std.proofs.Common.{◌≡◌, ℕ, List, ◌∷◌, length, Some, refl, sym, ap, subst, arith}
+use Rattle.std.proofs.Common.{◌≡◌, ℕ, IsTrue, List, ◌∷◌, length, Some, refl, sym, ap, subst, arith}
 use Rattle.std.specs.String.{string_bytes}
 use Rattle.raft_log_record_base.specs.declared.errors.Error.{Error}
 use Rattle.raft_log_fs.specs.Disk.{Disk}
@@ -9,7 +9,7 @@ use Rattle.raft_log_fs.specs.declared.handle.Permission.TheVariants.{ReadOnly}
 use Rattle.raft_log_file_format.specs.declared.header.LogFileFormat.{LogFileFormat}
 use Rattle.raft_log_file_reader.specs.Source.{bytes_of, bytes_in}
 use Rattle.raft_log_file_reader.specs.Opening.{FailsToOpen}
-use Rattle.raft_log_file_reader.specs.Reader.{HasNoneOpen, Opens, end_of}
+use Rattle.raft_log_file_reader.specs.Reader.{HasNoneOpen, Opens, end_of, honest_of}
 use Rattle.raft_log_file_reader.specs.declared.open_file.OpenFile.{OpenFile}
 use Rattle.raft_log_file_reader.specs.declared.reader.LogItemBatchFileReader.{LogItemBatchFileReader}
 use Rattle.raft_log_file_reader.specs.Answers.{IsLogFileOpen, IsReadOpenRefusal}
@@ -24,26 +24,26 @@ abbrev opened_file : (file : LogFile) (handle : Handle) (d : Disk) (format : Log
 opened_file file handle d format reader opens = record { id = file.id; source = opens.source; format = format }
 
 is_open : (file : LogFile) (handle : Handle) (d : Disk) (format : LogFileFormat) (reader : LogItemBatchFileReader) (found : IsOpened (string_bytes file.path) ReadOnly handle d)
-    (opens : Opens file.id handle d format reader) → IsLogFileOpen d file (opened_file file handle d format reader opens) (end_of reader)
-is_open file handle d format reader found opens = record {
+    (opens : Opens file.id handle d format reader) → IsTrue (honest_of reader) → IsLogFileOpen d file (opened_file file handle d format reader opens) (end_of reader)
+is_open file handle d format reader found opens honest = record {
   is = refl;
   found = subst (λ (h : Handle). IsOpened (string_bytes file.path) ReadOnly h d) (sym opens.reads_by) found;
   size = opens.size;
-  header = opens.header;
+  header = opens.header honest;
 }
 
 named_is : (d : Disk) (path : List ℕ) (id : ℕ) → d.names path ≡ Some id → named_len d (d.names path) ≡ length (bytes_in (d.files id))
 named_is d path id is = rw is refl
 
 pub opens_next : (d : Disk) (old new : BatchReader) (file : LogFile) (handle : Handle) (format : LogFileFormat) → files_of old ≡ file ∷ files_of new
-    → IsOpened (string_bytes file.path) ReadOnly handle d → Opens file.id handle d format new.reader → OpensNext d old new
-opens_next d old new file handle format next found opens =
+    → IsOpened (string_bytes file.path) ReadOnly handle d → Opens file.id handle d format new.reader → IsTrue (honest_of new.reader) → OpensNext d old new
+opens_next d old new file handle format next found opens honest =
     let current = opened_file file handle d format new.reader opens in
     let same : length (bytes_of opens.source d) ≡ length (bytes_in (d.files handle.file)) = ap (λ (h : Handle). length (bytes_in (d.files h.file))) opens.reads_by in
     record {
       file = file;
       next = next;
-      gives = λ answers gives. opened current (end_of new.reader) (is_open file handle d format new.reader found opens) (some_gives d new.reader current answers opens.opened gives);
+      gives = λ answers gives. opened current (end_of new.reader) (is_open file handle d format new.reader found opens honest) (some_gives d new.reader current answers opens.opened gives);
       fewer = omega (arith, most_some new.reader current opens.opened, opens.size, same, named_is d (string_bytes file.path) handle.file found.is);
     }
 

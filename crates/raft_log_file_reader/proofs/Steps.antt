@@ -4,7 +4,7 @@ use Rattle.std.specs.Prelude.{sum_by}
 use Rattle.std.proofs.lemmas.List.Sums.{sum_by-cons}
 use Rattle.raft_log_record_base.specs.declared.errors.Error.{Error}
 use Rattle.raft_log_fs.specs.Disk.{Disk}
-use Rattle.raft_log_file_reader.specs.Reader.{IsReading, file_of}
+use Rattle.raft_log_file_reader.specs.Reader.{ReadsHonestly, file_of}
 use Rattle.raft_log_file_reader.specs.declared.reader.LogItemBatchFileReader.{LogItemBatchFileReader}
 use Rattle.raft_log_file_reader.specs.Answers.{Answer, GivesFiles}
 use Rattle.raft_log_file_reader.specs.ItemBatches.{GivesOpen, GivesRest, AnswersGoOn, files_of, most_of, most_left}
@@ -17,7 +17,7 @@ pub goes_further : {S : Type 0} (gives : S → List Answer → Type 0) (a b c : 
 goes_further gives a b c first before step rest more = before (first ++ rest) (step rest more)
 
 -- of a reader without a file nothing comes
-closed_gives : (d : Disk) (reader : LogItemBatchFileReader) (answers : List Answer) → file_of reader ≡ None → GivesOpen d reader answers → answers ≡ []
+pub closed_gives : (d : Disk) (reader : LogItemBatchFileReader) (answers : List Answer) → file_of reader ≡ None → GivesOpen d reader answers → answers ≡ []
 closed_gives d reader answers closed gives = rw closed at gives
 
 gives_closed : (d : Disk) (reader : LogItemBatchFileReader) → file_of reader ≡ None → GivesOpen d reader []
@@ -87,12 +87,12 @@ fewer_failed d error old new next = omega (arith, closed_most new.reader next.cl
 
 -- nothing came yet on the way from the one to the other
 pub record HasComeTo (d : Disk) (old new : BatchReader) : Type 0 where
-  pub reading : IsReading d new.reader
+  pub reading : ReadsHonestly d new.reader
   pub goes_on : AnswersGoOn (GivesRest d) old [] new
   pub fewer : most_left d new ≤ most_left d old
 
 -- the next file was opened behind one that ended
-pub came_to_next : (d : Disk) (old from ended new : BatchReader) → HasComeTo d old from → files_of ended ≡ files_of from → EndsOpen d from.reader ended.reader → OpensNext d ended new → IsReading d new.reader
+pub came_to_next : (d : Disk) (old from ended new : BatchReader) → HasComeTo d old from → files_of ended ≡ files_of from → EndsOpen d from.reader ended.reader → OpensNext d ended new → ReadsHonestly d new.reader
     → HasComeTo d old new
 came_to_next d old from ended new come same ends next reading = record {
   reading = reading;

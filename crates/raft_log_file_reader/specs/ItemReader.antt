@@ -2,7 +2,7 @@
 use Rattle.std.specs.Prelude.{◌≡◌, ℕ, ◌+◌, List, [], ◌∷◌, ◌++◌, length, Option, MatchOption}
 use Rattle.std.specs.Vec.Iter.{into_iter_items}
 use Rattle.raft_log_fs.specs.Disk.{Disk}
-use Rattle.raft_log_file_reader.specs.Reader.{IsReading}
+use Rattle.raft_log_file_reader.specs.Reader.{ReadsHonestly}
 use Rattle.raft_log_file_reader.specs.Answers.{Answer, given, GivesFiles}
 use Rattle.raft_log_file_reader.specs.Files.{IsFileAt, AreFilesOf}
 use Rattle.raft_log_file_reader.specs.ItemBatches.{GivesRest, AnswersGoOn, most_left}
@@ -13,9 +13,10 @@ use Rattle.raft_log_file_reader.specs.declared.item_reader.LogItemReader.{LogIte
 abbrev pub disk_of : {F : Type 0} → (F → Disk) → LogItemReader F → Disk
 disk_of disk reader = disk reader.file_system.now
 
--- if the reader has a file open, the file's size and the bytes in the reader's window are as on the disk
+-- if the reader has a file open, the file's size and the bytes in the reader's window are as on the disk; all reads of
+-- that file were honest
 abbrev pub IsFileAtWork : {F : Type 0} → (F → Disk) → LogItemReader F → Type 0
-IsFileAtWork disk reader = IsReading (disk_of disk reader) reader.batches.reader
+IsFileAtWork disk reader = ReadsHonestly (disk_of disk reader) reader.batches.reader
 
 -- `answers` is what the reader will still return: the remaining items of its last batch, and what is read after that
 -- batch

@@ -31,16 +31,19 @@ last_block reader = reader.last_block
 abbrev pub honest_of : LogItemBatchFileReader → Bool
 honest_of reader = reader.window.receipt.honest
 
--- the reader's window has the bytes that this file has on the disk, its size is the file's, and its offset is within
--- the file; all reads of the file were honest
+-- the reader's window fits this file on the disk, its size is the file's, and its offset is within the file
 pub record IsReadingFile (d : Disk) (reader : LogItemBatchFileReader) (file : OpenFile) : Type 0 where
   pub holds : HoldsPart file.source d reader.window
-  pub honest : IsTrue (honest_of reader)
   pub within : reader.valid_offset ≤ file.source.size
 
 -- if the reader has a file open, the reader's size, window and offset fit that file on the disk
 abbrev pub IsReading : Disk → LogItemBatchFileReader → Type 0
 IsReading d reader = ForSome reader.file (IsReadingFile d reader)
+
+-- the same, and all reads of the open file were honest
+pub record ReadsHonestly (d : Disk) (reader : LogItemBatchFileReader) : Type 0 where
+  pub reading : IsReading d reader
+  pub honest : IsTrue (honest_of reader)
 
 -- the location is within the file that the reader has open
 abbrev pub IsInsideFile : FileBlockHandle → LogItemBatchFileReader → Type 0
@@ -51,15 +54,15 @@ pub record HasNoneOpen (reader : LogItemBatchFileReader) : Type 0 where
   pub file : file_of reader ≡ None
   pub end : end_of reader ≡ 0
 
--- The reader has the file with this id and handle open. The file begins with a header of this format, and the reader's
--- offset is at the end of the header.
+-- The reader has the file with this id and handle open. If all reads were honest, the file begins with a header of this
+-- format, and the reader's offset is at the end of the header.
 pub record Opens (id : FileId) (handle : Handle) (d : Disk) (format : LogFileFormat)
     (reader : LogItemBatchFileReader) : Type 0 where
   pub source : Source
   pub reads_by : source.handle ≡ handle
   pub size : source.size ≡ length (bytes_of source d)
   pub opened : file_of reader ≡ Some (record { id = id; source = source; format = format })
-  pub header : SaysFormat (bytes_of source d) format (end_of reader)
+  pub header : IsTrue (honest_of reader) → SaysFormat (bytes_of source d) format (end_of reader)
 
 -- `new` has the same file open as `old`, the same offset, and the same last entry block
 pub record IsUnmoved (old new : LogItemBatchFileReader) : Type 0 where

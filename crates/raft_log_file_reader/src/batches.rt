@@ -27,7 +27,7 @@ pub(crate) struct BatchReader {
 impl BatchReader {
     ghost use Rattle.std.specs.Prelude.{◌+◌, ◌<◌, length, MatchOption, MatchBool, IfSome, OnErr};
     ghost use Rattle.raft_log_fs.specs.Disk.{Disk};
-    ghost use Rattle.raft_log_file_reader.specs.Reader.{IsReading, HasNoneOpen};
+    ghost use Rattle.raft_log_file_reader.specs.Reader.{ReadsHonestly, HasNoneOpen};
     ghost use Rattle.raft_log_file_reader.specs.Answers.{given};
     ghost use Rattle.raft_log_file_reader.specs.ItemBatches.{GivesRest, AnswersGoOn, files_of, most_left};
     ghost use Rattle.raft_log_file_reader.specs.Steps.{ReadsOn, EndsOpen, FailsOpen, OpensNext, HasNoFileLeft, FailsNext};
@@ -36,7 +36,7 @@ impl BatchReader {
     pub fn new(alloc: Global, files: Vec<LogFile>, read_block_size: usize) -> Self
         ensures files { files_of result ≡ files.items }
         ensures closed { HasNoneOpen result.reader }
-        ensures reading { (d : Disk) → IsReading d result.reader }
+        ensures reading { (d : Disk) → ReadsHonestly d result.reader }
     {
         BatchReader {
             files: files.into_iter(),
@@ -51,8 +51,8 @@ impl BatchReader {
         alloc: Global,
         file_system: &F,
     ) -> Result<Option<LogItemBatch>>
-        requires { IsReading (F.disk file_system.now) self.old.reader }
-        ensures reading { IsReading (F.disk file_system.now) self.new.reader }
+        requires { ReadsHonestly (F.disk file_system.now) self.old.reader }
+        ensures reading { ReadsHonestly (F.disk file_system.now) self.new.reader }
         ensures ok { IfOk result (λ found. MatchOption found
             (GivesRest (F.disk file_system.now) self.old [] × GivesRest (F.disk file_system.now) self.new [])
             (λ batch. AnswersGoOn (GivesRest (F.disk file_system.now)) self.old (given batch.items) self.new)) }
@@ -80,9 +80,9 @@ impl BatchReader {
         alloc: Global,
         file_system: &F,
     ) -> Result<Option<LogItemBatch>>
-        requires { IsReading (F.disk file_system.now) self.old.reader }
+        requires { ReadsHonestly (F.disk file_system.now) self.old.reader }
         ensures files { self.new.files ≡ self.old.files }
-        ensures reading { IsReading (F.disk file_system.now) self.new.reader }
+        ensures reading { ReadsHonestly (F.disk file_system.now) self.new.reader }
         ensures ok { IfOk result (λ found. MatchOption found
             (EndsOpen (F.disk file_system.now) self.old.reader self.new.reader)
             (λ batch. ReadsOn (F.disk file_system.now) batch.items self.old.reader self.new.reader)) }
@@ -104,8 +104,9 @@ impl BatchReader {
 
     /// Opens the next file, and returns whether there was one. A file that fails is skipped.
     fn open_next<F: FileSystem>(&mut self, alloc: Global, file_system: &F) -> Result<bool>
-        requires { HasNoneOpen self.old.reader }
-        ensures reading { IsReading (F.disk file_system.now) self.new.reader }
+        requires reading { ReadsHonestly (F.disk file_system.now) self.old.reader }
+        requires closed { HasNoneOpen self.old.reader }
+        ensures reading { ReadsHonestly (F.disk file_system.now) self.new.reader }
         ensures ok { IfOk result (λ there. MatchBool there
             (OpensNext (F.disk file_system.now) self.old self.new) (HasNoFileLeft self.old self.new)) }
         ensures err { IfErr result (λ error. FailsNext (F.disk file_system.now) error self.old self.new) }

@@ -1,5 +1,6 @@
 //! A reader of the batches of a log file.
 ghost use Rattle.std.specs.Prelude.{◌≡◌, ◌≤◌, length, None, Some, Ok, ◌<◌, IsOk, IsTrue, OnOk, OnSome, IfOk, IfErr, OnErr};
+ghost use Rattle.raft_log_fs.specs.Receipts.{Collects};
 ghost use Rattle.raft_log_record_frames.specs.Record.{block_of};
 ghost use Rattle.raft_log_record_base.specs.Files.{no_block};
 
@@ -54,6 +55,7 @@ impl LogItemBatchFileReader {
         ensures closed { HasNoneOpen result }
         ensures reading { (d : Disk) → IsReading d result }
         ensures none { last_block result ≡ no_block }
+        ensures honest { IsTrue (honest_of result) }
     {
         LogItemBatchFileReader {
             window: Window::new(alloc, read_block_size),
@@ -86,9 +88,11 @@ impl LogItemBatchFileReader {
     ) -> Result<LogFileFormat>
         ensures ok { IfOk result (λ format. Opens id handle (F.disk file_system.now) format self.new) }
         ensures reading { IsReading (F.disk file_system.now) self.new }
-        ensures err { IfErr result (FailsToOpen handle (F.disk file_system.now)) }
+        ensures err { IfErr result (λ error. IsTrue (honest_of self.new)
+            → FailsToOpen handle (F.disk file_system.now) error) }
         ensures closed { OnErr result (HasNoneOpen self.new) }
         ensures last { last_block self.new ≡ last_block self.old }
+        ensures receipts { F.tells_truth → IsTrue (honest_of self.new) }
     {
         self.reset();
         let size = file_system.file_size(handle)?;
@@ -117,16 +121,19 @@ impl LogItemBatchFileReader {
         ensures reading { IsReading (F.disk file_system.now) self.new }
         ensures file { file_of self.new ≡ file_of self.old }
         ensures ok { (file : OpenFile) → file_of self.old ≡ Some file
-            → IfOk result (AnswersBatch (F.disk file_system.now) file self.old self.new) }
+            → IfOk result (λ found. IsTrue (honest_of self.new)
+            → AnswersBatch (F.disk file_system.now) file self.old self.new found) }
         ensures err { (file : OpenFile) → file_of self.old ≡ Some file
-            → IfErr result (FailsBehind file (F.disk file_system.now) (end_of self.old)) }
+            → IfErr result (λ error. IsTrue (honest_of self.new)
+            → FailsBehind file (F.disk file_system.now) (end_of self.old) error) }
         ensures stays { OnErr result (IsUnmoved self.old self.new) }
         ensures further { IfOk result (λ found. OnSome found (end_of self.old < end_of self.new)) }
         ensures closed { file_of self.old ≡ None → (result ≡ Ok None) × (self.new ≡ self.old) }
         ensures block { (file : OpenFile) → file_of self.old ≡ Some file
-            → IfOk result (λ found. OnSome found (HasBlock file (bytes_of file.source (F.disk file_system.now))
-            (end_of self.old) (last_block self.new))) }
+            → IfOk result (λ found. OnSome found (IsTrue (honest_of self.new)
+            → HasBlock file (bytes_of file.source (F.disk file_system.now)) (end_of self.old) (last_block self.new))) }
         ensures inside { IfOk result (λ found. OnSome found (IsInsideFile (last_block self.new) self.new)) }
+        ensures receipts { Collects F.tells_truth (honest_of self.old) (honest_of self.new) }
     {
         let Some(file) = self.file else {
             return Ok(None);
@@ -163,9 +170,12 @@ impl LogItemBatchFileReader {
         ensures same { IsUnmoved self.old self.new }
         ensures closed { file_of self.old ≡ None → IsOk result × (self.new ≡ self.old) }
         ensures ok { (file : OpenFile) → file_of self.old ≡ Some file
-            → OnOk result (IsOk (block_of (bytes_at block file (F.disk file_system.now)))) }
+            → OnOk result (IsTrue (honest_of self.new)
+            → IsOk (block_of (bytes_at block file (F.disk file_system.now)))) }
         ensures err { (file : OpenFile) → file_of self.old ≡ Some file
-            → IfErr result (FailsToCheckBlock block file (F.disk file_system.now)) }
+            → IfErr result (λ error. IsTrue (honest_of self.new)
+            → FailsToCheckBlock block file (F.disk file_system.now) error) }
+        ensures receipts { Collects F.tells_truth (honest_of self.old) (honest_of self.new) }
     {
         let Some(file) = self.file else {
             return Ok(());
@@ -192,9 +202,12 @@ impl LogItemBatchFileReader {
         ensures same { IsUnmoved self.old self.new }
         ensures closed { file_of self.old ≡ None → (result ≡ Ok None) × (self.new ≡ self.old) }
         ensures ok { (file : OpenFile) → file_of self.old ≡ Some file
-            → IfOk result (FindsForeign file (bytes_of file.source (F.disk file_system.now)) offset) }
+            → IfOk result (λ found. IsTrue (honest_of self.new)
+            → FindsForeign file (bytes_of file.source (F.disk file_system.now)) offset found) }
         ensures err { (file : OpenFile) → file_of self.old ≡ Some file
-            → IfErr result (CannotRead file.source offset (F.disk file_system.now)) }
+            → IfErr result (λ error. IsTrue (honest_of self.new)
+            → CannotRead file.source offset (F.disk file_system.now) error) }
+        ensures receipts { Collects F.tells_truth (honest_of self.old) (honest_of self.new) }
     {
         let Some(file) = self.file else {
             return Ok(None);

@@ -1,5 +1,5 @@
 -- A reader at work, batch by batch.
-use Rattle.std.proofs.Common.{◌≡◌, ◌+◌, ◌<◌, ◌≤◌, ℕ, List, [], ◌∷◌, ◌++◌, refl, sym, ap, subst, ◌∙◌, arith}
+use Rattle.std.proofs.Common.{◌≡◌, ◌+◌, ◌<◌, ◌≤◌, ℕ, IsTrue, List, [], ◌∷◌, ◌++◌, refl, sym, ap, subst, ◌∙◌, arith}
 use Rattle.raft_log_record_base.specs.declared.pipe_log.FileBlockHandle.{FileBlockHandle}
 use Rattle.raft_log_record_base.specs.declared.pipe_log.FileId.{FileId}
 use Rattle.raft_log_record_items.specs.declared.item.LogItem.{LogItem}
@@ -8,7 +8,7 @@ use Rattle.raft_log_fs.specs.declared.handle.Handle.{Handle}
 use Rattle.raft_log_file_reader.specs.Source.{bytes_of}
 use Rattle.raft_log_file_reader.specs.Batches.{HasBatch}
 use Rattle.raft_log_file_reader.specs.Laws.{EndsBehind}
-use Rattle.raft_log_file_reader.specs.Reader.{IsReading, IsInsideFile, file_of, end_of, size_in, left_of}
+use Rattle.raft_log_file_reader.specs.Reader.{IsReading, IsInsideFile, file_of, end_of, size_in, left_of, honest_of}
 use Rattle.raft_log_file_reader.specs.declared.open_file.OpenFile.{OpenFile}
 use Rattle.raft_log_file_reader.specs.declared.reader.LogItemBatchFileReader.{LogItemBatchFileReader}
 use Rattle.raft_log_file_reader.proofs.Readings.{batches_go_on_is}
@@ -16,9 +16,10 @@ use Rattle.raft_log_file_uses.specs.GoodEnd.{HasReadSoFar, HasReadTo, EndsItsBat
 
 -- one more batch
 pub went_on : (id : FileId) (handle : Handle) (d : Disk) (old new : LogItemBatchFileReader) (items : List LogItem) (work : HasReadSoFar id handle d old)
-    → file_of new ≡ file_of old → IsReading d new → HasBatch work.file (bytes_of work.file.source d) (end_of old) items (end_of new) → HasReadSoFar id handle d new
-went_on id handle d old new items work same reading batch = record {
+    → file_of new ≡ file_of old → IsReading d new → IsTrue (honest_of new) → HasBatch work.file (bytes_of work.file.source d) (end_of old) items (end_of new) → HasReadSoFar id handle d new
+went_on id handle d old new items work same reading honest batch = record {
   reading = reading;
+  honest = honest;
   file = work.file;
   opened = same ∙ work.opened;
   read = record {
@@ -48,6 +49,7 @@ ended id handle d old n work is ends = subst (EndsItsBatches id handle d) (sym i
 -- a reader that stands where another one stood, by the same file
 pub record StandsAs (d : Disk) (old new : LogItemBatchFileReader) : Type 0 where
   pub reading : IsReading d new
+  pub honest : IsTrue (honest_of new)
   pub file : file_of new ≡ file_of old
   pub end : end_of new ≡ end_of old
 
@@ -55,6 +57,7 @@ pub record StandsAs (d : Disk) (old new : LogItemBatchFileReader) : Type 0 where
 pub as_much : (id : FileId) (handle : Handle) (d : Disk) (old new : LogItemBatchFileReader) → HasReadSoFar id handle d old → StandsAs d old new → HasReadSoFar id handle d new
 as_much id handle d old new work same = record {
   reading = same.reading;
+  honest = same.honest;
   file = work.file;
   opened = same.file ∙ work.opened;
   read = subst (HasReadTo id handle d work.file) (sym same.end) work.read;

@@ -1,5 +1,5 @@
 -- Where the good records of a log file end.
-use Rattle.std.specs.Prelude.{◌≡◌, ℕ, ◌-◌, List, Option, None, Some}
+use Rattle.std.specs.Prelude.{◌≡◌, ℕ, ◌-◌, IsTrue, List, Option, None, Some}
 use Rattle.raft_log_record_base.specs.declared.pipe_log.FileId.{FileId}
 use Rattle.raft_log_record_items.specs.declared.item.LogItem.{LogItem}
 use Rattle.raft_log_fs.specs.Disk.{Disk}
@@ -8,7 +8,7 @@ use Rattle.raft_log_file_reader.specs.Source.{bytes_of}
 use Rattle.raft_log_file_reader.specs.Opening.{SaysFormat}
 use Rattle.raft_log_file_reader.specs.Batches.{HasBatches}
 use Rattle.raft_log_file_reader.specs.Laws.{EndsBehind}
-use Rattle.raft_log_file_reader.specs.Reader.{IsReading, file_of, end_of, size_in}
+use Rattle.raft_log_file_reader.specs.Reader.{IsReading, file_of, end_of, size_in, honest_of}
 use Rattle.raft_log_file_reader.specs.declared.open_file.OpenFile.{OpenFile}
 use Rattle.raft_log_file_reader.specs.declared.reader.LogItemBatchFileReader.{LogItemBatchFileReader}
 
@@ -28,10 +28,12 @@ pub record EndsItsBatches (id : FileId) (handle : Handle) (d : Disk) (end : ℕ)
   pub read : HasReadTo id handle d file end
   pub ends : EndsBehind file (bytes_of file.source d) end
 
--- the reader has this file open, and has read its batches from the end of the header up to the reader's offset
+-- the reader has this file open, and has read its batches from the end of the header up to the reader's offset; all its
+-- reads were honest
 pub record HasReadSoFar (id : FileId) (handle : Handle) (d : Disk)
     (reader : LogItemBatchFileReader) : Type 0 where
   pub reading : IsReading d reader
+  pub honest : IsTrue (honest_of reader)
   pub file : OpenFile
   pub opened : file_of reader ≡ Some file
   pub read : HasReadTo id handle d file (end_of reader)

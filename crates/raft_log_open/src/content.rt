@@ -1,7 +1,7 @@
 //! The bytes of a log file without the padding between its records.
 
 ghost use Rattle.std.specs.Prelude.{◌≡◌, ◌↔◌, Some, IsTrue, OnOk, IfOk, IfErr, MatchBool, MatchOption};
-ghost use Rattle.raft_log_file_reader.specs.Reader.{IsReading, file_of, end_of};
+ghost use Rattle.raft_log_file_reader.specs.Reader.{ReadsHonestly, file_of, end_of};
 ghost use Rattle.raft_log_file_reader.specs.Source.{bytes_in, bytes_of, CannotRead};
 ghost use Rattle.raft_log_file_reader.specs.declared.open_file.OpenFile.{OpenFile};
 ghost use Rattle.raft_log_recovery_read.specs.Behind.{HasFileOpen};
@@ -105,7 +105,7 @@ fn join_records<F: FileSystem>(
     bytes: &[u8],
     new: &mut Vec<u8>,
 ) -> Result<()>
-    requires reading { IsReading (F.disk file_system.now) reader.old }
+    requires reading { ReadsHonestly (F.disk file_system.now) reader.old }
     requires open { HasOpen (F.disk file_system.now) reader.old bytes.now }
     ensures ok { (file : OpenFile) → file_of reader.old ≡ Some file
         → IfOk result (λ done. Joins file bytes.now (end_of reader.old) new.old.items new.new.items) }
@@ -134,9 +134,9 @@ fn read_next<F: FileSystem>(
     file_system: &F,
     reader: &mut LogItemBatchFileReader,
 ) -> Result<Next>
-    requires reading { IsReading (F.disk file_system.now) reader.old }
+    requires reading { ReadsHonestly (F.disk file_system.now) reader.old }
     requires open { HasFileOpen reader.old }
-    ensures reading { IsReading (F.disk file_system.now) reader.new }
+    ensures reading { ReadsHonestly (F.disk file_system.now) reader.new }
     ensures file { file_of reader.new ≡ file_of reader.old }
     ensures ok { (file : OpenFile) → file_of reader.old ≡ Some file
         → IfOk result (FindsNext file (bytes_of file.source (F.disk file_system.now)) reader.old reader.new) }

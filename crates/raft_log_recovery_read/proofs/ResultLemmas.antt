@@ -1,5 +1,5 @@
 -- What is known of an answer, in other words.
-use Rattle.std.proofs.Common.{Result, Ok, Err, IfOk, IfErr, OnOk}
+use Rattle.std.proofs.Common.{Result, Ok, Err, IfOk, IfErr}
 
 pub ok_then : {T E : Type 0} (r : Result T E) (P Q : T → Type 0) → IfOk r P → ((x : T) → P x → Q x) → IfOk r Q
 ok_then (Ok x) P Q h f = f x h
@@ -9,6 +9,7 @@ pub err_then : {T E : Type 0} (r : Result T E) (P Q : E → Type 0) → IfErr r 
 err_then (Ok x) P Q h f = tt
 err_then (Err e) P Q h f = f e h
 
-pub on_ok_then : {T E : Type 0} (r : Result T E) (P Q : Type 0) → OnOk r P → (P → Q) → OnOk r Q
-on_ok_then (Ok x) P Q h f = f h
-on_ok_then (Err e) P Q h f = tt
+-- what is known of a value under a premise, if the same premise is needed to know it
+pub ok_under : {T E premise : Type 0} (r : Result T E) (P : T → Type 0) → (premise → IfOk r (λ x. premise → P x)) → IfOk r (λ x. premise → P x)
+ok_under (Ok x) P h = λ is. h is is
+ok_under (Err e) P h = tt

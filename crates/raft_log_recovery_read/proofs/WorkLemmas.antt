@@ -4,13 +4,14 @@ use Rattle.raft_log_record_base.specs.Fault.{Fault}
 use Rattle.raft_log_record_items.specs.declared.item.LogItem.{LogItem}
 use Rattle.raft_log_fs.specs.Disk.{Disk}
 use Rattle.raft_log_file_reader.specs.Batches.{HasBatches}
+use Rattle.raft_log_file_reader.specs.Foreign.{IsOffsetInside}
 use Rattle.raft_log_file_reader.specs.Laws.{EndsBehind}
 use Rattle.raft_log_file_reader.proofs.Readings.{batches_go_on_is}
 use Rattle.raft_log_file_reader.specs.Reader.{IsReading, file_of, end_of, size_in, left_of}
 use Rattle.raft_log_file_reader.specs.declared.open_file.OpenFile.{OpenFile}
 use Rattle.raft_log_file_reader.specs.declared.reader.LogItemBatchFileReader.{LogItemBatchFileReader}
 use Rattle.raft_log_recovery_read.specs.Records.{HasRecord, HasRecords, StopsGood}
-use Rattle.raft_log_recovery_read.specs.Behind.{StandsAtLast, with_noted}
+use Rattle.raft_log_recovery_read.specs.Behind.{LiesInside, StandsAtLast, with_noted}
 use Rattle.raft_log_recovery_read.specs.declared.behind.LastRecord.{LastRecord}
 
 -- a record behind others makes one more
@@ -32,6 +33,14 @@ less_left d old new file opened same reading further =
     let kept : size_in (file_of new) ≡ file.source.size = ap size_in (same ∙ opened) in
     omega (arith, within, size, kept, further)
 
+-- the offset of a reader is inside the file that another reader has open, too
+pub end_inside : (d : Disk) (old new : LogItemBatchFileReader) (end : ℕ) → IsReading d old → file_of new ≡ file_of old → end ≡ end_of old → IsOffsetInside end new
+end_inside d old new end reading same is = λ file opened. omega (arith, (reading file (sym same ∙ opened)).within, is)
+
+-- an offset inside a file stays inside it
+pub still_inside : (old new : LogItemBatchFileReader) (offset : ℕ) → file_of new ≡ file_of old → IsOffsetInside offset old → IsOffsetInside offset new
+still_inside old new offset same inside = λ file opened. inside file (sym same ∙ opened)
+
 -- where the batches stop no batch comes
 pub stops_there : (file : OpenFile) (content : List ℕ) (end : ℕ) (fault : Option Fault) → StopsGood file content end fault → EndsBehind file content end
 stops_there file content end None none = inl none
@@ -42,3 +51,8 @@ pub all_batches : (file : OpenFile) (content : List ℕ) (offset end : ℕ) (bef
     → HasBatches file content offset (with_noted before last) end
 all_batches file content offset end before None h = subst (λ (l : List (List LogItem)). HasBatches file content offset l end) (sym h.0) h.1
 all_batches file content offset end before (Some last) h = batches_go_on_is file content offset last.start end before last.items.items h.0 h.1
+
+-- what is noted lies inside the file, as long as the same file is open
+pub lies_still : (last : Option LastRecord) (old new : LogItemBatchFileReader) → file_of new ≡ file_of old → LiesInside last old → LiesInside last new
+lies_still None old new same inside = tt
+lies_still (Some last) old new same inside = ((λ file opened. inside.0 file (sym same ∙ opened)), still_inside old new last.start same inside.1)

@@ -7,6 +7,7 @@ use Rattle.raft_log_record_items.specs.declared.item.LogItem.{LogItem}
 use Rattle.raft_log_fs.specs.Disk.{Disk}
 use Rattle.raft_log_file_reader.specs.Source.{bytes_of}
 use Rattle.raft_log_file_reader.specs.Batches.{HasBatch, HasBatches, HasBlock}
+use Rattle.raft_log_file_reader.specs.Foreign.{IsOffsetInside}
 use Rattle.raft_log_file_reader.specs.Reader.{IsReading, IsInsideFile, file_of, end_of}
 use Rattle.raft_log_file_reader.specs.declared.open_file.OpenFile.{OpenFile}
 use Rattle.raft_log_file_reader.specs.declared.reader.LogItemBatchFileReader.{LogItemBatchFileReader}
@@ -31,10 +32,11 @@ pub record WasReadBehind {M : Type 0} (last : Bool) (reads : List Batch → M �
   pub bare : last ≡ true → IsTrue behind.is_bare ↔ (batches ≡ [])
   pub taken : HasTaken reads declines (said id batches) old new behind.declined
 
--- the reader still has the same file open, and its offset and window fit it
-pub record KeepsFile (d : Disk) (old new : LogItemBatchFileReader) : Type 0 where
+-- the reader still has the same file open, and its offset and window fit it; what was read of the file ends inside it
+pub record KeepsFile (d : Disk) (old new : LogItemBatchFileReader) (end : ℕ) : Type 0 where
   pub reading : IsReading d new
   pub same : file_of new ≡ file_of old
+  pub inside : IsOffsetInside end new
 
 -- the reader has a file open
 abbrev pub HasFileOpen : LogItemBatchFileReader → Type 0
@@ -63,7 +65,7 @@ StandsAtLast file content offset before None end = (before ≡ []) × (end ≡ o
 StandsAtLast file content offset before (Some last) end = HasBatches file content offset before last.start
     × HasBatch file content last.start last.items.items end × HasBlock file content last.start last.block
 
--- the entry block of the record that the reader remembers is inside the file
+-- the record that the reader remembers begins inside the file, and its entry block is there too
 abbrev pub LiesInside : Option LastRecord → LogItemBatchFileReader → Type 0
 LiesInside None reader = Unit {0}
-LiesInside (Some last) reader = IsInsideFile last.block reader
+LiesInside (Some last) reader = IsInsideFile last.block reader × IsOffsetInside last.start reader

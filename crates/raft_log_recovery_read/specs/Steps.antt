@@ -1,12 +1,12 @@
 -- A reader reads one more record of a file.
-use Rattle.std.specs.Prelude.{◌≡◌, ℕ, ◌<◌, Option, Some, None, List}
+use Rattle.std.specs.Prelude.{◌≡◌, ℕ, ◌<◌, Option, Some, None, List, IsTrue}
 use Rattle.raft_log_record_base.specs.Fault.{Fault}
 use Rattle.raft_log_record_base.specs.declared.errors.Error.{Error}
 use Rattle.raft_log_record_items.specs.declared.item.LogItem.{LogItem}
 use Rattle.raft_log_fs.specs.Disk.{Disk}
 use Rattle.raft_log_file_reader.specs.Source.{bytes_of}
 use Rattle.raft_log_file_reader.specs.Batches.{HasBatch, HasBlock, HasNoMore, IsBroken}
-use Rattle.raft_log_file_reader.specs.Reader.{IsReading, IsInsideFile, file_of, end_of, last_block}
+use Rattle.raft_log_file_reader.specs.Reader.{IsReading, IsInsideFile, file_of, end_of, last_block, honest_of}
 use Rattle.raft_log_file_reader.specs.declared.open_file.OpenFile.{OpenFile}
 use Rattle.raft_log_file_reader.specs.declared.reader.LogItemBatchFileReader.{LogItemBatchFileReader}
 use Rattle.raft_log_recovery_read.specs.Faults.{TellsFault}
@@ -20,21 +20,22 @@ pub record StandsAs (d : Disk) (old new : LogItemBatchFileReader) : Type 0 where
   pub file : file_of new ≡ file_of old
   pub end : end_of new ≡ end_of old
 
--- the reader read the next batch, with these items, and knows the location of its entry block
+-- The reader read a batch, and knows the location of its entry block. If all reads were honest, it is the next one, and
+-- it has these items.
 pub record TakesBatchOf (d : Disk) (file : OpenFile) (old new : LogItemBatchFileReader) (items : List LogItem)
     : Type 0 where
-  pub batch : HasBatch file (bytes_of file.source d) (end_of old) items (end_of new)
-  pub block : HasBlock file (bytes_of file.source d) (end_of old) (last_block new)
+  pub batch : IsTrue (honest_of new) → HasBatch file (bytes_of file.source d) (end_of old) items (end_of new)
+  pub block : IsTrue (honest_of new) → HasBlock file (bytes_of file.source d) (end_of old) (last_block new)
   pub inside : IsInsideFile (last_block new) new
   pub further : end_of old < end_of new
 
--- What follows the reader's offset: a batch, which it read; nothing more; or a broken frame with this fault. In the
--- last two cases it is at the same offset.
+-- What follows the reader's offset, if all reads were honest: a batch, which it read; nothing more; or a broken frame
+-- with this fault. In the last two cases it is at the same offset.
 abbrev pub TakesNextBatch : Disk → OpenFile → LogItemBatchFileReader → LogItemBatchFileReader → Next → Type 0
 TakesNextBatch d file old new (nexts.Batch items) = TakesBatchOf d file old new items.items
-TakesNextBatch d file old new nexts.End =
-    HasNoMore file (bytes_of file.source d) (end_of old) × (end_of new ≡ end_of old)
-TakesNextBatch d file old new (nexts.Fault error) = (f : Fault) × TellsFault error f
+TakesNextBatch d file old new nexts.End = IsTrue (honest_of new)
+    → HasNoMore file (bytes_of file.source d) (end_of old) × (end_of new ≡ end_of old)
+TakesNextBatch d file old new (nexts.Fault error) = IsTrue (honest_of new) → (f : Fault) × TellsFault error f
     × IsBroken file (bytes_of file.source d) (end_of old) f × (end_of new ≡ end_of old)
 
 -- The frame after `offset` is good. The record is whole, or the error describes what is wrong with its entry block.
@@ -43,11 +44,13 @@ ChecksBlock file content offset None = IsWhole file content offset
 ChecksBlock file content offset (Some error) =
     (f : Fault) × TellsFault error f × IsRecordTorn file content offset f
 
--- what follows the reader's offset: a whole record, which it read; nothing more; or a torn record, with this fault
+-- what follows the reader's offset, if all reads were honest: a whole record, which it read; nothing more; or a torn
+-- record, with this fault
 abbrev pub TakesWholeRecord : Disk → OpenFile → LogItemBatchFileReader → LogItemBatchFileReader → Next → Type 0
 TakesWholeRecord d file old new (nexts.Batch items) =
-    HasRecord file (bytes_of file.source d) (end_of old) items.items (end_of new)
+    (IsTrue (honest_of new) → HasRecord file (bytes_of file.source d) (end_of old) items.items (end_of new))
     × (end_of old < end_of new)
-TakesWholeRecord d file old new nexts.End = HasNoMore file (bytes_of file.source d) (end_of old)
-TakesWholeRecord d file old new (nexts.Fault error) = (f : Fault) × TellsFault error f
+TakesWholeRecord d file old new nexts.End =
+    IsTrue (honest_of new) → HasNoMore file (bytes_of file.source d) (end_of old)
+TakesWholeRecord d file old new (nexts.Fault error) = IsTrue (honest_of new) → (f : Fault) × TellsFault error f
     × IsRecordTorn file (bytes_of file.source d) (end_of old) f

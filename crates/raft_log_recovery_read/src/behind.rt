@@ -1,10 +1,12 @@
 //! Reads what follows the header of a log file. Passes each record on after the next one is read, so that at most two
 //! records are held.
 
-ghost use Rattle.std.specs.Prelude.{◌≡◌, ℕ, false, true, List, Option, Some, IfOk, IfErr, OnOk};
+ghost use Rattle.std.specs.Prelude.{◌≡◌, ℕ, false, true, List, Option, Some, IfOk, IfErr, IsTrue};
+ghost use Rattle.raft_log_fs.specs.Receipts.{Collects};
 ghost use Rattle.raft_log_record_base.specs.Fault.{Fault};
 ghost use Rattle.raft_log_record_items.specs.declared.item.LogItem.{LogItem};
-ghost use Rattle.raft_log_file_reader.specs.Reader.{IsReading, file_of, end_of};
+ghost use Rattle.raft_log_file_reader.specs.Reader.{IsReading, file_of, end_of, honest_of};
+ghost use Rattle.raft_log_file_reader.specs.Foreign.{IsOffsetInside};
 ghost use Rattle.raft_log_file_reader.specs.Source.{bytes_of, CannotRead};
 ghost use Rattle.raft_log_file_reader.specs.declared.open_file.OpenFile.{OpenFile};
 ghost use Rattle.raft_log_recovery_read.specs.Batches.{HasTaken, said};
@@ -58,11 +60,15 @@ pub(crate) fn read_last<F: FileSystem, M: ReplayMachine>(
     requires reading { IsReading (F.disk file_system.now) reader.old }
     requires open { HasFileOpen reader.old }
     ensures ok { (file : OpenFile) → file_of reader.old ≡ Some file
-        → IfOk result (WasReadBehind true (M.reads id.queue) (M.declines id.queue) id machine.old machine.new
-        (F.disk file_system.now) file (end_of reader.old)) }
+        → IfOk result (λ behind. IsTrue (honest_of reader.new)
+        → WasReadBehind true (M.reads id.queue) (M.declines id.queue) id machine.old machine.new
+        (F.disk file_system.now) file (end_of reader.old) behind) }
     ensures err { (file : OpenFile) → file_of reader.old ≡ Some file
-        → IfErr result (CannotRead file.source 0 (F.disk file_system.now)) }
-    ensures kept { OnOk result (KeepsFile (F.disk file_system.now) reader.old reader.new) }
+        → IfErr result (λ error. IsTrue (honest_of reader.new)
+        → CannotRead file.source 0 (F.disk file_system.now) error) }
+    ensures kept { IfOk result (λ behind.
+        KeepsFile (F.disk file_system.now) reader.old reader.new behind.end) }
+    ensures receipts { Collects F.tells_truth (honest_of reader.old) (honest_of reader.new) }
 {
     let mut is_bare = true;
     let mut declined = None;
@@ -107,11 +113,15 @@ pub(crate) fn read_earlier<F: FileSystem, M: ReplayMachine>(
     requires reading { IsReading (F.disk file_system.now) reader.old }
     requires open { HasFileOpen reader.old }
     ensures ok { (file : OpenFile) → file_of reader.old ≡ Some file
-        → IfOk result (WasReadBehind false (M.reads id.queue) (M.declines id.queue) id machine.old machine.new
-        (F.disk file_system.now) file (end_of reader.old)) }
+        → IfOk result (λ behind. IsTrue (honest_of reader.new)
+        → WasReadBehind false (M.reads id.queue) (M.declines id.queue) id machine.old machine.new
+        (F.disk file_system.now) file (end_of reader.old) behind) }
     ensures err { (file : OpenFile) → file_of reader.old ≡ Some file
-        → IfErr result (CannotRead file.source 0 (F.disk file_system.now)) }
-    ensures kept { OnOk result (KeepsFile (F.disk file_system.now) reader.old reader.new) }
+        → IfErr result (λ error. IsTrue (honest_of reader.new)
+        → CannotRead file.source 0 (F.disk file_system.now) error) }
+    ensures kept { IfOk result (λ behind.
+        KeepsFile (F.disk file_system.now) reader.old reader.new behind.end) }
+    ensures receipts { Collects F.tells_truth (honest_of reader.old) (honest_of reader.new) }
 {
     let mut declined = None;
     let mut last = None;
@@ -161,18 +171,22 @@ fn check_last<F: FileSystem, M: ReplayMachine>(
     last: Option<LastRecord>,
 ) -> Result<Behind>
     requires reading { IsReading (F.disk file_system.now) reader.old }
-    requires inside { LiesInside last reader.old }
+    requires inside { LiesInside last reader.old × IsOffsetInside read.end reader.old }
     ensures ok { (file : OpenFile) (offset : ℕ) (fault : Option Fault) (before : List (List LogItem)) (start : M)
         → file_of reader.old ≡ Some file
         → StandsAtLast file (bytes_of file.source (F.disk file_system.now)) offset before last read.end
         → StopsGood file (bytes_of file.source (F.disk file_system.now)) read.end fault
         → TellsIfAny read.fault fault
         → HasTaken (M.reads id.queue) (M.declines id.queue) (said id before) start machine.old read.declined
-        → IfOk result (WasReadBehind false (M.reads id.queue) (M.declines id.queue) id start machine.new
-        (F.disk file_system.now) file offset) }
+        → IfOk result (λ behind. IsTrue (honest_of reader.new)
+        → WasReadBehind false (M.reads id.queue) (M.declines id.queue) id start machine.new
+        (F.disk file_system.now) file offset behind) }
     ensures err { (file : OpenFile) → file_of reader.old ≡ Some file
-        → IfErr result (CannotRead file.source 0 (F.disk file_system.now)) }
-    ensures kept { OnOk result (KeepsFile (F.disk file_system.now) reader.old reader.new) }
+        → IfErr result (λ error. IsTrue (honest_of reader.new)
+        → CannotRead file.source 0 (F.disk file_system.now) error) }
+    ensures kept { IfOk result (λ behind.
+        KeepsFile (F.disk file_system.now) reader.old reader.new behind.end) }
+    ensures receipts { Collects F.tells_truth (honest_of reader.old) (honest_of reader.new) }
 {
     let Some(record) = last else {
         return Ok(read);

@@ -1,9 +1,10 @@
 //! Files in which a foreign record follows the last good one are refused.
 
-ghost use Rattle.std.specs.Prelude.{◌≡◌, ◌⊎◌, ℕ, Some, IfErr, IfOk, OnOk};
+ghost use Rattle.std.specs.Prelude.{◌≡◌, ◌⊎◌, ℕ, Some, IfErr, IfOk, IsTrue, OnOk};
 ghost use Rattle.std.specs.String.{string_bytes};
+ghost use Rattle.raft_log_fs.specs.Receipts.{Collects};
 ghost use Rattle.raft_log_file_reader.specs.Foreign.{HasForeignRecord, IsOffsetInside};
-ghost use Rattle.raft_log_file_reader.specs.Reader.{IsReading, file_of};
+ghost use Rattle.raft_log_file_reader.specs.Reader.{IsReading, file_of, honest_of};
 ghost use Rattle.raft_log_file_reader.specs.Source.{bytes_of, CannotRead};
 ghost use Rattle.raft_log_file_reader.specs.declared.open_file.OpenFile.{OpenFile};
 ghost use Rattle.raft_log_recovery_read.specs.Foreign.{queue_name, told_foreign};
@@ -26,11 +27,13 @@ pub(crate) fn refuse_foreign<F: FileSystem>(
     requires reading { IsReading (F.disk file_system.now) reader.old }
     requires inside { IsOffsetInside offset reader.old }
     ensures ok { (file : OpenFile) → file_of reader.old ≡ Some file
-        → OnOk result ((at compression : ℕ)
+        → OnOk result (IsTrue (honest_of reader.new) → (at compression : ℕ)
         → HasForeignRecord file (bytes_of file.source (F.disk file_system.now)) offset at compression → ⊥) }
     ensures err { (file : OpenFile) → file_of reader.old ≡ Some file
-        → IfErr result (λ error. CannotRead file.source offset (F.disk file_system.now) error
+        → IfErr result (λ error. IsTrue (honest_of reader.new)
+        → CannotRead file.source offset (F.disk file_system.now) error
         ⊎ RefusesForeign id file (bytes_of file.source (F.disk file_system.now)) offset error) }
+    ensures receipts { Collects F.tells_truth (honest_of reader.old) (honest_of reader.new) }
 {
     match reader.foreign_record(alloc, file_system, offset)? {
         None => Ok(()),

@@ -1,9 +1,10 @@
 //! Reading a log file that was found.
 
 ghost use Rattle.std.specs.Prelude.{◌≡◌, ◌↔◌, None, Some, IfOk, IfErr, IsTrue, OnOk};
+ghost use Rattle.raft_log_fs.specs.Receipts.{Collects};
 ghost use Rattle.raft_log_record_base.specs.Fault.Fault.{corrupt};
 ghost use Rattle.raft_log_record_base.specs.declared.errors.Error.TheVariants.{Memory};
-ghost use Rattle.raft_log_file_reader.specs.Reader.{IsReading, file_of, end_of};
+ghost use Rattle.raft_log_file_reader.specs.Reader.{IsReading, file_of, end_of, honest_of};
 ghost use Rattle.raft_log_file_reader.specs.Source.{bytes_in, CannotRead};
 ghost use Rattle.raft_log_file_reader.specs.declared.open_file.OpenFile.{OpenFile};
 ghost use Rattle.raft_log_recovery_read.specs.Behind.{HasFileOpen, KeepsFile, WasReadBehind};
@@ -43,14 +44,15 @@ pub fn read_file<F: FileSystem, M: ReplayMachine>(
     file: ListedFile,
     machine: &mut M,
 ) -> Result<FoundFile>
-    ensures ok { IfOk result (λ found. (reading : FileReading)
+    ensures ok { IfOk result (λ found. IsTrue (honest_of reader.new) → (reading : FileReading)
         × ReadsFileAs file.is_last file.id file.handle (F.disk file_system.now) reading
         × WasHanded (M.reads file.id.queue) (M.declines file.id.queue) file.id machine.old machine.new reading
         found) }
-    ensures native { OnOk result (StopsAtNoForeign file.is_last file.id
+    ensures native { OnOk result (IsTrue (honest_of reader.new) → StopsAtNoForeign file.is_last file.id
         (bytes_in ((F.disk file_system.now).files file.handle.file))) }
-    ensures err { IfErr result
-        (FailsToReadRecords file.is_last file.id file.handle (F.disk file_system.now)) }
+    ensures err { IfErr result (λ error. IsTrue (honest_of reader.new)
+        → FailsToReadRecords file.is_last file.id file.handle (F.disk file_system.now) error) }
+    ensures receipts { F.tells_truth → IsTrue (honest_of reader.new) }
 {
     match reader.open(alloc, file_system, file.id, file.handle) {
         Ok(format) => {
@@ -117,11 +119,15 @@ fn read_behind<F: FileSystem, M: ReplayMachine>(
     requires reading { IsReading (F.disk file_system.now) reader.old }
     requires open { HasFileOpen reader.old }
     ensures ok { (opened : OpenFile) → file_of reader.old ≡ Some opened
-        → IfOk result (WasReadBehind file.is_last (M.reads file.id.queue) (M.declines file.id.queue) file.id
-        machine.old machine.new (F.disk file_system.now) opened (end_of reader.old)) }
+        → IfOk result (λ behind. IsTrue (honest_of reader.new)
+        → WasReadBehind file.is_last (M.reads file.id.queue) (M.declines file.id.queue) file.id
+        machine.old machine.new (F.disk file_system.now) opened (end_of reader.old) behind) }
     ensures err { (opened : OpenFile) → file_of reader.old ≡ Some opened
-        → IfErr result (CannotRead opened.source 0 (F.disk file_system.now)) }
-    ensures kept { OnOk result (KeepsFile (F.disk file_system.now) reader.old reader.new) }
+        → IfErr result (λ error. IsTrue (honest_of reader.new)
+        → CannotRead opened.source 0 (F.disk file_system.now) error) }
+    ensures kept { IfOk result (λ behind.
+        KeepsFile (F.disk file_system.now) reader.old reader.new behind.end) }
+    ensures receipts { Collects F.tells_truth (honest_of reader.old) (honest_of reader.new) }
 {
     if file.is_last {
         read_last(alloc, file_system, reader, file.id, machine)

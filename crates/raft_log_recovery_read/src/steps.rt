@@ -1,7 +1,8 @@
 //! Reading one more record of a log file.
 
-ghost use Rattle.std.specs.Prelude.{◌≡◌, ℕ, Some, IfOk, IfErr};
-ghost use Rattle.raft_log_file_reader.specs.Reader.{IsReading, IsInsideFile, file_of, end_of, last_block};
+ghost use Rattle.std.specs.Prelude.{◌≡◌, ℕ, Some, IfOk, IfErr, IsTrue};
+ghost use Rattle.raft_log_fs.specs.Receipts.{Collects};
+ghost use Rattle.raft_log_file_reader.specs.Reader.{IsReading, IsInsideFile, file_of, honest_of};
 ghost use Rattle.raft_log_file_reader.specs.Source.{bytes_of, CannotRead};
 ghost use Rattle.raft_log_file_reader.specs.Batches.{HasBlock};
 ghost use Rattle.raft_log_file_reader.specs.declared.open_file.OpenFile.{OpenFile};
@@ -37,7 +38,9 @@ pub(crate) fn next_batch<F: FileSystem>(
     ensures ok { (file : OpenFile) → file_of reader.old ≡ Some file
         → IfOk result (TakesNextBatch (F.disk file_system.now) file reader.old reader.new) }
     ensures err { (file : OpenFile) → file_of reader.old ≡ Some file
-        → IfErr result (CannotRead file.source 0 (F.disk file_system.now)) }
+        → IfErr result (λ error. IsTrue (honest_of reader.new)
+        → CannotRead file.source 0 (F.disk file_system.now) error) }
+    ensures receipts { Collects F.tells_truth (honest_of reader.old) (honest_of reader.new) }
 {
     match reader.next(alloc, file_system) {
         Ok(Some(batch)) => Ok(Next::Batch(batch.into_items())),
@@ -57,10 +60,13 @@ pub(crate) fn check_block<F: FileSystem>(
     requires inside { IsInsideFile block reader.old }
     ensures same { StandsAs (F.disk file_system.now) reader.old reader.new }
     ensures ok { (file : OpenFile) (offset : ℕ) → file_of reader.old ≡ Some file
+        → IfOk result (λ fault. IsTrue (honest_of reader.new)
         → HasBlock file (bytes_of file.source (F.disk file_system.now)) offset block
-        → IfOk result (ChecksBlock file (bytes_of file.source (F.disk file_system.now)) offset) }
+        → ChecksBlock file (bytes_of file.source (F.disk file_system.now)) offset fault) }
     ensures err { (file : OpenFile) → file_of reader.old ≡ Some file
-        → IfErr result (CannotRead file.source 0 (F.disk file_system.now)) }
+        → IfErr result (λ error. IsTrue (honest_of reader.new)
+        → CannotRead file.source 0 (F.disk file_system.now) error) }
+    ensures receipts { Collects F.tells_truth (honest_of reader.old) (honest_of reader.new) }
 {
     match reader.check_entry_block(alloc, file_system, block) {
         Ok(()) => Ok(None),
@@ -80,7 +86,9 @@ pub(crate) fn next_record<F: FileSystem>(
     ensures ok { (file : OpenFile) → file_of reader.old ≡ Some file
         → IfOk result (TakesWholeRecord (F.disk file_system.now) file reader.old reader.new) }
     ensures err { (file : OpenFile) → file_of reader.old ≡ Some file
-        → IfErr result (CannotRead file.source 0 (F.disk file_system.now)) }
+        → IfErr result (λ error. IsTrue (honest_of reader.new)
+        → CannotRead file.source 0 (F.disk file_system.now) error) }
+    ensures receipts { Collects F.tells_truth (honest_of reader.old) (honest_of reader.new) }
 {
     let items = match next_batch(alloc, file_system, reader)? {
         Next::Batch(items) => items,

@@ -1,6 +1,7 @@
 //! Which damage of a log file is tolerated.
 
-ghost use Rattle.std.specs.Prelude.{◌≡◌, false, Some, IfOk, IfErr};
+ghost use Rattle.std.specs.Prelude.{◌≡◌, false, Some, IfOk, IfErr, IsTrue};
+ghost use Rattle.raft_log_file_reader.specs.Reader.{honest_of};
 ghost use Rattle.raft_log_recovery_read.specs.Handed.{WasHanded};
 ghost use Rattle.raft_log_recovery_read.specs.Reading.{FileReading};
 ghost use Rattle.raft_log_recovery_read.specs.Tolerance.{FailsToReadFound, IsTolerated, ReadsFound, tolerates};
@@ -37,11 +38,13 @@ pub fn read_found<F: FileSystem, M: ReplayMachine>(
     file: ListedFile,
     machine: &mut M,
 ) -> Result<FoundFile>
-    ensures ok { IfOk result (λ found. (reading : FileReading)
+    ensures ok { IfOk result (λ found. IsTrue (honest_of reader.new) → (reading : FileReading)
         × ReadsFound mode file.is_last file.id file.handle (F.disk file_system.now) reading
         × WasHanded (M.reads file.id.queue) (M.declines file.id.queue) file.id machine.old machine.new reading
         found) }
-    ensures err { IfErr result (FailsToReadFound mode file.is_last file.id file.handle (F.disk file_system.now)) }
+    ensures err { IfErr result (λ error. IsTrue (honest_of reader.new)
+        → FailsToReadFound mode file.is_last file.id file.handle (F.disk file_system.now) error) }
+    ensures receipts { F.tells_truth → IsTrue (honest_of reader.new) }
 {
     let found = read_file(alloc, file_system, reader, file, machine)?;
     accept(mode, file.is_last, found)

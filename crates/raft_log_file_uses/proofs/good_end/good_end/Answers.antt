@@ -10,9 +10,10 @@ loop-reader-init g c =
     let file : OpenFile = record { id = c.args.id; source = opens.source; format = c.in_ok-_format._format } in
     record {
       reading = c.in_ok-_format.ensures.reading;
+      honest = c.in_ok-_format.ensures.receipts g.met.F.FileSystem.truthful;
       file = file;
       opened = opens.opened;
-      read = record { is = refl; reads_by = opens.reads_by; start = end_of c.open.new.self; header = opens.header; batches = []; has = refl };
+      read = record { is = refl; reads_by = opens.reads_by; start = end_of c.open.new.self; header = opens.header (c.in_ok-_format.ensures.receipts g.met.F.FileSystem.truthful); batches = []; has = refl };
     }
 
 pub next-requires : goal.next-requires
@@ -21,8 +22,8 @@ next-requires g c = c.loop-reader.invariant.reading
 pub loop-reader-preserved-in-Ok-Some : goal.loop-reader-preserved-in-Ok-Some
 loop-reader-preserved-in-Ok-Some g c =
     let work = c.loop-reader.invariant in
-    let batch = rw c.in-Ok-Some.field-0-is at (c.in-Ok-Some.ensures.ok work.file work.opened) in
-    went_on c.args.id c.args.handle (g.F.FileSystem.disk c.args.file_system.now) c.loop-reader.reader c.next.new.self c.in-Ok-Some.field-0-0.items work c.in-Ok-Some.ensures.file c.in-Ok-Some.ensures.reading batch
+    let batch = rw c.in-Ok-Some.field-0-is at (c.in-Ok-Some.ensures.ok work.file work.opened (c.in-Ok-Some.ensures.receipts.stays g.met.F.FileSystem.truthful work.honest)) in
+    went_on c.args.id c.args.handle (g.F.FileSystem.disk c.args.file_system.now) c.loop-reader.reader c.next.new.self c.in-Ok-Some.field-0-0.items work c.in-Ok-Some.ensures.file c.in-Ok-Some.ensures.reading (c.in-Ok-Some.ensures.receipts.stays g.met.F.FileSystem.truthful work.honest) batch
 
 pub loop-reader-smaller-in-Ok-Some : goal.loop-reader-smaller-in-Ok-Some
 loop-reader-smaller-in-Ok-Some g c =
@@ -32,17 +33,17 @@ loop-reader-smaller-in-Ok-Some g c =
 pub returns-in-Ok-None : goal.returns-in-Ok-None
 returns-in-Ok-None g c =
     let work = c.loop-reader.invariant in
-    let none = rw c.in-Ok-None.field-0-is at (c.in-Ok-None.ensures.ok work.file work.opened) in
+    let none = rw c.in-Ok-None.field-0-is at (c.in-Ok-None.ensures.ok work.file work.opened (c.in-Ok-None.ensures.receipts.stays g.met.F.FileSystem.truthful work.honest)) in
     ended c.args.id c.args.handle (g.F.FileSystem.disk c.args.file_system.now) c.loop-reader.reader c.valid_offset.result work (c.valid_offset.ensures ∙ none.1.end) (inl none.0)
 
 pub returns-in-Err-Corruption : goal.returns-in-Err-Corruption
 returns-in-Err-Corruption g c =
     let work = c.loop-reader.invariant in
-    let broken = rw c.in-Err-Corruption.field-0-is at (c.in-Err-Corruption.ensures.err work.file work.opened) in
+    let broken = rw c.in-Err-Corruption.field-0-is at (c.in-Err-Corruption.ensures.err work.file work.opened (c.in-Err-Corruption.ensures.receipts.stays g.met.F.FileSystem.truthful work.honest)) in
     ended c.args.id c.args.handle (g.F.FileSystem.disk c.args.file_system.now) c.loop-reader.reader c.valid_offset-in-Err-Corruption.result work (c.valid_offset-in-Err-Corruption.ensures ∙ c.in-Err-Corruption.ensures.stays.end) (inr (_, broken))
 
 pub returns-in-Err-Codec : goal.returns-in-Err-Codec
 returns-in-Err-Codec g c =
     let work = c.loop-reader.invariant in
-    let broken = rw c.in-Err-Codec.field-0-is at (c.in-Err-Codec.ensures.err work.file work.opened) in
+    let broken = rw c.in-Err-Codec.field-0-is at (c.in-Err-Codec.ensures.err work.file work.opened (c.in-Err-Codec.ensures.receipts.stays g.met.F.FileSystem.truthful work.honest)) in
     ended c.args.id c.args.handle (g.F.FileSystem.disk c.args.file_system.now) c.loop-reader.reader c.valid_offset-in-Err-Codec.result work (c.valid_offset-in-Err-Codec.ensures ∙ c.in-Err-Codec.ensures.stays.end) (inr (_, broken))

@@ -19,7 +19,7 @@ returns-in-Ok-read_file g c =
     let last = file.seq == c.args.newest in
     let content = bytes_in (d.files node) in
     let found = c.in-Ok-read_file.read in
-    let (reading, reads, handed) = c.in-Ok-read_file.ensures.ok in
+    let (reading, reads, handed) = c.in-Ok-read_file.ensures.ok (c.in-Ok-read_file.ensures.receipts g.met.F.FileSystem.truthful) in
     let path = c.as_str.ensures.value ∙ c.in_ok-path.ensures ∙ ap (λ (k : FileKind). found_path k directories file) c.kind_of.ensures in
     both_then c.damage_of.result c.damage_of.ensures.declined c.damage_of.ensures.undamaged
     (λ damage none undamaged. record {

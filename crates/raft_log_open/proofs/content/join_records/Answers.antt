@@ -10,14 +10,15 @@ use Rattle.raft_log_open.proofs.content.join_records.Goals as goal
 pub loop-start-init : goal.loop-start-init
 loop-start-init g c = (
   [],
-  record { reading = c.requires.reading; same = refl; file = c.requires.open.file; opened = c.requires.open.opened; has = refl },
+  record { reading = c.requires.reading.reading; same = refl; file = c.requires.open.file; opened = c.requires.open.opened; has = refl },
   sym (append-nil c.args.new.now.items),
+  c.requires.reading.honest,
 )
 
 pub loop-start-preserved : goal.loop-start-preserved
 loop-start-preserved g c =
     let d = g.F.FileSystem.disk c.args.file_system.now in
-    let (records, work, is) = c.loop-start.invariant in
+    let (records, work, is, honest) = c.loop-start.invariant in
     let content = bytes_of work.file.source d in
     let next = rw c.in-Record.is at (c.in_ok-start.ensures.ok work.file work.opened) in
     let was = work.opened in
@@ -35,7 +36,7 @@ loop-start-preserved g c =
     ap (λ (n : ℕ). take (n - start) (drop start c.args.bytes.now)) told ∙ ap (λ (l : List ℕ). take (end - start) (drop start l)) all in (
       records ++ bytes ∷ [],
       record {
-        reading = c.read_next.ensures.reading;
+        reading = c.read_next.ensures.reading.reading;
         same = c.read_next.ensures.file ∙ work.same;
         file = work.file;
         opened = c.read_next.ensures.file ∙ work.opened;
@@ -43,12 +44,13 @@ loop-start-preserved g c =
       },
       more_joined records bytes c.args.new.now.items c.loop-start.new.items c.extend_from_slice.new.self.items is
           (c.in_ok-extend_from_slice-in-Record.ensures.items ∙ ap (λ (l : List ℕ). c.loop-start.new.items ++ l) slice),
+      c.read_next.ensures.reading.honest,
     )
 
 pub returns-in-End-clause-ok : goal.returns-in-End-clause-ok
 returns-in-End-clause-ok g c = λ file opened.
     let d = g.F.FileSystem.disk c.args.file_system.now in
-    let (records, work, is) = c.loop-start.invariant in
+    let (records, work, is, honest) = c.loop-start.invariant in
     let content = bytes_of work.file.source d in
     let none = rw c.in-End.is at (c.in_ok-start.ensures.ok work.file work.opened) in
     let was = work.opened in
@@ -62,3 +64,8 @@ returns-in-End-clause-ok g c = λ file opened.
     let now = c.loop-start.new.items in
     subst (λ (f : OpenFile). Joins f c.args.bytes.now offset old now) here
     (subst (λ (l : List ℕ). Joins work.file l offset old now) (sym all) (joins_all work.file content offset (end_of c.loop-start.reader) records old now work.has none is))
+
+pub read_next-requires-clause-reading : goal.read_next-requires-clause-reading
+read_next-requires-clause-reading g c =
+    let (records, work, is, honest) = c.loop-start.invariant in
+    record { reading = work.reading; honest = honest }

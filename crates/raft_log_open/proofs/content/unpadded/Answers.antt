@@ -17,7 +17,7 @@ returns-in_err-format-clause-err g c =
     let file = c.args.file in
     let gave = err_from_is_err_and c.from_residual-in_err-format.result c.from_residual-in_err-format.ensures.1 in
     let padded = rw c.if-not-branch.false at c.in_ok-is_padded.ensures.ok in
-    rw (gave.1, gave.2) (inl (unopened file.is_last file.id file.handle d c.in_err-format.field-0.0 padded c.in_err-format.ensures.err))
+    rw (gave.1, gave.2) (inl (unopened file.is_last file.id file.handle d c.in_err-format.field-0.0 padded (c.in_err-format.ensures.err (c.in_err-format.ensures.receipts g.met.F.FileSystem.truthful))))
 
 pub returns-in_err-join_records-clause-err : goal.returns-in_err-join_records-clause-err
 returns-in_err-join_records-clause-err g c =
@@ -46,9 +46,12 @@ returns-clause-ok g c =
         file = file;
         is = refl;
         start = start;
-        says = subst (λ (h : Handle). SaysFormat (bytes_in (d.files h.file)) format start) opens.reads_by opens.header;
+        says = subst (λ (h : Handle). SaysFormat (bytes_in (d.files h.file)) format start) opens.reads_by (opens.header (c.in_ok-format.ensures.receipts g.met.F.FileSystem.truthful));
         bytes = joins.bytes;
         are = subst (λ (l : List ℕ). AreJoined file l start joins.bytes) all joins.are;
         made = joins.more ∙ ap (λ (l : List ℕ). l ++ joins.bytes) header;
       };
     }
+
+pub join_records-requires-clause-reading : goal.join_records-requires-clause-reading
+join_records-requires-clause-reading g c = record { reading = c.in_ok-format.ensures.reading; honest = c.in_ok-format.ensures.receipts g.met.F.FileSystem.truthful }

@@ -5,10 +5,10 @@ use Rattle.raft_log_recovery_read.proofs.WorkLemmas.{stops_there}
 use Rattle.raft_log_recovery_read.proofs.behind.check_last.Goals as goal
 
 pub returns-in-None-clause-ok : goal.returns-in-None-clause-ok
-returns-in-None-clause-ok g c = λ file offset fault before start opened stands stops tells handed.
+returns-in-None-clause-ok g c = λ file offset fault before start opened stands stops tells handed honest.
     let at = rw c.in-Some.is at stands in
     let noted = c.in-Some.record in
-    let whole = rw c.in-None.is at (c.in_ok-check_block.ensures.ok file noted.start opened at.2) in
+    let whole = rw c.in-None.is at (c.in_ok-check_block.ensures.ok file noted.start opened honest at.2) in
     record {
       batches = before ++ noted.items.items ∷ [];
       fault = fault;
@@ -26,11 +26,11 @@ returns-in-None-clause-ok g c = λ file offset fault before start opened stands 
     }
 
 pub returns-in-Some-2-clause-ok : goal.returns-in-Some-2-clause-ok
-returns-in-Some-2-clause-ok g c = λ file offset fault before start opened stands stops tells handed.
+returns-in-Some-2-clause-ok g c = λ file offset fault before start opened stands stops tells handed honest.
     let content = bytes_of file.source (g.F.FileSystem.disk c.args.file_system.now) in
     let at = rw c.in-Some.is at stands in
     let noted = c.in-Some.record in
-    let found = rw c.in-Some-2.is at (c.in_ok-check_block.ensures.ok file noted.start opened at.2) in
+    let found = rw c.in-Some-2.is at (c.in_ok-check_block.ensures.ok file noted.start opened honest at.2) in
     record {
       batches = before;
       fault = Some found.0;
@@ -41,7 +41,7 @@ returns-in-Some-2-clause-ok g c = λ file offset fault before start opened stand
     }
 
 pub returns-in_default-clause-ok : goal.returns-in_default-clause-ok
-returns-in_default-clause-ok g c = λ file offset fault before start opened stands stops tells handed.
+returns-in_default-clause-ok g c = λ file offset fault before start opened stands stops tells handed honest.
     let at = rw c.in_default.is at stands in
     record {
       batches = before;

@@ -14,16 +14,17 @@ returns-in_err-damage-in-Err-clause-err g c = λ file opened.
     let d = g.F.FileSystem.disk c.args.file_system.now in
     let gave = err_from_is_err_and c.from_residual.result c.from_residual.ensures.1 in
     let other = c.in_err-damage-in-Err.ensures.err in
-    let unread = part_unread file.source d c.args.block.offset c.in-Err.error (block_of (bytes_at c.args.block file d)) (c.in-Err.ensures.err file opened) other.1 in
-    rw (gave.1, gave.2) (subst (λ (e : Error). CannotRead file.source 0 d e) (sym other.0) unread)
+    rw (gave.1, gave.2) (λ honest.
+    let unread = part_unread file.source d c.args.block.offset c.in-Err.error (block_of (bytes_at c.args.block file d)) (c.in-Err.ensures.err file opened honest) other.1 in
+    subst (λ (e : Error). CannotRead file.source 0 d e) (sym other.0) unread)
 
 pub returns-in-Ok-clause-ok : goal.returns-in-Ok-clause-ok
-returns-in-Ok-clause-ok g c = λ file offset opened block.
-    whole_block file (bytes_of file.source (g.F.FileSystem.disk c.args.file_system.now)) offset c.args.block block (c.in-Ok.ensures.ok file opened)
+returns-in-Ok-clause-ok g c = λ file offset opened honest block.
+    whole_block file (bytes_of file.source (g.F.FileSystem.disk c.args.file_system.now)) offset c.args.block block (c.in-Ok.ensures.ok file opened honest)
 
 pub returns-in_ok-damage-in-Err-clause-ok : goal.returns-in_ok-damage-in-Err-clause-ok
-returns-in_ok-damage-in-Err-clause-ok g c = λ file offset opened block.
+returns-in_ok-damage-in-Err-clause-ok g c = λ file offset opened honest block.
     let d = g.F.FileSystem.disk c.args.file_system.now in
     let same = c.in_ok-damage-in-Err.ensures.ok in
-    let found = part_damaged file.source d c.args.block.offset c.in-Err.error (block_of (bytes_at c.args.block file d)) (c.in-Err.ensures.err file opened) same.1 in
+    let found = part_damaged file.source d c.args.block.offset c.in-Err.error (block_of (bytes_at c.args.block file d)) (c.in-Err.ensures.err file opened honest) same.1 in
     (found.0, subst (λ (e : Error). TellsFault e found.0) (sym same.0) found.1, torn_block file (bytes_of file.source d) offset c.args.block found.0 block found.2)

@@ -1,10 +1,9 @@
-use Rattle.std.proofs.Common.{◌≡◌, IfOk, IfErr, subst}
+use Rattle.std.proofs.Common.{◌≡◌, IsTrue, IfOk, IfErr, subst}
 use Rattle.raft_log_file_reader.specs.Source.{bytes_of, CannotRead}
 use Rattle.raft_log_file_reader.specs.Foreign.{FindsForeign}
 use Rattle.raft_log_file_reader.specs.Reader.{IsReadingFile}
 use Rattle.raft_log_file_reader.specs.declared.open_file.OpenFile.{OpenFile}
 use Rattle.raft_log_file_reader.specs.declared.reader.LogItemBatchFileReader.{LogItemBatchFileReader}
-use Rattle.raft_log_file_reader.proofs.Told.{if_ok_told, if_err_told}
 use Rattle.raft_log_file_reader.proofs.reader.LogItemBatchFileReader.foreign_record.Goals as goal
 
 pub find_foreign-requires-clause-inside : goal.find_foreign-requires-clause-inside
@@ -23,7 +22,6 @@ returns-clause-reading g c = λ x is.
     let new : LogItemBatchFileReader = record { window = c.find_foreign.new.window; file = old.file; valid_offset = old.valid_offset; last_block = old.last_block } in
     subst (λ (f : OpenFile). IsReadingFile d new f) same (record {
       holds = c.find_foreign.ensures.part;
-      honest = c.find_foreign.ensures.receipts.stays g.met.F.FileSystem.truthful reading.honest;
       within = reading.within;
     })
 
@@ -32,13 +30,13 @@ returns-clause-ok g c = λ x is.
     let d = g.F.FileSystem.disk c.args.file_system.now in
     let file = c.in-Some.file in
     let same : file ≡ x = cc in
-    let honest = c.find_foreign.ensures.receipts.stays g.met.F.FileSystem.truthful (c.requires.reading file c.in-Some.is).honest in
-    subst (λ (f : OpenFile). IfOk c.find_foreign.result (FindsForeign f (bytes_of f.source d) c.args.offset)) same (if_ok_told _ c.find_foreign.result honest c.find_foreign.ensures.ok)
+    let offset = c.args.offset in
+    subst (λ (f : OpenFile). IfOk c.find_foreign.result (λ found. IsTrue c.find_foreign.new.window.receipt.honest → FindsForeign f (bytes_of f.source d) offset found)) same c.find_foreign.ensures.ok
 
 pub returns-clause-err : goal.returns-clause-err
 returns-clause-err g c = λ x is.
     let d = g.F.FileSystem.disk c.args.file_system.now in
     let file = c.in-Some.file in
     let same : file ≡ x = cc in
-    let honest = c.find_foreign.ensures.receipts.stays g.met.F.FileSystem.truthful (c.requires.reading file c.in-Some.is).honest in
-    subst (λ (f : OpenFile). IfErr c.find_foreign.result (CannotRead f.source c.args.offset d)) same (if_err_told _ c.find_foreign.result honest c.find_foreign.ensures.err)
+    let offset = c.args.offset in
+    subst (λ (f : OpenFile). IfErr c.find_foreign.result (λ error. IsTrue c.find_foreign.new.window.receipt.honest → CannotRead f.source offset d error)) same c.find_foreign.ensures.err

@@ -1,4 +1,4 @@
-use Rattle.std.proofs.Common.{◌≡◌, length, Some, refl, subst, ap, ◌∙◌, arith}
+use Rattle.std.proofs.Common.{◌≡◌, length, Some, refl, subst, sym, ap, ◌∙◌, arith}
 use Rattle.raft_log_fs.specs.declared.receipt.Receipt.{Receipt}
 use Rattle.raft_log_file_reader.specs.Source.{bytes_of}
 use Rattle.raft_log_file_reader.specs.Reader.{IsReadingFile}
@@ -18,7 +18,7 @@ returns-in-Ok-clause-ok g c =
       reads_by = refl;
       size = size_told c.args.handle.file d c.in_ok-size.size c.in_ok-size.ensures.ok;
       opened = refl;
-      header = c.in-Ok.ensures.ok (c.in-Ok.ensures.receipts.stays g.met.F.FileSystem.truthful c.reset.ensures.honest);
+      header = λ honest. c.in-Ok.ensures.ok (ap (λ (r : Receipt). r.honest) (sym c.begin.ensures.receipt) ∙ honest);
     }
 
 pub returns-in-Ok-clause-reading : goal.returns-in-Ok-clause-reading
@@ -29,16 +29,17 @@ returns-in-Ok-clause-reading g c = λ x is.
     let new : LogItemBatchFileReader = record { window = c.begin.new.self; file = Some file; valid_offset = c.in-Ok.end; last_block = c.reset.new.self.last_block } in
     let size = size_told c.args.handle.file d c.in_ok-size.size c.in_ok-size.ensures.ok in
     let same : file ≡ x = cc in
-    let kept : c.begin.new.self.receipt.honest ≡ c.read_format.new.window.receipt.honest = ap (λ (r : Receipt). r.honest) c.begin.ensures.receipt in
     subst (λ (f : OpenFile). IsReadingFile d new f) same (record {
       holds = record {
         size = size;
         inside = omega (arith, c.begin.ensures.start, ap length c.begin.ensures.bytes);
         part = λ honest. rw (c.begin.ensures.bytes, c.begin.ensures.start) (nothing_held 0 (bytes_of source d) (omega arith));
       };
-      honest = kept ∙ c.in-Ok.ensures.receipts.stays g.met.F.FileSystem.truthful c.reset.ensures.honest;
       within = c.in-Ok.ensures.inside;
     })
 
-pub returns-in-Err-clause-err : goal.returns-in-Err-clause-err
-returns-in-Err-clause-err g c = c.in-Err.ensures.err (c.in-Err.ensures.receipts.stays g.met.F.FileSystem.truthful c.reset.ensures.honest)
+pub returns-in-Ok-clause-receipts : goal.returns-in-Ok-clause-receipts
+returns-in-Ok-clause-receipts g c = λ truth. ap (λ (r : Receipt). r.honest) c.begin.ensures.receipt ∙ c.in-Ok.ensures.receipts.stays truth c.reset.ensures.honest
+
+pub returns-in-Err-clause-receipts : goal.returns-in-Err-clause-receipts
+returns-in-Err-clause-receipts g c = λ truth. c.in-Err.ensures.receipts.stays truth c.reset.ensures.honest

@@ -1,4 +1,5 @@
-use Rattle.std.proofs.Common.{Bool, subst}
+use Rattle.std.proofs.Common.{Bool, IsTrue, subst}
+use Rattle.raft_log_file_reader.specs.Reader.{honest_of}
 use Rattle.raft_log_recovery_read.specs.Tolerance.{FailsToReadFound, ReadsFound}
 use Rattle.raft_log_recovery_read.specs.Segments.{id_of, IsSegment, RefusesFile}
 use Rattle.raft_log_recovery_read.specs.Handed.{WasHanded}
@@ -16,9 +17,10 @@ returns-clause-ok g c =
     let declines = g.M.ReplayMachine.declines me.queue in
     let old = c.args.machine.now in
     let new = c.read_found.new.machine in
-    ok_then c.read_found.result (λ found. (read : FileReading) × ReadsFound me.mode c.is_at_end.result id file.handle d read × WasHanded takes declines id old new read found)
+    let honest = c.read_found.ensures.receipts g.met.F.FileSystem.truthful in
+    ok_then c.read_found.result (λ found. IsTrue (honest_of c.read_found.new.reader) → (read : FileReading) × ReadsFound me.mode c.is_at_end.result id file.handle d read × WasHanded takes declines id old new read found)
     (IsSegment me.mode me.queue me.files.now d c.args.index takes declines old new) c.read_found.ensures.ok
-    (λ found is. record {
+    (λ found told. let is = told honest in record {
       file = file;
       read = is.0;
       reads = record {
@@ -35,10 +37,11 @@ returns-clause-err g c =
     let d = g.F.FileSystem.disk me.file_system.now in
     let file = c.file_at-file.result in
     let id = id_of me.queue file in
-    err_then c.read_found.result (FailsToReadFound me.mode c.is_at_end.result id file.handle d) (RefusesFile me.mode me.queue me.files.now d c.args.index) c.read_found.ensures.err
+    let honest = c.read_found.ensures.receipts g.met.F.FileSystem.truthful in
+    err_then c.read_found.result (λ error. IsTrue (honest_of c.read_found.new.reader) → FailsToReadFound me.mode c.is_at_end.result id file.handle d error) (RefusesFile me.mode me.queue me.files.now d c.args.index) c.read_found.ensures.err
     (λ error refused. record {
       file = file;
       inside = c.requires;
       is = c.file_at-file.ensures;
-      refused = subst (λ (b : Bool). FailsToReadFound me.mode b id file.handle d error) c.is_at_end.ensures refused;
+      refused = subst (λ (b : Bool). FailsToReadFound me.mode b id file.handle d error) c.is_at_end.ensures (refused honest);
     })

@@ -1,6 +1,6 @@
 -- What the reads of an engine return is what the model log does.
 use Rattle.std.proofs.Common.{◌≡◌, ◌⊎◌, ℕ, zero, suc, ◌+◌, ◌-◌, ◌<◌, ◌≤◌, Bool, true, false, List, [], ◌∷◌, length, take, drop, map, Option, Some, None, inl, inr, refl, sym, ap, ap₂, subst, ◌∙◌, arith, if◌then◌else◌, nat_le, nat_lt, option_map, slice_get}
-use Rattle.std.specs.Prelude.{IfOk, Result, Ok, Err}
+use Rattle.std.specs.Prelude.{IfErr, IfOk, OnOk, Result, Ok, Err}
 use Rattle.std.proofs.lemmas.List.{length-drop, length-take-le}
 use Rattle.std.specs.Global.{Vec}
 use Rattle.raft_log_model_laws.specs.Groups.{taken}
@@ -23,8 +23,10 @@ use Rattle.raft_log_purge.specs.raft_log_engine_laws.specs.Holding.{Represents}
 use Rattle.raft_log_purge.specs.raft_log_engine_laws.specs.Reading.{IsFirstIn, ReadsKeys, ReadsValue}
 use Rattle.raft_log_world.specs.Model.ModelLog.{running}
 use Rattle.raft_log_world.specs.Reads.{Contents, Fetches, HasEntries, IsCount, Scans}
-use Rattle.raft_log_engine_core.specs.Reads.{ScansKeys}
-use Rattle.raft_log_engine_core.specs.ModelCalls.{ArePairsOf, FetchesMessages, FollowsModel, IsValueOf, ModelReads, ScansInModel}
+use Rattle.raft_log_engine_core.specs.Messages.{ScansMessages}
+use Rattle.raft_log_engine_core.specs.Reads.{IsUncopied, Lives, ScansKeys}
+use Rattle.raft_log_engine_core.specs.Whole.{IsMessageUntold, TellsMessage}
+use Rattle.raft_log_engine_core.specs.ModelCalls.{ArePairsOf, FetchesMessages, FollowsModel, IsMessageIn, IsValueOf, ModelReads, ScansInModel, ScansMessagesInModel}
 use Rattle.raft_log_engine_core.proofs.ModelCalls.{failed_before, lived}
 
 -- How many entries are read.
@@ -157,6 +159,28 @@ pub value_told : (r : Result (Option (Vec ℕ)) Error) (s : EngineState) (group 
 value_told (Ok value) s group key lives reads = read_right (IsValueOf group key) value s s lives (λ home m pending h. h) reads.exact
 value_told (Err error) s group key lives reads = not_read (IsValueOf group key) error s lives
 
+-- Reads that copy what they return.
+
+-- one that failed: the engine had failed, or memory ran out
+pub uncopied : {A : Type 0} (is : Contents → A → Type 0) (error : Error) (s : EngineState) → IsUncopied s error → FollowsModel (ModelReads is) (Err error) s s
+uncopied is error s (inl (same, fails)) = failed_before (ModelReads is) s s error (same, fails, refl)
+uncopied is error s (inr (memory, lives)) = not_read is error s lives
+
+module _ {M : Type 0} (reading : List ℕ → Option M) (s : EngineState) (group : ℕ) (key : List ℕ) where
+  -- the value of a key as a message
+  message_told : (message : Option M) → Lives s → TellsMessage reading s group key message → FollowsModel (ModelReads (IsMessageIn reading group key)) (Ok message) s s
+  message_told message lives (value, reads, is) =
+      read_right (IsMessageIn reading group key) message s s lives (λ home m pending h. h) (λ home m pending h. (value, reads.exact home m pending h, is))
+
+  -- one that isn't, or that can't be copied
+  message_untold : (error : Error) → IsMessageUntold reading s group key error → FollowsModel (ModelReads (IsMessageIn reading group key)) (Err error) s s
+  message_untold error (inl why) = uncopied (IsMessageIn reading group key) error s why
+  message_untold error (inr (lives, value)) = not_read (IsMessageIn reading group key) error s lives
+
+  pub message_read : (r : Result (Option M) Error) → IfOk r (TellsMessage reading s group key) → OnOk r (Lives s) → IfErr r (IsMessageUntold reading s group key) → FollowsModel (ModelReads (IsMessageIn reading group key)) r s s
+  message_read (Ok message) tells lives why = message_told message lives tells
+  message_read (Err error) tells lives why = message_untold error why
+
 -- Entries.
 
 module _ {M : Type 0} (reading : List ℕ → Option M) (s t : EngineState) (group index : ℕ) where
@@ -229,3 +253,16 @@ module _ (s : EngineState) (group : ℕ) (start end : Option (List ℕ)) where
       → FollowsModel (ModelReads (ScansInModel called callback group start end backwards)) (Ok tt) s s
   keys_scanned called callback backwards lives (pairs, reads, visits) =
       read_right (ScansInModel called callback group start end backwards) tt s s lives (λ home m pending h. h) (λ home m pending h. (pairs, scans pairs reads home m pending h, visits))
+
+  messages_scanned : {F M : Type 0} (reading : List ℕ → Option M) (called : F → List ℕ → M → Bool → F → Type 0) (callback : F) (backwards : Bool) → Lives s
+      → ScansMessages reading called callback s group start end backwards
+      → FollowsModel (ModelReads (ScansMessagesInModel reading called callback group start end backwards)) (Ok tt) s s
+  messages_scanned reading called callback backwards lives (pairs, reads, visits) =
+      read_right (ScansMessagesInModel reading called callback group start end backwards) tt s s lives (λ home m pending h. h)
+      (λ home m pending h. (pairs, scans pairs reads home m pending h, visits))
+
+  pub messages_read : {F M : Type 0} (reading : List ℕ → Option M) (called : F → List ℕ → M → Bool → F → Type 0) (callback : F) (backwards : Bool) (r : Result (Unit {0}) Error)
+      → OnOk r (ScansMessages reading called callback s group start end backwards) → OnOk r (Lives s) → IfErr r (IsUncopied s)
+      → FollowsModel (ModelReads (ScansMessagesInModel reading called callback group start end backwards)) r s s
+  messages_read reading called callback backwards (Ok done) scans lives why = messages_scanned reading called callback backwards lives scans
+  messages_read reading called callback backwards (Err error) scans lives why = uncopied (ScansMessagesInModel reading called callback group start end backwards) error s why

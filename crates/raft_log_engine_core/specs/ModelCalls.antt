@@ -15,6 +15,8 @@ use Rattle.raft_log_purge.specs.raft_log_engine_laws.specs.Holding.{Represents, 
 use Rattle.raft_log_world.specs.Model.{Adds, BatchRecord, Compacts, FailsAt, ModelLog, RunsOn, compacts}
 use Rattle.raft_log_world.specs.Model.ModelLog.{resting, left, running, failed}
 use Rattle.raft_log_world.specs.Reads.{Contents, Fetches, Scans, bytes_of}
+use Rattle.raft_log_engine_core.specs.Messages.{VisitsMessages}
+use Rattle.raft_log_engine_core.specs.Whole.{IsMessageOf}
 
 -- An engine with the state `e` has this log open, in the directories `home`:
 -- - a running one has the durable contents and the pending batches
@@ -71,6 +73,11 @@ ModelReads is (Err error) m pending next = next ≡ running m pending
 abbrev pub IsValueOf : ℕ → List ℕ → Contents → Option (Vec ℕ) → Type 0
 IsValueOf group key m value = m group (Key key) ≡ option_map Value (bytes_of value)
 
+-- the value of a group's key, as a message, or none if the key has no value
+abbrev pub IsMessageIn : {M : Type 0} → (List ℕ → Option M) → ℕ → List ℕ → Contents → Option M → Type 0
+IsMessageIn reading group key m message = (value : Option (List ℕ))
+    × (m group (Key key) ≡ option_map Value value) × IsMessageOf reading value message
+
 -- A fetch of a group's entries from index `begin` on, below `end`, read them as messages. These were appended to `old`,
 -- and `count` is their number.
 pub record FetchesMessages {M : Type 0} (reading : List ℕ → Option M) (group begin end : ℕ) (max : Option ℕ)
@@ -92,6 +99,13 @@ abbrev pub ScansInModel : {F : Type 0} → (F → List ℕ → List ℕ → Bool
     → Option (List ℕ) → Bool → Contents → Unit {0} → Type 0
 ScansInModel called callback group start end backwards m done = (pairs : List (List ℕ × List ℕ))
     × Scans m group start end pairs × Visits called callback (in_direction backwards pairs)
+
+-- A scan called back with the keys of a group from `start` on, below `end`, and with their values as messages, in order
+-- or backwards, until the callback returned false. It skipped each key whose value is no message.
+abbrev pub ScansMessagesInModel : {F M : Type 0} → (List ℕ → Option M) → (F → List ℕ → M → Bool → F → Type 0) → F → ℕ
+    → Option (List ℕ) → Option (List ℕ) → Bool → Contents → Unit {0} → Type 0
+ScansMessagesInModel reading called callback group start end backwards m done = (pairs : List (List ℕ × List ℕ))
+    × Scans m group start end pairs × VisitsMessages reading called callback (in_direction backwards pairs)
 
 -- the files on disk `d`, in the directories `home`, are this log, which a close left
 abbrev pub IsClosedLog : LogDirectories → Disk → ModelLog → Type 0

@@ -4,7 +4,7 @@ ghost use Rattle.std.specs.Fn.{CalledAtTwo};
 ghost use Rattle.std.specs.Prelude.{◌≡◌, ◌↔◌, option_copied, IfErr, IfOk, IsTrue, OnOk};
 ghost use Rattle.raft_log_record_base.specs.declared.errors.Error.TheVariants as errors;
 ghost use Rattle.raft_log_purge.specs.raft_log_engine_laws.specs.Reading.{ReadsKeys};
-ghost use Rattle.raft_log_engine_core.specs.ModelCalls.{ArePairsOf, FollowsModel, ModelReads, ScansInModel};
+ghost use Rattle.raft_log_engine_core.specs.ModelCalls.{ArePairsOf, FollowsModel, ModelReads, ScansInModel, ScansMessagesInModel};
 ghost use Rattle.raft_log_engine_core.specs.Messages.{CalledAtKey, IsNoMessage, ScansMessages, VisitsMessages};
 ghost use Rattle.raft_log_engine_core.specs.Reads.{shows_of, IsFailed, IsUncopied, Lives, ScansKeys};
 
@@ -66,21 +66,20 @@ impl<P: PipeLog> LogEngine<P> {
         callback: C,
     ) -> Result<()>
         requires { C.IsAlwaysCallable callback }
+        ensures model { FollowsModel (ModelReads (ScansMessagesInModel S.reading (CalledAtKey C.FnMut) callback
+            raft_group_id (option_copied start_key.entry) (option_copied end_key.entry) reverse))
+            result (shows_of P.shown self.now) (shows_of P.shown self.now) }
         ensures ok { OnOk result (ScansMessages S.reading (CalledAtKey C.FnMut) callback
             (shows_of P.shown self.now) raft_group_id
             (option_copied start_key.entry) (option_copied end_key.entry) reverse) }
         ensures lived { OnOk result (Lives (shows_of P.shown self.now)) }
         ensures err { IfErr result (IsUncopied (shows_of P.shown self.now)) }
     {
-        match self.pairs_within(raft_group_id, start_key, end_key) {
-            Ok(mut pairs) => {
-                if reverse {
-                    pairs.reverse();
-                }
-                visit(self.alloc, pairs.as_slice(), callback)
-            }
-            Err(error) => Err(error),
+        let mut pairs = self.pairs_within(raft_group_id, start_key, end_key)?;
+        if reverse {
+            pairs.reverse();
         }
+        visit(self.alloc, pairs.as_slice(), callback)
     }
 
     /// Copies of the keys of a group within the bounds, and of their values, in the order of the keys' bytes. A key is

@@ -16,7 +16,7 @@ TITLE, WORDS, CRATE, STEP = 14, 11.5, 12, 17
 # x, y, width, height, fill, title, what it is, prefix of the crates' names, these, what crates above cite
 BOXES = [
     (16, 48, 430, 86, "#ffffff", "Sessions", "session text in, judged transcript out", "",
-     ["raftvoters", "raftvoters_timeline", "raft_voter_program"], "WritesSession"),
+     ["raftlog", "raftvoters", "raftvoters_timeline", "raft_voter_program"], ""),
     (454, 48, 256, 86, "#ffffff", "A node", "voters over a real directory", "",
      ["raftnode", "raft_voter_node"], ""),
     (718, 48, 346, 86, "#ffffff", "Proved callers", "short examples, with contracts", "",

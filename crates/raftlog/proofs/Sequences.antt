@@ -1,8 +1,7 @@
 -- Events that are the same, and transcripts, one after another.
-use Rattle.std.proofs.Common.{◌≡◌, ◌∙◌, ℕ, Bool, false, true, refl, List, [], ◌∷◌, ◌++◌, append_assoc, append-nil, ap, sym}
-use Rattle.std.specs.Prelude.{IsTrue, ◌&&◌}
+use Rattle.std.proofs.Common.{◌≡◌, ◌∙◌, ℕ, true, refl, List, [], ◌∷◌, ◌++◌, append_assoc, append-nil, ap, sym}
+use Rattle.std.specs.Prelude.{IsTrue}
 use Rattle.std.specs.List.{flat_map}
-use Rattle.std.proofs.lemmas.Bool.{false≢true}
 use Rattle.std.proofs.lemmas.List.Concat.{flat_map-append}
 use Rattle.raft_log_fs_state.specs.declared.remainder.Remainder.{Remainder}
 use Rattle.raft_log_record_batches.specs.Batch.{Batch}
@@ -11,7 +10,7 @@ use Rattle.raft_log_world.specs.Logs.{LogOf}
 use Rattle.raft_log_world_engine.specs.declared.files.ClosedLog.{ClosedLog}
 use Rattle.raft_log_world_engine.specs.declared.files.OpenLog.{OpenLog}
 use Rattle.raft_log_judge.specs.declared.change.Change.{Change}
-use Rattle.raftlog.specs.Playing.{AreTranscripts, EachIsTranscript, IsSomeTranscript, between}
+use Rattle.raftlog.specs.Playing.{EachIsTranscript, IsSomeTranscript, between}
 use Rattle.raftlog.specs.Same.{SameEvent, SameEvents}
 
 pub one_more_same : (events : List (Event (List Change) Remainder)) (es : List (Event Batch Remainder)) (event : Event (List Change) Remainder) (e : Event Batch Remainder)
@@ -32,12 +31,3 @@ one_more_text told text texts is =
     let parted : List ℕ → List ℕ = λ t. t ++ between in
     append_assoc told text between ∙ ap (λ (front : List ℕ). front ++ (text ++ between)) is
     ∙ ap (λ (rest : List ℕ). flat_map parted texts ++ rest) (sym (append-nil (text ++ between))) ∙ sym (flat_map-append parted texts (text ∷ []))
-
--- all transcripts before, and the last one
-pub all_transcripts : (l : LogOf OpenLog ClosedLog Batch Remainder) (told lines : List ℕ) (good yes : Bool)
-    → (IsTrue good → (texts : List (List ℕ)) × EachIsTranscript l texts × (told ≡ flat_map (λ t. t ++ between) texts))
-    → (IsTrue yes → IsSomeTranscript l lines yes) → IsTrue (good && yes) → AreTranscripts l (told ++ lines)
-all_transcripts l told lines true true all one both =
-    let (texts, each, is) = all refl in (texts, lines, each, one refl, ap (λ (front : List ℕ). front ++ lines) is)
-all_transcripts l told lines true false all one both = absurd (false≢true both)
-all_transcripts l told lines false yes all one both = absurd (false≢true both)

@@ -1,4 +1,5 @@
 pub mod Coming
+pub mod DeletedFirst
 pub mod Expiring
 pub mod Free
 pub mod Groups

@@ -4,7 +4,10 @@ use Rattle.raft_log_fs.specs.Causes.{IsLater}
 use Rattle.raft_log_record_base.specs.declared.errors.Error.{Error}
 use Rattle.raft_log_record_base.specs.declared.errors.Error.TheVariants as errors
 use Rattle.raft_log_record_base.specs.declared.pipe_log.LogQueue.TheVariants.{Append}
-use Rattle.raft_log_machine_laws.specs.Calls.Which.{InAppend}
+use Rattle.raft_log_record_items.specs.declared.item.LogItem.{LogItem}
+use Rattle.raft_log_machine_laws.specs.Calls.Which.{InAppend, InRewrite}
+use Rattle.raft_log_dual_pipes.specs.Calls.{SyncsQueue}
+use Rattle.raft_log_dual_pipes.specs.Pipes.{LogPipes}
 use Rattle.raft_log_memtables.specs.declared.mem_tables.MemTables.{MemTables}
 use Rattle.raft_log_memtables.specs.Owing.{AreOwed}
 use Rattle.raft_log_memtables.specs.Walking.{IsLeastOf, ListsGroups}
@@ -70,6 +73,20 @@ pub record FailsToLoseBelow (error : Error) (s t : EngineState) : Type 0 where
   pub remains : StaysOrIsLeftSettled error s t
   pub cause : (home : LogDirectories) (log : LogMap) → HoldsSettled home s log → HasFileReason error s t
 
+-- What a purge of Append does before it writes anything, so that it frees space on a full disk. `marks` are the owed
+-- tombstones:
+-- - `none`: If no tombstone is owed, Rewrite was synced, and then files left Append's live range, as in `LosesBelow`.
+-- - `some`: Else nothing was done.
+-- If no batch was pending, the log has the same contents.
+pub record DeletesFirst (held : Option ℕ) (m : MemTables) (marks : List LogItem) (s t : EngineState) : Type 0 where
+  pub none : marks ≡ [] → (synced : LogPipes) × SyncsQueue InRewrite s.pipes synced
+      × LosesBelow held m (record s { pipes = synced }) t
+  pub some : (marks ≡ [] → ⊥) → t ≡ s
+  pub same : t.tables ≡ s.tables
+  pub alive : has_failed s ≡ false → has_failed t ≡ false
+  pub later : IsLater s.pipes.disk t.pipes.disk
+  pub keeps : (home : LogDirectories) (log : LogMap) → Represents home s log [] → Represents home t log []
+
 -- The owed tombstones were written. Then the groups that pass the test were rewritten up to the gate, Rewrite was
 -- synced, and files left Append's live range. These groups have nothing in Append up to the gate, and no tombstone is
 -- owed. If no batch was pending, the log has the same contents, and nothing is pending in either queue.
@@ -89,14 +106,19 @@ pub record RewritesPicked (test : ℕ → Bool) (gate : ℕ) (held : Option ℕ)
 -- The whole.
 
 -- Append was purged, and `groups` are returned. Each group's count of purges in a row that asked for it was updated.
--- The groups that the rules pick were rewritten before files left the live range. The rules use the tables before the
--- purge.
+-- - `deletes`: If no tombstone was owed, files left the live range before anything was written.
+-- - `rewrites`: Then the groups that the rules pick were rewritten, and after that files left the live range.
+-- The rules use the tables and the files before the purge.
 pub record PurgesAppend (held : Option ℕ) (restated : Bool) (before after : MemTables) (old new : Rounds)
     (groups : List ℕ) (s t : EngineState) : Type 0 where
   pub answered : ListsGroups (answers_at (Some (watermarks_of s.pipes)) restated before) groups
   pub rounds : CountsRound (watermarks_of s.pipes) before old new
+  pub marks : List LogItem
+  pub owed : AreOwed before marks
+  pub freed : EngineState
+  pub deletes : DeletesFirst held before marks s freed
   pub rewrites : RewritesPicked (rewrites_at (watermarks_of s.pipes) (count_of old) before)
-      (watermarks_of s.pipes).rewrite held after s t
+      (watermarks_of s.pipes).rewrite held after freed t
 
 -- nothing was done to Append: no group is asked to be compacted, and the counts are unchanged
 pub record LeavesAppend (restated : Bool) (before : MemTables) (old new : Rounds) (groups : List ℕ)

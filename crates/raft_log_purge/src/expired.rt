@@ -13,6 +13,7 @@ ghost use Rattle.raft_log_purge_policy.specs.Surveying.{SurveysIfTold};
 ghost use Rattle.raft_log_purge_policy.specs.Watermarks.{TakesAppend};
 ghost use Rattle.raft_log_purge.specs.Standing.{StandIfTold};
 ghost use Rattle.raft_log_purge.specs.Expired.{
+  DeletesFirst,
   FailsToLoseBelow,
   FailsToPurgeAppend,
   LosesBelow,
@@ -59,6 +60,8 @@ pub struct PickedGroups {
 }
 
 /// Purges Append if it is past its threshold, else does nothing.
+/// - If no tombstone is owed, deletes files before it writes anything, so that it frees space on a full disk: syncs
+///   Rewrite, and takes the files below the lowest one in use out of Append's live range.
 /// - Writes the owed tombstones.
 /// - Rewrites the groups that the rules pick, up to the watermark, and syncs Rewrite.
 /// - Takes the files below the lowest one in use out of Append's live range. The active file stays, and so does each
@@ -152,6 +155,8 @@ fn purge_by_rules<P: PipeLog, L: Log>(
 {
     let watermarks = append_watermarks(pipes);
     let picked = pick_groups(alloc, tables, &watermarks, rounds, restated, known)?;
+    let marks = picked.marks.as_slice();
+    delete_before_writing(alloc, rt, pipes, tables, cache, marks, held)?;
     let gate = watermarks.rewrite;
     let standing = rewrite_picked(
         alloc,
@@ -160,7 +165,7 @@ fn purge_by_rules<P: PipeLog, L: Log>(
         tables,
         cache,
         picked.rewritten.as_slice(),
-        picked.marks.as_slice(),
+        marks,
         gate,
         held,
     )?;
@@ -199,6 +204,34 @@ fn pick_groups(
         marks,
         rounds: next,
     })
+}
+
+/// Deletes files of Append before the purge writes anything, so that it frees space on a full disk: syncs Rewrite, and
+/// takes the files below the lowest one in use out of the live range. Does nothing if a tombstone is owed (`marks`): it
+/// has to be written to Rewrite first.
+///
+/// Fails as a sync or `delete_unreferenced_files` does. If it fails, the map is kept.
+fn delete_before_writing<P: PipeLog, L: Log>(
+    alloc: Global,
+    rt: &L,
+    pipes: &mut P,
+    tables: &MemTables,
+    cache: &mut BlockCache,
+    marks: &[LogItem],
+    held: Option<FileSeq>,
+) -> Result<()>
+    requires { AreOwed tables.now marks.now }
+    ensures ok { OnOk result (DeletesFirst held tables.now marks.now
+        (shows (P.shown pipes.old) tables.now cache.old) (shows (P.shown pipes.new) tables.now cache.new)) }
+    ensures err { IfErr result (λ error. FailsToPurgeAppend error
+        (shows (P.shown pipes.old) tables.now cache.old) (shows (P.shown pipes.new) tables.now cache.new)) }
+{
+    if !marks.is_empty() {
+        return Ok(());
+    }
+    pipes.sync(rt, LogQueue::Rewrite)?;
+    delete_unreferenced_files(alloc, rt, pipes, tables, cache, held)?;
+    Ok(())
 }
 
 /// Writes the owed tombstones, rewrites these groups up to a file, syncs Rewrite, and takes files out of Append's

@@ -131,7 +131,7 @@ none_listed v index false false [] is js l e =
     ∙ ap (λ (f : List ℕ → Bool). record v { deleted = f }) (fun_ext (λ k. sym (l.all k)))
 
 -- no mark is owed where none is listed
-none_owed : (v : Shown) → AreOwedAt v [] → unmarked v ≡ v
+pub none_owed : (v : Shown) → AreOwedAt v [] → unmarked v ≡ v
 none_owed v h = none_listed v (if nat_lt 0 v.rewritten then v.first else top) v.cleaned v.compacted h.0 refl refl h.1 h.2
 
 pub no_marks : (tables : ℕ → Shown) (b : Batch) (v : LogPipes) → SaysMarks tables b → b.items ≡ [] → WritesMarks tables v v

@@ -22,6 +22,7 @@ use Rattle.raft_log_purge_copy.specs.raft_log_engine_laws.specs.Holding.{Represe
 use Rattle.raft_log_purge_copy.specs.raft_log_engine_laws.specs.Settled.{HoldsSettled}
 use Rattle.raft_log_purge_copy.specs.raft_log_engine_laws.proofs.Keeping.{holds_runs}
 use Rattle.raft_log_purge_copy.specs.raft_log_engine_laws.proofs.Settling.{failed_sync, settled_held, sync_settles_log}
+use Rattle.raft_log_purge_copy.specs.Lengths.{OwesTooMuch}
 use Rattle.raft_log_purge_copy.specs.Rewriting.{OweNothing}
 use Rattle.raft_log_purge_copy.proofs.PartExits.{alive_ok, later_on, none_owed, same_later, tells_err}
 use Rattle.raft_log_purge_copy.proofs.Reasons.{purge_reason_after, reason_after, reason_of_files, sync_reason}

@@ -1,4 +1,5 @@
--- Writing two changes in one batch, and then losing power.
+-- Writing two changes in one batch, and then losing power. `disk` gives the disk of a file system's state, and `tells`
+-- which sizes it may return as a directory's free space.
 use Rattle.std.specs.Prelude.{◌≡◌, ◌⊎◌, ℕ, List, [], ◌∷◌, ◌++◌, Bool, true, Option, None}
 use Rattle.raft_log_machine_laws.specs.Fresh.{nothing_stands}
 use Rattle.raft_log_engine.specs.raft_log_model_laws.specs.Groups.{taken}

@@ -1,4 +1,5 @@
--- Reading a key from a log and from its copy gives the same value.
+-- Reading a key from a log and from its copy gives the same value. `disk` gives the disk of a file system's state, and
+-- `tells` which sizes it may return as a directory's free space.
 use Rattle.std.specs.Prelude.{◌≡◌, ℕ, List, [], Option}
 use Rattle.raft_log_engine.specs.raft_log_fs.specs.Disk.{Disk}
 use Rattle.raft_log_engine.specs.raft_log_file_settings.specs.Settings.{settings_of}

@@ -1,4 +1,5 @@
--- Starting a log, saving a key's value in it, and losing power.
+-- Starting a log, saving a key's value in it, and losing power. `disk` gives the disk of a file system's state, and
+-- `tells` which sizes it may return as a directory's free space.
 use Rattle.std.specs.Prelude.{◌≡◌, ℕ, List, Option, Some}
 use Rattle.raft_log_engine.specs.raft_log_fs.specs.Disk.{Disk, empty_disk}
 use Rattle.raft_log_engine.specs.raft_log_fs.specs.Image.{IsImage}
@@ -24,7 +25,7 @@ pub record SavesAcrossACrash {F : Type 0} (disk : F → Disk) (tells : F → Lis
   pub kept : home_of again ≡ home_of config → LeavesNoChance (home_of config) engine.pipes (disk left)
       → found ≡ Some value
 
--- A value was saved where there was no log before, and then there was a crash. A read from the crash image, with any
+-- A value was saved in a new log, and then there was a crash. A read from the crash image, with any
 -- settings that name the same directories, gives this value. This requires that there is no CRC collision.
 abbrev pub SavedValuesAreLoaded : {F : Type 0} → (F → Disk) → (F → List ℕ → ℕ → Type 0) → Type 0
 SavedValuesAreLoaded {F} disk tells = (config again : Config) (group : ℕ) (key value : List ℕ) (old left : F)

@@ -1,4 +1,5 @@
--- Changing keys of a log, purging it, and losing power.
+-- Changing keys of a log, purging it, and losing power. `disk` gives the disk of a file system's state, and `tells`
+-- which sizes it may return as a directory's free space.
 use Rattle.std.specs.Prelude.{◌≡◌, ℕ, List, [], Option, None, map}
 use Rattle.raft_log_machine_laws.specs.Fresh.{nothing_stands}
 use Rattle.raft_log_engine.specs.raft_log_model_laws.specs.Groups.{taken}
@@ -15,8 +16,8 @@ use Rattle.raft_crash_examples.specs.Lives.{OpensAndChanges}
 use Rattle.raft_crash_examples.specs.Saving.{Loads}
 use Rattle.raft_crash_examples.specs.Standing.{CrashesWithoutChance, RunsOrIsLeft}
 
--- If the log of the engine `s` had the contents `m`, with nothing pending, so has the log of the engine `t`, which is
--- `s` after purges. Each of the two engines runs; or it has failed, and its files can be opened.
+-- The engine `t` is `s` after purges. If the log of `s` had the contents `m`, with nothing pending, so has the log of
+-- `t`. Each of the two engines runs; or it has failed, and its files can be opened.
 abbrev pub KeepsTheMap : EngineState → EngineState → Type 0
 KeepsTheMap s t = (home : LogDirectories) (m : LogMap) → RunsOrIsLeft home s m [] → RunsOrIsLeft home t m []
 

@@ -1,4 +1,5 @@
 -- A log that is opened, changed and closed properly, and then opened again. This needs no premise on CRC collisions.
+-- `disk` gives the disk of a file system's state, and `tells` which sizes it may return as a directory's free space.
 use Rattle.std.specs.Prelude.{◌≡◌, ◌⊎◌, ℕ, ◌+◌, Some, None, List, ◌++◌, length, Option}
 use Rattle.raft_log_file_writer.specs.LawsChains.{AreFrames, Written, spelled}
 use Rattle.raft_log_file_writer.specs.KeepsSynced.{IsHandedIn}
@@ -42,8 +43,8 @@ ProperClosesLeaveNoChance = (home : LogDirectories) (e : EngineState) (m : LogMa
     → IsSound e.pipes.disk → Represents home e m pending → ClosesProperly e.pipes d
     → ClosesWithoutChance home e.pipes d
 
--- After a close, the file that was the pipe's active one has its header, the whole records that the pipe wrote, and
--- then another record of this file. No unsynced write of the file had been asked to write that record there.
+-- After a close, the pipe's active file has its header, the whole records that the pipe wrote, and then another record
+-- of this file. No unsynced write of the file had been asked to write this other record there.
 pub record LeavesForeignBehind (F : Format LogRecord) (files : PipeFiles) (old new : Disk) : Type 0 where
   pub before : File
   pub was : old.files files.writer.handle.file ≡ Some before

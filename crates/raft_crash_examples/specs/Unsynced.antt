@@ -1,4 +1,5 @@
--- Putting a value at a key without a sync, and losing power.
+-- Putting a value at a key without a sync, and losing power. `disk` gives the disk of a file system's state, and
+-- `tells` which sizes it may return as a directory's free space.
 use Rattle.std.specs.Prelude.{◌≡◌, ◌⊎◌, ℕ, List, [], ◌∷◌, Option, Some, None}
 use Rattle.raft_log_engine.specs.raft_log_fs.specs.Disk.{Disk}
 use Rattle.raft_log_engine.specs.raft_log_fs.specs.Image.{IsImage}

@@ -98,8 +98,8 @@ pub record KeepsLog {R : Type 0} (s t : LogOnDisk R) : Type 0 where
   pub append_first : t.append.first ≤ s.append.first
   pub rewrite_first : t.rewrite.first ≤ s.rewrite.first
 
--- If a call on one queue keeps the bytes that were written to the queue's files, and its live range still begins at the
--- same file, then the whole log keeps its bytes (`KeepsLog`).
+-- if a call on one queue keeps the bytes that were written to the queue's files, the log after the call (`next_log`)
+-- keeps its bytes
 abbrev pub CallsKeepLog : Type 0 → Type 0
 CallsKeepLog R = (which : Which) (s : LogOnDisk R) (files : LogFiles R) (d : Disk)
     → KeepsBytes (spanned_at which s).files files → KeepsLog s (next_log which s files d)

@@ -32,8 +32,8 @@ RunIsStored s x = Unit {0}
 abbrev pub RunsAreStored : {R : Type 0} → LogOnDisk R → List (Tagged Place (List ℕ)) → Type 0
 RunsAreStored s xs = (g : ℕ) → Each (RunIsStored s) (of_group g xs)
 
--- Assume that the tables' entries are in the log, that a batch's entries are in Append, and that the batch may follow
--- what the tables show. After the tables apply the batch, all their entries are in the log.
+-- Assume that the tables' entries are in the log, and a batch's entries are in Append. The batch may follow what the
+-- tables show. After the tables apply the batch, all their entries are in the log.
 abbrev pub TakenEntriesAreStored : Type 0 → Type 0
 TakenEntriesAreStored R = (s : LogOnDisk R) (n : ℕ) (v : ℕ → Shown) (xs : List (Tagged Place (List ℕ)))
     → ((g : ℕ) → IsOrderly (v g)) → MayFollowAll v xs → AreStored s v → RunsAreStored s xs

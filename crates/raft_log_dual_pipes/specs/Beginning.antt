@@ -13,8 +13,8 @@ use Rattle.raft_log_dual_pipes.specs.State.{Spanned, LogOnDisk, Ties}
 use Rattle.raft_log_dual_pipes.specs.Crash.{readings_of}
 use Rattle.raft_log_dual_pipes.specs.Turning.{in_span}
 
--- a queue that has just begun: its live range consists of file 1, with this header and no record; zeros may be
--- allocated in it
+-- A queue that has just begun: its live range consists of file 1, with this header and no record. `room` zeros may be
+-- allocated in it. `older` doesn't matter, as there are no earlier files.
 abbrev pub begun_queue : {R : Type 0} → (ℕ → Past R) → List ℕ → ℕ → Spanned R
 begun_queue older header room = record { first = 1; files = with_room room (fresh_queue older header) }
 

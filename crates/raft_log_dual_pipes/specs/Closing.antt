@@ -29,7 +29,7 @@ abbrev pub IsOrIsSettled : {R : Type 0} → LogFiles R → LogFiles R → Type 0
 IsOrIsSettled q files = (files ≡ q) ⊎ (files ≡ settled q)
 
 -- What closing the pipe of one queue leaves, whatever the state of the other queue.
--- - `closes`: the queue's last file holds its records. They are synced or not, as the close could sync them or not.
+-- - `closes`: the queue's last file holds its records. The queue is unchanged, or all its records are synced.
 -- - `settles`: if the active file was finished, all records of the queue are synced.
 -- - `below`, `below_first`: a file kept for recycling has a reserved name, or a number below the last one and below the
 -- live range.

@@ -9,14 +9,14 @@ use Rattle.raft_log_fs_state.specs.declared.remainder.Remainder.TheVariants.{Las
 use Rattle.raft_log_fs_state.specs.declared.remainder.Piece.{Piece}
 use Rattle.raft_log_fs_state.specs.declared.remainder.Piece.TheVariants.{Keep, Lose, Bytes}
 
--- `old` after a change of which a crash left only the first `count` bytes of a write; a truncation or growth is lost
+-- `old` after what a crash left of a change: the first `count` bytes of a write, nothing of a truncation or growth
 abbrev pub left_front : ℕ → disk.Change → List ℕ → List ℕ
 left_front count (Wrote at bytes) old = overwritten at (take count bytes) old
 left_front count (ShortenedTo size) old = old
 left_front count (GrewTo size) old = old
 
--- `old` after a change whose write left the bytes `other` instead of its own, at most as many as it wrote; a truncation
--- or growth is done whole
+-- `old` after what a crash left of a change: of a write, the bytes `other` instead of its own, but at most as many; of
+-- a truncation or growth, all
 abbrev pub left_as : List ℕ → disk.Change → List ℕ → List ℕ
 left_as other (Wrote at bytes) old = overwritten at (take (length bytes) other) old
 left_as other (ShortenedTo size) old = changed (ShortenedTo size) old
@@ -30,8 +30,8 @@ left_as_said (Some Keep) change old = changed change old
 left_as_said (Some Lose) change old = old
 left_as_said (Some (Bytes other)) change old = left_as other.items change old
 
--- `old` after a change of which the crash left what `what` chooses for the change's position. `place` is this position
--- among the unsynced changes of all files, in the order of the calls.
+-- `old` after what a crash left of a change. `what` chooses this by the change's position `place` among the unsynced
+-- changes of all files, in the order of the calls.
 abbrev pub left_by : Remainder → ℕ → disk.Change → List ℕ → List ℕ
 left_by LastSync place change old = old
 left_by AllWritten place change old = changed change old

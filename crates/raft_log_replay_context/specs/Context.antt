@@ -79,8 +79,8 @@ tables_of c = c.tables
 abbrev pub written_to : MemTableRecoverContext → ℕ
 written_to c = c.written
 
--- in Append, no run of the items leaves a hole after what the context has of its group, and its indexes are below
--- 2 ^ 64 - 1
+-- In Append, no run of the items leaves a hole after what the context has of the run's group. The indexes of the runs
+-- are below 2 ^ 64 - 1.
 abbrev pub LeavesNoHole : FileId → List LogItem → MemTableRecoverContext → Type 0
 LeavesNoHole file items c =
     in_append file.queue ≡ true → MayFollowAll (shown_of c.tables) (tagged_items place_of items)

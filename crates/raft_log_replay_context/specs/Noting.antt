@@ -138,8 +138,8 @@ NotesCover rs g noted =
     (s : Slot) (c : Content Located KeyValue) → says s (counted g rs) ≡ Some (Some c)
     → CountsFrom rs g (start_of (file_in c) noted) s
 
--- The files recorded for each raft group cover its content (`NotesCover`). This is claimed if each record has its
--- entries and values in the file that it was read from, and the records are in order for the group.
+-- The files recorded for each raft group cover its content (`NotesCover`). This has two premises. Each record's entries
+-- and values are in the file that it was read from, and the records are in order for the group.
 abbrev pub AreNotedRead : List ReadRecord → (ℕ → Replayed) → Type 0
 AreNotedRead rs z =
     AreWhereRead rs → Tidy (records_of rs) → (g : ℕ) → AreHealthy (counted g rs)

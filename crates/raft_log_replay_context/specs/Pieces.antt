@@ -136,7 +136,8 @@ abbrev pub AllGroups : (List GroupPart → Type 0) → List (Vec GroupPart) → 
 AllGroups P [] = Unit {0}
 AllGroups P (ps ∷ pss) = P ps.items × AllGroups P pss
 
--- an atomic group was open, and the next segment ends it; `ps` are its records from both, together
+-- An atomic group was open: `state` has its items so far. The next segment ends it: `head` has its items there. `ps`
+-- are its records from both.
 pub record GoesToEnd (φ : Reading) (state : Option (List ReadItem)) (head : Head Located KeyValue)
     (ps : List GroupPart) : Type 0 where
   pub so_far : List ReadItem

@@ -1,5 +1,5 @@
--- An example: three rounds for groups 1 and 2. The second was cut off at position 2 by a crash. In the third, one
--- request was refused.
+-- An example: three rounds for groups 1 and 2. A crash cut off the second round. With its cut at position 2, voters
+-- explain the rounds. In the third round, one request was refused.
 use Rattle.std.specs.Prelude.{ℕ, List, [], ◌∷◌, Option, Some}
 use Rattle.raft_voter_messages.specs.declared.reply.Entry.{Entry}
 use Rattle.raft_voter_messages.specs.declared.reply.Reply.{Reply}
@@ -21,8 +21,8 @@ first_life replies = record {
   outcome = Answered replies;
 }
 
--- Entry 2 is appended to group 1, candidate 8 asks for the vote of group 2 in term 4, and entry 3 is appended to group
--- 1. There are no replies.
+-- Entry 2 is appended to group 1. Candidate 8 asks for the vote of group 2 in term 4. Entry 3 is appended to group 1.
+-- There are no replies.
 abbrev pub crash : Round
 crash = record {
   requests = (1, append_one 1 1 66) ∷ (2, Vote 4 8 0 0) ∷ (1, append_one 2 1 67) ∷ [];
@@ -34,8 +34,8 @@ crash = record {
 abbrev pub both_entries : List Entry
 both_entries = record { index = 1; term = 1; bytes = 65 ∷ [] } ∷ record { index = 2; term = 1; bytes = 66 ∷ [] } ∷ []
 
--- Entries 1 and 2 of group 1 are read, candidate 9 asks for the vote of group 2 in term 4, and entry 3 is appended to
--- group 1. The vote is denied, and the last request is refused.
+-- Entries 1 and 2 of group 1 are read. Candidate 9 asks for the vote of group 2 in term 4, and is denied. The Append of
+-- entry 3 to group 1 is refused.
 abbrev pub second_life : Round
 second_life = record {
   requests = (1, Read 1 3) ∷ (2, Vote 4 9 0 0) ∷ (1, append_one 2 1 67) ∷ [];
@@ -51,7 +51,7 @@ two_lives replies = first_life replies ∷ crash ∷ second_life ∷ []
 abbrev pub right_replies : List Reply
 right_replies = Matched 1 ∷ Granted 3 ∷ []
 
--- the same replies, except that group 2's vote is granted in term 2, which no voter does
+-- the same replies, except that group 2's vote is granted in term 2, though the request is of term 3
 abbrev pub wrong_replies : List Reply
 wrong_replies = Matched 1 ∷ Granted 2 ∷ []
 

@@ -57,8 +57,8 @@ pub record TriesToWrite {F : Type 0} (disk : F → Disk) (tells : F → List ℕ
   pub tries : (home : LogDirectories) (m : LogMap) → HoldsFresh home pipes tables m
       → MayHave answered home engine m (said_by_both one other)
 
--- Two opens of the log, each starting from `old`, read `first` at the key of one change and `second` at the key of the
--- other.
+-- two opens of the log, each starting from `old`, read `first` at the key of one change and `second` at the key of the
+-- other
 pub record LoadsBoth {F : Type 0} (disk : F → Disk) (tells : F → List ℕ → ℕ → Type 0) (config : Config)
     (one other : KeyChange) (old : F) (first second : Option (List ℕ)) : Type 0 where
   pub of_one : Loads disk tells config one.group one.key.items old first

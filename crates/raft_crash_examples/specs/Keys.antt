@@ -7,8 +7,8 @@ use Rattle.raft_crash_examples.specs.declared.changing.KeyChange.{KeyChange}
 abbrev pub is_of : ℕ → List ℕ → KeyChange → Bool
 is_of group key c = (c.group == group) && bytes_eq c.key.items key
 
--- The value of a key after these changes, if it had `value` before: the value of the last change of this key, or
--- `value` if no change is of this key.
+-- the value of a key after these changes, if it had `value` before: the value of the last change of this key, or
+-- `value` if no change is of this key
 abbrev pub value_behind : ℕ → List ℕ → List KeyChange → Option (List ℕ) → Option (List ℕ)
 value_behind group key [] value = value
 value_behind group key (c ∷ cs) value = value_behind group key cs

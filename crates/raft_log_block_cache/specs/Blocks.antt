@@ -32,8 +32,8 @@ KeepsBlock v block old new = (new.place ≡ Some block)
     × (((old.place ≡ Some block) × (new ≡ old))
     ⊎ (IsNotKept block old × StandsAt v block new.bytes.items × IsOk (block_of new.bytes.items)))
 
--- The errors with which caching `block` can fail: reading its bytes fails, or decoding them fails, for example because
--- of a wrong checksum or for lack of memory.
+-- the errors with which caching `block` can fail: reading its bytes fails, or decoding them fails, for example because
+-- of a wrong checksum or for lack of memory
 abbrev pub IsBlockUnread : LogPipes → FileBlockHandle → Error → Type 0
 IsBlockUnread v block error =
     IsReadRefused (pipe_at (which_of block.id.queue) (files_of v)) block v.disk error

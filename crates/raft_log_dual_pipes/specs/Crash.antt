@@ -42,8 +42,8 @@ readings_of log = record {
   append = λ image s files. MayRead log.says log.append.format image.append.first image.disk s files;
 }
 
--- After any crash of the log `s`, a recovery reads what the numbered files `f` allow: only the newest unsynced records
--- of each queue may be missing.
+-- after any crash of the log `s`, a recovery reads what the numbered files `f` allow: only the newest unsynced records
+-- of each queue may be missing
 abbrev pub AllowsIn : {R E V : Type 0} → TwoQueues R E V → LogOnDisk R → Files E V → Type 0
 AllowsIn log s f = Allows (readings_of log) s f
 

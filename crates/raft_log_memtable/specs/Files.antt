@@ -20,8 +20,8 @@ first_file Rewrite v =
 abbrev pub first_place : LogQueue → Raw → Option ℕ
 first_place queue t = first_file queue (shown t)
 
--- The lowest file of Rewrite that has an entry or value of the table, if file numbers never fall from one entry to the
--- next: only the first entry's file is looked at.
+-- the lowest file of Rewrite that has an entry or value of the table, if file numbers never fall from one entry to the
+-- next: only the first entry's file is looked at
 abbrev pub least_rewritten : Raw → Option ℕ
 least_rewritten t = lesser (first_place Rewrite t) (least_value false t.keys)
 

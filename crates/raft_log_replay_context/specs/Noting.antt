@@ -50,8 +50,8 @@ abbrev pub is_listed : ℕ → List ℕ → Bool
 is_listed g [] = false
 is_listed g (h ∷ hs) = (h == g) || is_listed g hs
 
--- Either the files were recorded for a raft group, in addition to those from before; or nothing was read of the group,
--- and nothing was recorded for it.
+-- either the files were recorded for a raft group, in addition to those from before; or nothing was read of the group,
+-- and nothing was recorded for it
 abbrev pub NotesAt : GroupFiles → Replayed → Replayed → Type 0
 NotesAt files old new =
     (new ≡ with_read_group old files) ⊎ ((old ≡ nothing_replayed) × (new ≡ nothing_replayed))
@@ -131,8 +131,8 @@ pub record CountsFrom (rs : List ReadRecord) (g n : ℕ) (s : Slot) : Type 0 whe
   pub from : n ≤ first.file
   pub spoken : IsSpoken (says s (counted g (first ∷ back)))
 
--- Each slot of raft group `g` that has content counts (`CountsFrom`) from the content's own file on; or from the first
--- file recorded for atomic groups, if such a group may reach into the content's file (`start_of`).
+-- each slot of raft group `g` that has content counts (`CountsFrom`) from the content's own file on; or from the first
+-- file recorded for atomic groups, if such a group may reach into the content's file (`start_of`)
 abbrev pub NotesCover : List ReadRecord → ℕ → Option GroupFiles → Type 0
 NotesCover rs g noted =
     (s : Slot) (c : Content Located KeyValue) → says s (counted g rs) ≡ Some (Some c)

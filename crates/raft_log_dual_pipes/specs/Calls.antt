@@ -169,7 +169,7 @@ seq_at which v num den =
 abbrev pub size_at : Which → LogPipes → ℕ
 size_at which v = min (count_at which v * (one_at which v).settings.new_files.target_size) (2 ^ 64 - 1)
 
--- if a pipe had failed before the call, it returns `Failed` and changes nothing
+-- if a pipe had failed before the call, the call returns `Failed` and changes nothing
 abbrev pub StaysFailed : {A : Type 0} → Result A Error → LogPipes → LogPipes → Type 0
 StaysFailed result v w = is_failed v ≡ true → (result ≡ Err errors.Failed) × (w ≡ v)
 

@@ -32,7 +32,7 @@ IsOrIsSettled q files = (files ≡ q) ⊎ (files ≡ settled q)
 -- - `closes`: the queue's last file holds its records. The queue is unchanged, or all its records are synced.
 -- - `settles`: if the active file was finished, all records of the queue are synced.
 -- - `below`, `below_first`: a file kept for recycling has a reserved name, or a number below the last one and below the
--- live range.
+--   live range.
 pub record ClosesBeside {R E V : Type 0} (log : TwoQueues R E V) (which : Which) (o : OpenPipes)
     (files : PipeFiles) (s : LogOnDisk R) : Type 0 where
   pub closes : (new : Disk)

@@ -32,7 +32,7 @@ abbrev pub EndsThere : Format LogRecord → PipeFiles → Disk → Type 0
 EndsThere F files d = (file : File) → d.files files.writer.handle.file ≡ Some file
     → Refuses (F.IsFrame files.active.seq (header_bytes files.active.format)) (drop files.writer.written file.content)
 
--- only zeros follow what the pipe wrote to its active file, as after an allocation
+-- only zeros follow what the pipe wrote to its active file, as an allocation leaves it
 abbrev pub IsBlankBehind : PipeFiles → Disk → Type 0
 IsBlankBehind files d = (file : File) → d.files files.writer.handle.file ≡ Some file
     → (room : ℕ) × (drop files.writer.written file.content ≡ zeros room)

@@ -32,8 +32,8 @@ EndsNumbersAt which signed error v w = error ≡ errors.NumberRange
     → SaysRecord log.says (layout_at which (queues log)) (queue_of which) signed y
     → HasLastNumber which w × (IsFull which v ⊎ Fails v.disk w.disk)
 
--- if a purge failed with `NumberRange`, a file of the live range has a number of more than sixteen digits; then the
--- pipes don't run over a log
+-- If a purge failed with `NumberRange`, a file of the live range has a number of more than sixteen digits. Such pipes
+-- run over no log, so a purge of a log never fails with `NumberRange`.
 abbrev pub EndsNumbersBelow : Which → Error → LogPipes → Type 0
 EndsNumbersBelow which error v = error ≡ errors.NumberRange
     → HasFarFile (pipe_at which (files_of v)).earlier.items

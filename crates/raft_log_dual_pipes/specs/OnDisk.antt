@@ -21,7 +21,7 @@ use Rattle.raft_log_dual_pipes.specs.OpenOrClosed.{OpenPipes, none_open, both_op
 use Rattle.raft_log_dual_pipes.specs.Reopening.{GoesOnFound, ReadsBothAgain, RestBoth, IsFoundOf}
 use Rattle.raft_log_dual_pipes.specs.Writing.{IsAtOn}
 
--- Some log is on the disk `d`, where the pipes in `o` run. Its contents are the map `m`, and then the batches in
+-- Some log is on the disk `d`. Of its pipes, those in `o` run. Its contents are the map `m`, and then the batches in
 -- `pending`, which aren't synced yet.
 pub record LogLiesOn {R E V : Type 0} (log : TwoQueues R E V) (o : OpenPipes) (d : Disk) (m : Map E V)
     (pending : List (Record E V)) : Type 0 where

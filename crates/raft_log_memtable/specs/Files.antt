@@ -25,8 +25,8 @@ first_place queue t = first_file queue (shown t)
 abbrev pub least_rewritten : Raw → Option ℕ
 least_rewritten t = lesser (first_place Rewrite t) (least_value false t.keys)
 
--- The lowest file of `queue` that the table needs: that of its lowest entry or value there. For Rewrite, it is the
--- first file of the recorded atomic groups if they may reach into that file.
+-- The lowest file of `queue` that the table needs: that of its first entry there, or of a value if this is lower. For
+-- Rewrite, it is the first file of the recorded atomic groups if they may reach into that file.
 abbrev pub min_file : LogQueue → Raw → Option ℕ
 min_file Append t = lesser (first_place Append t) (least_value true t.keys)
 min_file Rewrite t = option_map (λ n. start_of n t.noted) (least_rewritten t)

@@ -46,7 +46,7 @@ AreCounting rs counting =
     Tidy (records_of rs) → (g : ℕ) → AreHealthy (counted g rs) → counting g ≡ counts_at_end false (counted g rs)
 
 -- The context has read exactly these records of a queue.
--- - `tables`, `counting`: its tables are those of the items that take effect.
+-- - `tables`, `counting`: its tables are those of the items that take effect, and know which raft groups count.
 -- - `plain`, `fit`, `none`: in Append, all records take effect at once, the indexes of their runs are below
 --   2 ^ 64 - 1, and the tables record no files of atomic groups.
 -- - `notes`, `ends`: in Rewrite, the tables record the files of atomic groups, but none past those that were read.
@@ -106,7 +106,7 @@ MergesInto queue old later new =
 
 -- In raft group `g`, the tables show what was read of Append over what was read of Rewrite. They record the files of
 -- Rewrite's atomic groups, and none past those that were read. The group counts if an item of it took effect after its
--- last Clean, where all of Append comes after all of Rewrite.
+-- last Clean. For this, all of Append comes after all of Rewrite.
 pub record IsOverAt (rewrite append : List ReadRecord) (m : MemTables) (g : ℕ) : Type 0 where
   pub rewritten : Replayed
   pub appended : Replayed

@@ -63,8 +63,8 @@ NotesAll None test old new = (g : ℕ) → new g ≡ old g
 NotesAll (Some files) test old new =
     (g : ℕ) → (test g ≡ true → NotesAt files (old g) (new g)) × (test g ≡ false → new g ≡ old g)
 
--- The atomic group with these records took effect. The records were applied to the tables, and its files were
--- recorded for each of its raft groups. Recording the files doesn't change which groups count.
+-- The atomic group with these records took effect. The records were applied to the tables, and their files were
+-- recorded for each raft group that has items in them. Recording the files doesn't change which raft groups count.
 pub record SettlesGroup (ps : List GroupPart) (old new : MemTables) : Type 0 where
   pub between : MemTables
   pub reads : ReadsParts ps old between

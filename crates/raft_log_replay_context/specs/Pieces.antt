@@ -137,7 +137,7 @@ AllGroups P [] = Unit {0}
 AllGroups P (ps ∷ pss) = P ps.items × AllGroups P pss
 
 -- An atomic group was open: `state` has its items so far. The next segment ends it: `head` has its items there. `ps`
--- are its records from both.
+-- are the group's records from both.
 pub record GoesToEnd (φ : Reading) (state : Option (List ReadItem)) (head : Head Located KeyValue)
     (ps : List GroupPart) : Type 0 where
   pub so_far : List ReadItem

@@ -129,7 +129,8 @@ RefusedAppendHasFailed {R} {E} {V} log = AreTwoQueues log → (which : Which) (p
     queue signed (pipe_at which p) after error s.disk new
     → TellsOfCall error → Fails s.disk new
 
--- if a rotation fails with `Io`, `TryAgain` or `Failed`, a file call has failed
+-- if a rotation fails with `Io`, `TryAgain` or `Failed`, a file call has failed; of these, a rotation returns only
+-- `Failed`
 abbrev pub RefusedRotationHasFailed : {R E V : Type 0} → TwoQueues R E V → Type 0
 RefusedRotationHasFailed {R} log = AreTwoQueues log → (which : Which) (p : Pipes) (s : LogOnDisk R)
     → Run log p s → (header : List ℕ) (after : PipeFiles) (error : Error) (new : Disk)

@@ -1,5 +1,5 @@
--- What the callers of one group see of a transcript, and what one voter gives them. In this file a voter serves one
--- group. What it gives doesn't depend on other groups or on crashes.
+-- What the callers of one group see of a transcript, and what one voter gives them. In this file a voter serves the
+-- calls of one group. It knows of no other group and of no crash.
 use Rattle.std.specs.Prelude.{ℕ, ◌+◌, ◌==◌, ◌&&◌, nat_lt, Bool, true, false, not, if◌then◌else◌, List, [], ◌∷◌, ◌++◌, length, drop, slice_get, Option, None, Some}
 use Rattle.raft_voter_messages.specs.declared.reply.Reply.{Reply}
 use Rattle.raft_voter_messages.specs.declared.reply.Reply.TheVariants.{Refused}

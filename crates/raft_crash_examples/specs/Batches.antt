@@ -1,4 +1,5 @@
--- Writing two changes in one batch, and then losing power.
+-- Writing two changes in one batch, and then losing power. `disk` gives the disk of a file system's state, and `tells`
+-- which sizes it may return as a directory's free space.
 use Rattle.std.specs.Prelude.{◌≡◌, ◌⊎◌, ℕ, List, [], ◌∷◌, ◌++◌, Bool, true, Option, None}
 use Rattle.raft_log_machine_laws.specs.Fresh.{nothing_stands}
 use Rattle.raft_log_engine.specs.raft_log_model_laws.specs.Groups.{taken}
@@ -26,8 +27,8 @@ abbrev pub said_by_both : KeyChange → KeyChange → LogRecordValue
 said_by_both one other = Plain (record { group = one.group; item = word_of one.key.items one.value }
     ∷ record { group = other.group; item = word_of other.key.items other.value } ∷ [])
 
--- The log had the contents `m` before a write of the batch. Now it has `m` without the batch, `m` with it, or `m` with
--- the batch still pending. If the write succeeded, it has `m` with it.
+-- The log had the contents `m` before a write of the batch. Now its contents are `m` without the batch, `m` with the
+-- batch, or `m` with the batch still pending. If the write succeeded (`answered`), they are `m` with the batch.
 pub record MayHave (answered : Bool) (home : LogDirectories) (e : EngineState) (m : LogMap) (batch : LogRecordValue) : Type 0 where
   pub done : List LogRecordValue
   pub rest : List LogRecordValue
@@ -56,13 +57,14 @@ pub record TriesToWrite {F : Type 0} (disk : F → Disk) (tells : F → List ℕ
   pub tries : (home : LogDirectories) (m : LogMap) → HoldsFresh home pipes tables m
       → MayHave answered home engine m (said_by_both one other)
 
--- `first` and `second` are the values that two opens of the log read at the keys of the two changes.
+-- two opens of the log, each starting from `old`, read `first` at the key of one change and `second` at the key of the
+-- other
 pub record LoadsBoth {F : Type 0} (disk : F → Disk) (tells : F → List ℕ → ℕ → Type 0) (config : Config)
     (one other : KeyChange) (old : F) (first second : Option (List ℕ)) : Type 0 where
   pub of_one : Loads disk tells config one.group one.key.items old first
   pub of_other : Loads disk tells config other.group other.key.items old second
 
--- each key has the value that it has after both changes, in this order
+-- `first` and `second` are the values of the two keys after both changes, in this order, if neither had a value before
 abbrev pub AreBoth : KeyChange → KeyChange → Option (List ℕ) → Option (List ℕ) → Type 0
 AreBoth one other first second = (first ≡ value_behind one.group one.key.items (one ∷ other ∷ []) None)
     × (second ≡ value_behind other.group other.key.items (one ∷ other ∷ []) None)
@@ -71,9 +73,9 @@ AreBoth one other first second = (first ≡ value_behind one.group one.key.items
 abbrev pub IsNeither : Option (List ℕ) → Option (List ℕ) → Type 0
 IsNeither first second = (first ≡ None) × (second ≡ None)
 
--- Two changes were written in one batch, the power went, and both keys were read. Suppose that there was no log at
--- first, both settings name the same directories, and there is no CRC collision. Then both keys have the values of the
--- changes, or neither has a value. If the write succeeded, both have them.
+-- Two changes were written in one batch, there was a crash, and both keys were read. Suppose that there was no log at
+-- first, both settings name the same directories, and there is no CRC collision. Then either both keys have the values
+-- of the changes, or neither key has a value. If the write succeeded, both have the values of the changes.
 pub record WritesBothOrNeither {F : Type 0} (disk : F → Disk) (tells : F → List ℕ → ℕ → Type 0) (config : Config)
     (one other : KeyChange) (again : Config) (old : F) (answered : Bool) (first second : Option (List ℕ))
     : Type 0 where

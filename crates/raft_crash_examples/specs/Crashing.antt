@@ -1,4 +1,5 @@
--- Starting a log, saving a key's value in it, and losing power.
+-- Starting a log, saving a key's value in it, and losing power. `disk` gives the disk of a file system's state, and
+-- `tells` which sizes it may return as a directory's free space.
 use Rattle.std.specs.Prelude.{◌≡◌, ℕ, List, Option, Some}
 use Rattle.raft_log_engine.specs.raft_log_fs.specs.Disk.{Disk, empty_disk}
 use Rattle.raft_log_engine.specs.raft_log_fs.specs.Image.{IsImage}
@@ -10,8 +11,8 @@ use Rattle.raft_log_recovery_laws.specs.Running.{LeavesNoChance}
 use Rattle.raft_crash_examples.specs.Saving.{Loads, Saves}
 
 -- A value was saved in a log, on a file system that was empty before. Then there was a crash, and the key was read from
--- the image with other settings. Suppose that these name the same directories, and there is no CRC collision. Then the
--- saved value was read.
+-- the crash image with the settings `again`. Suppose that these name the same directories, and there is no CRC
+-- collision. Then the saved value was read.
 pub record SavesAcrossACrash {F : Type 0} (disk : F → Disk) (tells : F → List ℕ → ℕ → Type 0)
     (config again : Config) (group : ℕ) (key value : List ℕ) (found : Option (List ℕ)) : Type 0 where
   pub nothing : F
@@ -24,8 +25,8 @@ pub record SavesAcrossACrash {F : Type 0} (disk : F → Disk) (tells : F → Lis
   pub kept : home_of again ≡ home_of config → LeavesNoChance (home_of config) engine.pipes (disk left)
       → found ≡ Some value
 
--- A value was saved where there was no log before, and there was a crash. A read from the image, with any settings that
--- name the same directories, gives this value. This requires that there is no CRC collision.
+-- A value was saved in a new log, and then there was a crash. A read from the crash image, with any
+-- settings that name the same directories, gives this value. This requires that there is no CRC collision.
 abbrev pub SavedValuesAreLoaded : {F : Type 0} → (F → Disk) → (F → List ℕ → ℕ → Type 0) → Type 0
 SavedValuesAreLoaded {F} disk tells = (config again : Config) (group : ℕ) (key value : List ℕ) (old left : F)
     (engine : EngineState) (found : Option (List ℕ)) → IsBare config (disk old)

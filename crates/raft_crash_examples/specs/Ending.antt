@@ -38,12 +38,12 @@ LeavesWritten F files old new = (before file : File) (path : List ℕ) (id : ℕ
     → old.files files.writer.handle.file ≡ Some before → F.IsPath files.active.seq path
     → new.names path ≡ Some id → new.files id ≡ Some file → MeetsWritten F files before file
 
--- After a close of an engine with these pipes, neither queue's active file has a CRC collision.
+-- after a close of an engine with these pipes, neither queue's active file has a CRC collision
 pub record ClosesWithoutChance (home : LogDirectories) (v : LogPipes) (d : Disk) : Type 0 where
   pub append : LeavesWritten (log_in home).append.format v.append.files v.disk d
   pub rewrite : LeavesWritten (log_in home).rewrite.format v.rewrite.files v.disk d
 
--- the disk that a crash or a close of engine `e` left has no CRC collision
+-- the disk `d` that a crash or a close of engine `e` left has no CRC collision in the active file of either queue
 abbrev pub EndsWithoutChance : {C : Type 0} → LogDirectories → Ending C → EngineState → Disk → Type 0
 EndsWithoutChance home (Crash what) e d = LeavesNoChance home e.pipes d
 EndsWithoutChance home Close e d = ClosesWithoutChance home e.pipes d

@@ -7,14 +7,15 @@ use Rattle.raft_crash_examples.specs.declared.changing.KeyChange.{KeyChange}
 abbrev pub is_of : ℕ → List ℕ → KeyChange → Bool
 is_of group key c = (c.group == group) && bytes_eq c.key.items key
 
--- The value of a key after these changes, if it had `value` before. It is that of the last change of this key.
+-- the value of a key after these changes, if it had `value` before: the value of the last change of this key, or
+-- `value` if no change is of this key
 abbrev pub value_behind : ℕ → List ℕ → List KeyChange → Option (List ℕ) → Option (List ℕ)
 value_behind group key [] value = value
 value_behind group key (c ∷ cs) value = value_behind group key cs
     (if is_of group key c then option_map (λ bytes. bytes.items) c.value else value)
 
--- If the last change is one of this key, the key has the value of this change, or none if it deletes the key. If the
--- last change is one of another key, it doesn't matter for this key's value.
+-- If the last change is one of this key, the key has the value of this change, or none if the change deletes the key.
+-- If the last change is one of another key, this key has the same value as without it.
 pub record LastChangeCounts : Type 0 where
   pub own : (group : ℕ) (key : List ℕ) (cs : List KeyChange) (c : KeyChange) (value : Option (List ℕ))
       → is_of group key c ≡ true

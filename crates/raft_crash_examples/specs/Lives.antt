@@ -1,4 +1,5 @@
--- The lives of a log, each with an open, changes and an end, and the value of a key after them.
+-- The lives of a log, each with an open, changes and an end, and the value of a key after them. `disk` gives the disk
+-- of a file system's state, and `tells` which sizes it may return as a directory's free space.
 use Rattle.std.specs.Prelude.{◌≡◌, ℕ, List, [], ◌∷◌, ◌++◌, Option, None, map}
 use Rattle.raft_log_engine.specs.raft_log_model_laws.specs.Groups.{taken}
 use Rattle.raft_log_engine.specs.raft_log_fs.specs.Disk.{Disk}

@@ -1,4 +1,5 @@
--- Opening a log.
+-- Opening a log. `disk` gives the disk of a file system's state, and `tells` which sizes it may return as a directory's
+-- free space.
 use Rattle.std.specs.Prelude.{ℕ, List, []}
 use Rattle.raft_log_engine.specs.raft_log_fs.specs.Disk.{Disk}
 use Rattle.raft_log_engine.specs.raft_log_file_settings.specs.declared.config.Config.{Config}

@@ -1,4 +1,5 @@
--- Changing keys of a log, purging it, and losing power.
+-- Changing keys of a log, purging it, and losing power. `disk` gives the disk of a file system's state, and `tells`
+-- which sizes it may return as a directory's free space.
 use Rattle.std.specs.Prelude.{◌≡◌, ℕ, List, [], Option, None, map}
 use Rattle.raft_log_machine_laws.specs.Fresh.{nothing_stands}
 use Rattle.raft_log_engine.specs.raft_log_model_laws.specs.Groups.{taken}
@@ -15,8 +16,8 @@ use Rattle.raft_crash_examples.specs.Lives.{OpensAndChanges}
 use Rattle.raft_crash_examples.specs.Saving.{Loads}
 use Rattle.raft_crash_examples.specs.Standing.{CrashesWithoutChance, RunsOrIsLeft}
 
--- If the log of `s` has the contents `m`, with nothing pending, so has the log of `t`. Each of the engines runs; or it
--- has failed, and its files can be opened.
+-- The engine `t` is `s` after purges. If the log of `s` had the contents `m`, with nothing pending, so has the log of
+-- `t`. Each of the two engines runs; or it has failed, and its files can be opened.
 abbrev pub KeepsTheMap : EngineState → EngineState → Type 0
 KeepsTheMap s t = (home : LogDirectories) (m : LogMap) → RunsOrIsLeft home s m [] → RunsOrIsLeft home t m []
 
@@ -24,9 +25,9 @@ KeepsTheMap s t = (home : LogDirectories) (m : LogMap) → RunsOrIsLeft home s m
 abbrev pub map_of : List KeyChange → LogMap
 map_of changes = taken nothing_stands (map said_by changes)
 
--- Keys of a log were changed, and purges succeeded or failed. Then the power went, and a key was read. Suppose that
--- there was no log at first, both settings name the same directories, and there is no CRC collision. Then the key has
--- the value that it has after the changes.
+-- Keys of a log were changed, and purges succeeded or failed. Then there was a crash, and a key was read. Suppose that
+-- there was no log at first, both settings name the same directories, and there is no CRC collision. Then the value
+-- read is that of the key after the changes.
 pub record ReadsBehindPurges {F : Type 0} (disk : F → Disk) (tells : F → List ℕ → ℕ → Type 0) (config : Config)
     (changes : List KeyChange) (again : Config) (group : ℕ) (key : List ℕ) (old : F) (found : Option (List ℕ))
     : Type 0 where

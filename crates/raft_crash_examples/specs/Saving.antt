@@ -1,4 +1,5 @@
--- Saving a key's value in a log, and reading it from a log.
+-- Saving a key's value in a log, and reading it from a log. `disk` gives the disk of a file system's state, and `tells`
+-- which sizes it may return as a directory's free space.
 use Rattle.std.specs.Prelude.{◌≡◌, ℕ, List, [], ◌∷◌, Bool, true, Option}
 use Rattle.raft_log_engine.specs.raft_log_model_laws.specs.Groups.{taken}
 use Rattle.raft_log_engine.specs.raft_log_model_laws.specs.Item.Item.{Put}

@@ -7,9 +7,9 @@ use Rattle.raft_voter.specs.Service.{Answers, Service, uncut}
 use Rattle.raft_voter_world.specs.Stores.{Disk}
 
 -- A store was opened from files in which all voters are fresh, and it served the round `before`. Then there was a
--- crash, and a store that was opened from the image served the round `behind`. The replies to the first round are those
--- of fresh voters. The replies to the second round are those of the voters after the first round. This requires that
--- there is no CRC collision in the files that were opened, nor in the image.
+-- crash, and a store that was opened from the crash image served the round `behind`. `first` are the replies of fresh
+-- voters, `second` those of the voters after the first round. This requires that there is no CRC collision in the files
+-- that were opened, nor in the crash image.
 pub record ServesAcrossACrash {S F : Type 0} (v : Service S) (d : Disk S F) (files : F)
     (before behind : List (ℕ × Request)) (first second : List Reply) : Type 0 where
   pub store : S

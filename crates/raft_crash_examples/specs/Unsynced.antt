@@ -1,4 +1,5 @@
--- Putting a value at a key without a sync, and losing power.
+-- Putting a value at a key without a sync, and losing power. `disk` gives the disk of a file system's state, and
+-- `tells` which sizes it may return as a directory's free space.
 use Rattle.std.specs.Prelude.{◌≡◌, ◌⊎◌, ℕ, List, [], ◌∷◌, Option, Some, None}
 use Rattle.raft_log_engine.specs.raft_log_fs.specs.Disk.{Disk}
 use Rattle.raft_log_engine.specs.raft_log_fs.specs.Image.{IsImage}
@@ -42,10 +43,10 @@ pub record LoadsAndEnds {F C : Type 0} (disk : F → Disk) (tells : F → List �
   pub told : (home : LogDirectories) (m : LogMap) → HoldsFresh home pipes tables m → StandsUnder m group key found
   pub ends : Ends ending engine (disk new)
 
--- A value was put at a key without a sync, the power went, and the key was read as `first`. After more lives of the
+-- A value was put at a key without a sync, there was a crash, and the key was read as `first`. After more lives of the
 -- log, it was read as `later`. Suppose that there was no log at first, all settings name the same directories, and
--- there is no CRC collision. Then `first` is none, or the value that was put. `later` is the value that the key has
--- after the changes of these lives, if it had `first` before.
+-- there is no CRC collision. Then `first` is none or the value that was put. `later` is the key's value after the
+-- changes of these lives, if it was `first` before.
 pub record StaysAsRead {F C : Type 0} (disk : F → Disk) (tells : F → List ℕ → ℕ → Type 0) (config : Config)
     (group : ℕ) (key value : List ℕ) (look : Config) (ending : Ending C) (lives : List (Life C)) (last : Config)
     (old : F) (first later : Option (List ℕ)) : Type 0 where

@@ -32,8 +32,8 @@ KeepsBlock v block old new = (new.place ≡ Some block)
     × (((old.place ≡ Some block) × (new ≡ old))
     ⊎ (IsNotKept block old × StandsAt v block new.bytes.items × IsOk (block_of new.bytes.items)))
 
--- The errors with which caching `block` can fail: reading its bytes fails, or decoding them does, as by a wrong
--- checksum or for lack of memory.
+-- the errors with which caching `block` can fail: reading its bytes fails, or decoding them fails, for example because
+-- of a wrong checksum or for lack of memory
 abbrev pub IsBlockUnread : LogPipes → FileBlockHandle → Error → Type 0
 IsBlockUnread v block error =
     IsReadRefused (pipe_at (which_of block.id.queue) (files_of v)) block v.disk error
@@ -76,10 +76,10 @@ abbrev pub IsNoEntry : ℕ → ℕ → BlockCache → Error → Type 0
 IsNoEntry offset len cache = IsOutside offset len (entries_in cache)
 
 -- Why reading `entry` fails with `error`, and which block is cached then:
--- - the entry has no location, and the cache is unchanged
--- - its block wasn't cached, and reading it failed; no block is cached now
--- - its block is cached now, and the entry's offset and length reach past its entries
--- - its block is cached now, and the entry's bytes don't parse as a message
+-- - The entry has no location, and the cache is unchanged.
+-- - Its block wasn't cached, and reading the block failed. No block is cached now.
+-- - Its block is cached now. The entry's offset and length reach past the block's entries, or its bytes don't parse as
+--   a message, or memory ran out.
 abbrev pub IsEntryUnread : {M : Type 0} → (List ℕ → Option M) → LogPipes → EntryIndex → BlockCache → BlockCache
     → Error → Type 0
 IsEntryUnread {M} reading v entry old new error = (IsUnplaced entry error × (new ≡ old))
@@ -139,15 +139,15 @@ abbrev pub IsOfLog : State → BlockCache → Type 0
 IsOfLog s cache = (block : FileBlockHandle) → cache.place ≡ Some block
     → BlockIsStored s block × (cache.bytes.items ≡ written_block s block)
 
--- After a block of the log was read through the cache, the cache has the bytes that were written to the log there.
--- This holds for each log over which the pipes run.
+-- After a block of the log was read through the cache, the cache has the bytes that were written to the log there. This
+-- holds for each log over which the pipes run, if a block that was cached before was of this log too (`IsOfLog`).
 abbrev pub KeptBlocksAreWritten : Type 0
 KeptBlocksAreWritten = (log : LogSense) (v : LogPipes) (s : State) → RunsOn log v s
     → (old new : BlockCache) → IsOfLog s old → (block : FileBlockHandle) → BlockIsStored s block
     → KeepsBlock v block old new → IsOfLog s new × (new.bytes.items ≡ written_block s block)
 
--- A whole block was written to the log, with a right checksum. Reading it then fails only if its file can't be read or
--- memory runs out. This holds for each log over which the pipes run.
+-- A whole block was written to the log, with a right checksum. Then reading this block fails only if its file can't be
+-- read or memory runs out. This holds for each log over which the pipes run.
 abbrev pub WholeBlocksAreRead : Type 0
 WholeBlocksAreRead = (log : LogSense) (v : LogPipes) (s : State) → RunsOn log v s → (block : FileBlockHandle)
     → BlockIsStored s block → IsOk (block_of (written_block s block)) → (error : Error)

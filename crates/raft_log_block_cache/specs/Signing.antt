@@ -11,7 +11,8 @@ use Rattle.raft_log_active_file.specs.declared.record.LogRecord.{LogRecord}
 use Rattle.raft_log_dual_pipes.specs.Queues.{SaysRecord}
 use Rattle.raft_log_dual_pipes.specs.Own.{log_layout}
 
--- the bytes of the batch's record if it is written to the file of `context`, whose number its footer's checksum covers
+-- the bytes of the batch's record if it is written to the file of `context`; the checksum in the record's footer covers
+-- the number of this file
 abbrev pub signed_for : Batch → LogFileContext → List ℕ
 signed_for b context = batch_bytes (signature_of context) b.items b.entries
 
@@ -19,8 +20,8 @@ signed_for b context = batch_bytes (signature_of context) b.items b.entries
 abbrev pub record_said : Batch → LogRecord
 record_said b = record { items = map plain_item b.items; entries = b.entries }
 
--- Unless `b` is empty: for each file of a queue, `signed` gives bytes that are read in that file as one record with
--- the contents of `b`.
+-- unless `b` is empty: for each file of a queue, `signed` gives bytes that are read in this file as one record with the
+-- contents of `b`
 abbrev pub SaysItself : (LogFileContext → List ℕ) → Batch → Type 0
 SaysItself signed b = (b.items ≡ [] → ⊥) → (says : LogRecord → Record (List ℕ) (List ℕ)) (queue : LogQueue)
     (directories : List (List ℕ))

@@ -1,4 +1,4 @@
--- Which bytes a log has at each location: those that were written to the file there, as its header and records.
+-- Which bytes a log has at each location: those that were written there as the file's header and records.
 use Rattle.std.specs.Prelude.{◌≡◌, ℕ, ◌+◌, ◌-◌, ◌≤◌, Bool, true, false, cond, List, [], ◌∷◌, ◌++◌, length, take, drop, IsOk}
 use Rattle.std.proofs.Common.{nat_eq}
 use Rattle.raft_log_model_laws.specs.Groups.{Map}
@@ -71,7 +71,7 @@ IsStored s l = EntryLiesIn (queue_in s l.appended) l.place
 abbrev pub AreStored : {R : Type 0} → LogOnDisk R → (ℕ → Shown) → Type 0
 AreStored s v = (g : ℕ) → Each (IsStored s) (located (v g).rewritten (v g).places)
 
--- `p` has at least the files of `q`, and each file of `q` has the same bytes in `p`, perhaps with more appended.
+-- `p` has at least the files of `q`, and each file of `q` has the same bytes in `p`, perhaps with more after them
 pub record KeepsBytes {R : Type 0} (q p : LogFiles R) : Type 0 where
   pub last : q.last ≤ p.last
   pub files : (n : ℕ) → n ≤ q.last → (more : List ℕ) × (file_bytes p n ≡ file_bytes q n ++ more)
@@ -91,21 +91,21 @@ pub record CallsKeepBytes (R : Type 0) : Type 0 where
   pub settled : (q : LogFiles R) → KeepsBytes q (settled q)
 
 -- From `s` to `t`, the files of both queues keep the bytes that were written to them. Neither live range begins at a
--- later file.
+-- later file than before.
 pub record KeepsLog {R : Type 0} (s t : LogOnDisk R) : Type 0 where
   pub append : KeepsBytes s.append.files t.append.files
   pub rewrite : KeepsBytes s.rewrite.files t.rewrite.files
   pub append_first : t.append.first ≤ s.append.first
   pub rewrite_first : t.rewrite.first ≤ s.rewrite.first
 
--- If a call on one queue keeps the bytes that were written to its files, the whole log keeps its bytes. Neither live
--- range begins at a later file.
+-- if a call on one queue keeps the bytes that were written to the queue's files, the log after the call (`next_log`)
+-- keeps its bytes
 abbrev pub CallsKeepLog : Type 0 → Type 0
 CallsKeepLog R = (which : Which) (s : LogOnDisk R) (files : LogFiles R) (d : Disk)
     → KeepsBytes (spanned_at which s).files files → KeepsLog s (next_log which s files d)
 
--- While the log keeps its bytes, entries that the tables show stay in the log at their locations. If the tables and
--- these bytes gave the contents `m`, they still do.
+-- If the log keeps its bytes from `s` to `t`, entries that the tables show stay in the log at their locations. If the
+-- tables and the bytes of `s` gave the contents `m`, the tables and the bytes of `t` give them too.
 abbrev pub StoredEntriesStay : Type 0 → Type 0
 StoredEntriesStay R = (s t : LogOnDisk R) → KeepsLog s t → (v : ℕ → Shown) → AreStored s v
     → AreStored t v × ((m : Map (List ℕ) (List ℕ)) → AreMeant (entries_at s) v m → AreMeant (entries_at t) v m)

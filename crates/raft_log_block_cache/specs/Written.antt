@@ -32,8 +32,8 @@ RunIsStored s x = Unit {0}
 abbrev pub RunsAreStored : {R : Type 0} → LogOnDisk R → List (Tagged Place (List ℕ)) → Type 0
 RunsAreStored s xs = (g : ℕ) → Each (RunIsStored s) (of_group g xs)
 
--- Assume that the tables' entries are in the log, and a batch's entries are in Append. After the tables apply the
--- batch, all their entries are in the log.
+-- Assume that the tables' entries are in the log, and a batch's entries are in Append. The batch may follow what the
+-- tables show. After the tables apply the batch, all their entries are in the log.
 abbrev pub TakenEntriesAreStored : Type 0 → Type 0
 TakenEntriesAreStored R = (s : LogOnDisk R) (n : ℕ) (v : ℕ → Shown) (xs : List (Tagged Place (List ℕ)))
     → ((g : ℕ) → IsOrderly (v g)) → MayFollowAll v xs → AreStored s v → RunsAreStored s xs
@@ -59,8 +59,9 @@ WrittenEntriesAreStored R = (s : LogOnDisk R) (said : R) (block : FileBlockHandl
     → RunsAreStored s (placed_items block items entries)
     × (all_written (entries_at s) (placed_items block items entries) ≡ tagged_items (entry_bytes entries) items)
 
--- If a batch may follow what the tables show, it may follow in any file `n` of Append. For each `n` there is a view,
--- locations and contents, that the tables can get by applying the batch.
+-- If a batch may follow what the tables show, it may be written to any file `n` of Append: for each `n`, some view `u`
+-- is the tables' view after the batch with the record `y` was appended to file `n`. The tables' entries must be in the
+-- log.
 abbrev pub AnyFileMayTakeIt : Type 0 → Type 0
 AnyFileMayTakeIt R = (s : LogOnDisk R) (v : ℕ → Shown) (m : Map (List ℕ) (List ℕ)) (items : List LogItem)
     (entries : List ℕ) (y : Record (List ℕ) (List ℕ)) → AreMeant (entries_at s) v m → AreStored s v

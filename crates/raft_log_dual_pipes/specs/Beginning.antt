@@ -13,12 +13,12 @@ use Rattle.raft_log_dual_pipes.specs.State.{Spanned, LogOnDisk, Ties}
 use Rattle.raft_log_dual_pipes.specs.Crash.{readings_of}
 use Rattle.raft_log_dual_pipes.specs.Turning.{in_span}
 
--- a queue that has just begun: its live range consists of file 1, with this header and no record; zeros may be
--- allocated in it
+-- A queue that has just begun: its live range consists of file 1, with this header and no record. `room` zeros may be
+-- allocated in it. `older` doesn't matter, as there are no earlier files.
 abbrev pub begun_queue : {R : Type 0} → (ℕ → Past R) → List ℕ → ℕ → Spanned R
 begun_queue older header room = record { first = 1; files = with_room room (fresh_queue older header) }
 
--- if both queues have just begun and have no file 0, the log's numbered files are those in which nothing was written
+-- if both queues have just begun and have no file 0, the log's numbered files are one empty file 1 for each queue
 abbrev pub BegunLogIsEmpty : {R E V : Type 0} → TwoQueues R E V → Type 0
 BegunLogIsEmpty {R} log = (append rewrite : Spanned R) (d : Disk)
     → ((older : ℕ → Past R) × (header : List ℕ) × (room : ℕ) × (append ≡ begun_queue older header room))
@@ -30,13 +30,13 @@ BegunLogIsEmpty {R} log = (append rewrite : Spanned R) (d : Disk)
 abbrev pub HasNoFile : {R : Type 0} → Format R → Disk → Type 0
 HasNoFile F d = (m : ℕ) → m < F.limit → IsAbsent F m d
 
--- if a disk has no file of either queue, then a log on it is empty and has no pending batch
+-- if a disk has no file of either queue, the contents of a log on it are the empty map, and no batch is pending
 abbrev pub NoFilesAreNothing : {R E V : Type 0} → TwoQueues R E V → Type 0
 NoFilesAreNothing {R} log = (s : LogOnDisk R) → HasNoFile log.append.format s.disk
     → HasNoFile log.rewrite.format s.disk → IsLogOf (readings_of log) s nothing_stands []
 
--- The log that a stop left as `image`. It has the durable records of both queues, the first `append` pending records of
--- Append, and the first `rewrite` ones of Rewrite, all durable now.
+-- The log `s` after a stop that left the disk `image`. It has the durable records of both queues, the first `append`
+-- pending records of Append, and the first `rewrite` pending records of Rewrite. All of these are durable now.
 abbrev pub stopped_log : {R : Type 0} → LogOnDisk R → ℕ → ℕ → Disk → LogOnDisk R
 stopped_log s append rewrite image = record {
   append = in_span s.append (kept_to append s.append.files);

@@ -1,5 +1,5 @@
--- What each call on a log's pipes does to a log over which they run: to its files and to its numbered files, which are
--- how the model of the log sees them.
+-- What each call on a log's pipes does to a log over which they run: to its files, and to its numbered files, which are
+-- how the model sees these files. `v` are the pipes before the call, `w` after it. `s` is the log before the call.
 use Rattle.std.specs.Prelude.{◌≡◌, ◌⊎◌, ◌↔◌, IsTrue, ℕ, ◌+◌, ◌-◌, ◌*◌, ◌/◌, ◌^◌, min, suc, true, None, Err, Result, List, length}
 use Rattle.raft_log_fs.specs.Causes.{Fails}
 use Rattle.raft_log_fs.specs.Exits.{IsUnarmed}
@@ -22,8 +22,9 @@ use Rattle.raft_log_dual_pipes.specs.PerQueue.{LeavesRaised}
 use Rattle.raft_log_dual_pipes.specs.Failing.{failed_pipe}
 use Rattle.raft_log_dual_pipes.specs.Pipes.{LogPipes, LogSense, RunsOn, LogRecordValue, State, files_of, header_at, is_failed, one_at, queue_of, queues, spares_at}
 
--- If the pipes ran over a log, a record was written, and they run over the log with it. It is the last record of its
--- queue, at the location `block`, maybe after a rotation. The numbered files get it in the file of this location.
+-- An append succeeded. If the pipes ran over a log, they still do, and the record is the last one of its queue, at the
+-- location `block`. The queue may have rotated before the write. The numbered files get the record in the file of this
+-- location. `signed` gives the record's bytes for a file, and `y` is the model's record for it.
 abbrev pub AppendsTo : Which → (LogFileContext → List ℕ) → FileBlockHandle → LogPipes → LogPipes → Type 0
 AppendsTo which signed block v w = (log : LogSense) (s : State) (y : LogRecordValue) → RunsOn log v s
     → (said : SaysRecord log.says (layout_at which (queues log)) (queue_of which) signed y)
@@ -32,7 +33,7 @@ AppendsTo which signed block v w = (log : LogSense) (s : State) (y : LogRecordVa
     × HasLast signed said.value block files × RunsOn log w (next_log which s files w.disk)
     × Appends (Ties (queues log)) which y block.id.seq s (next_log which s files w.disk))
 
--- A record's write failed, and what was written of it was truncated away. The pipes still run over the log. All that
+-- A record's write failed, and the part that was written was truncated away. The pipes still run over the log. All that
 -- was written to the queue before is synced, and the queue may have rotated.
 abbrev pub CutsBackOn : LogSense → Which → State → LogPipes → LogPipes → Type 0
 CutsBackOn log which s v w = (files : LogFiles LogRecord)
@@ -40,8 +41,8 @@ CutsBackOn log which s v w = (files : LogFiles LogRecord)
     × RunsOn log w (next_log which s files w.disk)
     × CutsBack (Ties (queues log)) which s (next_log which s files w.disk)
 
--- No record was added, and the pipes still run over the log. The queue is unchanged; or it may have rotated, and all
--- its records are synced.
+-- No record was added, and the pipes still run over the log. Either the queue is unchanged, or all its records are
+-- synced, perhaps after a rotation.
 abbrev pub LeavesOutOn : LogSense → Which → State → LogPipes → LogPipes → Type 0
 LeavesOutOn log which s v w = (files : LogFiles LogRecord)
     × ((files ≡ (spanned_at which s).files)
@@ -49,8 +50,8 @@ LeavesOutOn log which s v w = (files : LogFiles LogRecord)
     × RunsOn log w (next_log which s files w.disk)
     × LeavesOut (Ties (queues log)) which s (next_log which s files w.disk)
 
--- The pipe of one queue has failed. The log is on the disk, from which it may be opened again, with the record or
--- without it.
+-- The pipe of one queue has failed in an append. The log is on the disk, with the record or without it, and may be
+-- opened again from there.
 abbrev pub MayContain : LogSense → Which → State → LogRecordValue → LogPipes → LogPipes → Type 0
 MayContain log which s y v w = LeavesQueue (queues log) which (both_open (files_of v)) None s w.disk
     (λ files. IsOrGoesOn (header_at which v) (spares_at which v) s.disk (spanned_at which s).files files
@@ -59,9 +60,9 @@ MayContain log which s y v w = LeavesQueue (queues log) which (both_open (files_
     (MayAppend (Ties (queues log)) (Ties (queues log)) which y)
 
 -- What a failed append leaves.
--- - `Io`, `TryAgain`: a file call failed, and what was written of the record was truncated away.
+-- - `Io`, `TryAgain`: a file call failed, and the part of the record that was written was truncated away.
 -- - `NumberRange`, `Memory`: no record was added.
--- - `Failed`: a file call failed, and then the pipe, so the record may be there or not.
+-- - `Failed`: a file call failed, and the pipe has failed. The record may be there or not.
 abbrev pub RefusalLeaves : LogSense → Which → State → LogRecordValue → LogPipes → LogPipes → Error → Type 0
 RefusalLeaves log which s y v w (errors.Io kind) = Fails v.disk w.disk × CutsBackOn log which s v w
 RefusalLeaves log which s y v w (errors.TryAgain text) = Fails v.disk w.disk × CutsBackOn log which s v w
@@ -70,13 +71,14 @@ RefusalLeaves log which s y v w errors.Memory = LeavesOutOn log which s v w
 RefusalLeaves log which s y v w errors.Failed = Fails v.disk w.disk × MayContain log which s y v w
 RefusalLeaves log which s y v w _ = ⊥
 
--- if the pipes ran over a log, an append to it failed, and left what `RefusalLeaves` says for its error
+-- An append failed. If the pipes ran over a log, the append left what `RefusalLeaves` says for its error.
 abbrev pub FailsToAppendTo : Which → (LogFileContext → List ℕ) → Error → LogPipes → LogPipes → Type 0
 FailsToAppendTo which signed error v w = (log : LogSense) (s : State) (y : LogRecordValue) → RunsOn log v s
     → SaysRecord log.says (layout_at which (queues log)) (queue_of which) signed y
     → RefusalLeaves log which s y v w error
 
--- if the pipes ran over a log, a queue of it was synced: all its records are durable, and the pipes run over the log
+-- The sync of one queue succeeded. If the pipes ran over a log, they still do, and all records of this queue are
+-- durable.
 abbrev pub SyncsQueue : Which → LogPipes → LogPipes → Type 0
 SyncsQueue which v w = (log : LogSense) (s : State) → RunsOn log v s
     → RunsOn log w (next_log which s (synced (spanned_at which s).files) w.disk)
@@ -92,8 +94,8 @@ FailsToSyncQueue which v w = (log : LogSense) (s : State) → RunsOn log v s
     × FailsWhole (Ties (queues log)) (Ties (queues log)) s
     (next_log which s (spanned_at which s).files w.disk)
 
--- if the pipes ran over a log, a queue of it rotated: all that was written to it before is synced, and the pipes run
--- over the log
+-- The rotation of one queue succeeded. If the pipes ran over a log, they still do. All that was written to this queue
+-- before is synced.
 abbrev pub RotatesQueue : Which → LogPipes → LogPipes → Type 0
 RotatesQueue which v w = (log : LogSense) (s : State) → RunsOn log v s → (files : LogFiles LogRecord)
     × GoesOnInNext (header_at which v) (spares_at which v) s.disk (spanned_at which s).files files
@@ -106,8 +108,8 @@ LeavesSame log s v w = RunsOn log w s × (w.disk ≡ v.disk)
 
 -- What a failed rotation leaves.
 -- - `Memory`, `NumberRange`: the same log, over which the pipes run.
--- - `Failed`: a file call failed, and then the pipe. The queue may have rotated or not. The log is on the disk and may
--- be opened again.
+-- - `Failed`: a file call failed, and the pipe has failed. The queue may have rotated or not. The log is on the disk
+--   and may be opened again.
 abbrev pub TurnLeaves : LogSense → Which → State → LogPipes → LogPipes → Error → Type 0
 TurnLeaves log which s v w errors.Memory = LeavesSame log s v w
 TurnLeaves log which s v w errors.NumberRange = LeavesSame log s v w
@@ -117,22 +119,22 @@ TurnLeaves log which s v w errors.Failed = Fails v.disk w.disk
     (FailsMoved (Ties (queues log)) (Ties (queues log)) which)
 TurnLeaves log which s v w _ = ⊥
 
--- if the pipes ran over a log, a rotation of one of its queues failed, and left what `TurnLeaves` says for its error
+-- A rotation of one queue failed. If the pipes ran over a log, the rotation left what `TurnLeaves` says for its error.
 abbrev pub FailsToRotateQueue : Which → Error → LogPipes → LogPipes → Type 0
 FailsToRotateQueue which error v w = (log : LogSense) (s : State) → RunsOn log v s
     → TurnLeaves log which s v w error
 
--- If the pipes ran over a log, the files below `seq` have left the live range of one of its queues. The pipes still run
--- over the log.
+-- The purge of one queue succeeded. If the pipes ran over a log, they still do, and the files below `seq` have left the
+-- queue's live range.
 abbrev pub PurgesQueue : Which → ℕ → LogPipes → LogPipes → Type 0
 PurgesQueue which seq v w = (log : LogSense) (s : State) → RunsOn log v s
     → RunsOn log w (raised_log which s seq w.disk)
     × Raises (Ties (queues log)) (Ties (queues log)) which seq s (raised_log which s seq w.disk)
 
 -- What a failed purge leaves.
--- - `Memory`, `Other`, `NumberRange`: the same log, over which the pipes run.
--- - `Failed`: a file call failed, and then the pipe. The files have left the live range all the same. The log is on the
--- disk and may be opened again.
+-- - `Memory`, `NumberRange`, and `Other` (`seq` isn't in the live range): the same log, over which the pipes run.
+-- - `Failed`: a file call failed, and the pipe has failed. The files below `seq` have left the live range all the same.
+--   The log is on the disk and may be opened again.
 abbrev pub PurgeLeavesOn : LogSense → Which → ℕ → State → LogPipes → LogPipes → Error → Type 0
 PurgeLeavesOn log which seq s v w errors.Memory = LeavesSame log s v w
 PurgeLeavesOn log which seq s v w (errors.Other fault) =
@@ -142,7 +144,7 @@ PurgeLeavesOn log which seq s v w errors.Failed = Fails v.disk w.disk
     × LeavesRaised (queues log) which (both_open (files_of v)) None s seq w.disk
 PurgeLeavesOn log which seq s v w _ = ⊥
 
--- if the pipes ran over a log, a purge of one of its queues failed, and left what `PurgeLeavesOn` says for its error
+-- A purge of one queue failed. If the pipes ran over a log, the purge left what `PurgeLeavesOn` says for its error.
 abbrev pub FailsToPurgeQueue : Which → ℕ → Error → LogPipes → LogPipes → Type 0
 FailsToPurgeQueue which seq error v w = (log : LogSense) (s : State) → RunsOn log v s
     → PurgeLeavesOn log which seq s v w error
@@ -157,17 +159,17 @@ IsSpanOf which v first last = (log : LogSense) (s : State) → RunsOn log v s
 abbrev pub count_at : Which → LogPipes → ℕ
 count_at which v = suc (length (pipe_at which (files_of v)).earlier.items)
 
--- The number of the file that follows the fraction `num / den` of the live range's files, but at most 2^64 - 1. For the
--- whole range it is the number after the last file.
+-- The number of the first file after a fraction of a queue's live range: `num / den` of its files, rounded down. For
+-- the whole range this is the number after the last file. The number is at most 2^64 - 1.
 abbrev pub seq_at : Which → LogPipes → ℕ → ℕ → ℕ
 seq_at which v num den =
     min ((pipe_at which (files_of v)).first_seq + count_at which v * num / den) (2 ^ 64 - 1)
 
--- the total size of the live range's files, if each has the target size, but at most 2^64 - 1
+-- the total size of the files in a queue's live range, if each of them has the target size; at most 2^64 - 1
 abbrev pub size_at : Which → LogPipes → ℕ
 size_at which v = min (count_at which v * (one_at which v).settings.new_files.target_size) (2 ^ 64 - 1)
 
--- if a pipe had failed before the call, it returns `Failed` and changes nothing
+-- if a pipe had failed before the call, the call returns `Failed` and changes nothing
 abbrev pub StaysFailed : {A : Type 0} → Result A Error → LogPipes → LogPipes → Type 0
 StaysFailed result v w = is_failed v ≡ true → (result ≡ Err errors.Failed) × (w ≡ v)
 

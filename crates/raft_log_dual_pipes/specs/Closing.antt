@@ -29,10 +29,10 @@ abbrev pub IsOrIsSettled : {R : Type 0} → LogFiles R → LogFiles R → Type 0
 IsOrIsSettled q files = (files ≡ q) ⊎ (files ≡ settled q)
 
 -- What closing the pipe of one queue leaves, whatever the state of the other queue.
--- - `closes`: the queue's last file holds its records, and all of them may be synced.
--- - `settles`: if the active file was finished, they are all synced.
+-- - `closes`: the queue's last file holds its records. The queue is unchanged, or all its records are synced.
+-- - `settles`: if the active file was finished, all records of the queue are synced.
 -- - `below`, `below_first`: a file kept for recycling has a reserved name, or a number below the last one and below the
--- live range.
+--   live range.
 pub record ClosesBeside {R E V : Type 0} (log : TwoQueues R E V) (which : Which) (o : OpenPipes)
     (files : PipeFiles) (s : LogOnDisk R) : Type 0 where
   pub closes : (new : Disk)
@@ -55,8 +55,9 @@ abbrev pub CloseIsAStep : {R E V : Type 0} → TwoQueues R E V → Type 0
 CloseIsAStep {R} log = AreTwoQueues log → (which : Which) (o : OpenPipes) (files : PipeFiles)
     (s : LogOnDisk R) → IsOpenOrClosed log (with_open which o (Some files)) s → ClosesBeside log which o files s
 
--- The pipe of a queue is closed, and the files that it kept for recycling got reserved names or failed to. If those
--- with a number were below the live range, the queue loses nothing, and the log's numbered files are the same.
+-- The pipe of a queue is closed, and the files that it kept for recycling (`kept`) got reserved names or failed to.
+-- Premise: those with a number are below the live range. Then the queue's last file still holds its records, and the
+-- log's numbered files are the same.
 abbrev pub NamesAreReserved : {R E V : Type 0} → TwoQueues R E V → Type 0
 NamesAreReserved {R} log = AreTwoQueues log → (which : Which) (o : OpenPipes) (kept : List Listed)
     (s : LogOnDisk R) (new : Disk) → IsOpenOrClosed log (with_open which o None) s
@@ -67,8 +68,8 @@ NamesAreReserved {R} log = AreTwoQueues log → (which : Which) (o : OpenPipes) 
     × IsOpenOrClosed log (with_open which o None) (next_log which s (spanned_at which s).files new)
     × FailsWhole (Ties log) (Ties log) s (next_log which s (spanned_at which s).files new)
 
--- The disks that a close of both pipes goes through. It finishes the active files, Append's first. Then it renames the
--- files kept for recycling, Append's first. Each of these steps may fail, and its queue keeps its records.
+-- The disks that a close of both pipes goes through. The close finishes the active files, Append's first. Then it
+-- renames the files kept for recycling, Append's first. Even if one of these steps fails, its queue keeps its records.
 pub record ClosesBoth {R E V : Type 0} (log : TwoQueues R E V) (p : Pipes) (old new : Disk) : Type 0 where
   pub one : Disk
   pub two : Disk
@@ -83,8 +84,9 @@ abbrev pub closed_log : {R : Type 0} → LogOnDisk R → LogFiles R → LogFiles
 closed_log s append rewrite d =
     record { append = in_span s.append append; rewrite = in_span s.rewrite rewrite; disk = d }
 
--- The closed log is on the disk `new`. The files of each queue are unchanged, or all its records are synced now. What
--- an engine's contracts stated of the log is still true, except that a prefix of the pending batches may be synced now.
+-- The closed log is on the disk `new`. The files of each queue are unchanged, or all its records are synced now.
+-- - `moves`: the numbered files have changed by quiet events.
+-- - `ends`: a view that was true of the log still is, except that a prefix of the pending batches may be synced now.
 pub record LiesClosed {R E V : Type 0} (log : TwoQueues R E V) (s : LogOnDisk R) (new : Disk) : Type 0 where
   pub append : LogFiles R
   pub rewrite : LogFiles R

@@ -12,8 +12,8 @@ use Rattle.raft_log_machine_laws.specs.DirectoryImages.{Readings, Allows, empty_
 use Rattle.raft_log_dual_pipes.specs.Queues.{TwoQueues, AreTwoQueues}
 use Rattle.raft_log_dual_pipes.specs.State.{LogOnDisk, HoldsBoth, Ties}
 
--- A crash of the log `s` may leave `image`. The disk is a crash image, without a CRC collision in the last file of
--- either queue. Both live ranges begin at the same numbers.
+-- A crash of the log `s` may leave the log `image`. The disk of `image` is a crash image of the disk of `s`, without a
+-- CRC collision in the last file of either queue. Each queue's live range begins at the same number as in `s`.
 pub record IsLeftByCrash {R E V : Type 0} (log : TwoQueues R E V) (s image : LogOnDisk R) : Type 0 where
   pub disk : IsImage s.disk image.disk
   pub append : NoChanceInLast log.append.format s.append.files s.disk image.disk
@@ -27,8 +27,8 @@ abbrev pub IsReadAs : {R E V : Type 0} → (R → Record E V) → ℕ → List (
 IsReadAs says s [] files = (s ≡ 1) × (files ≡ empty_file ∷ [])
 IsReadAs says s (f ∷ fs) files = files ≡ map (logged says) (f ∷ fs)
 
--- a recovery may begin at the number `s`, at or before the live range's first file, and then reads `files`, up to the
--- last one
+-- a recovery may begin at the file number `s`, which isn't above `first`, the first number of the live range; from
+-- there it reads `files`, up to the queue's last file
 abbrev pub MayRead : {R E V : Type 0} → (R → Record E V) → Format R → ℕ → Disk → ℕ → List (LogFile E V)
     → Type 0
 MayRead {R} says F first d s files =
@@ -42,8 +42,8 @@ readings_of log = record {
   append = λ image s files. MayRead log.says log.append.format image.append.first image.disk s files;
 }
 
--- after any crash of the log `s`, a recovery reads what the numbered files `f` allow: they may lose only some last
--- unsynced records of each queue
+-- after any crash of the log `s`, a recovery reads what the numbered files `f` allow: only the newest unsynced records
+-- of each queue may be missing
 abbrev pub AllowsIn : {R E V : Type 0} → TwoQueues R E V → LogOnDisk R → Files E V → Type 0
 AllowsIn log s f = Allows (readings_of log) s f
 

@@ -1,4 +1,4 @@
--- A pipe fails while an engine uses both: then the log is on the disk, and may be opened again.
+-- What is on the disk after one of the two pipes of an engine fails: a log that may be opened again.
 use Rattle.std.specs.Prelude.{◌≡◌, ℕ, ◌⊎◌, None, List, [], ◌∷◌, ◌++◌}
 use Rattle.raft_log_model_laws.specs.Item.{Record}
 use Rattle.raft_log_model_laws.specs.Groups.{Map, taken}
@@ -55,7 +55,7 @@ pub record FailedPipeLeavesALog {R E V : Type 0} (log : TwoQueues R E V) (p : Pi
       → LogEndsLying log (failed_pipe InAppend p) new m pending
       ⊎ LogEndsLying log (failed_pipe InAppend p) new m (pending ++ y ∷ [])
 
--- `FailedPipeLeavesALog` holds for the log of each engine whose view is true of it
+-- `FailedPipeLeavesALog` holds for each log over which pipes run, and of which an engine's view is true
 abbrev pub FailedPipesLeaveLogs : {R E V : Type 0} → TwoQueues R E V → Type 0
 FailedPipesLeaveLogs {R} {E} {V} log = AreTwoQueues log → (p : Pipes) (old : Disk) (v : View E V)
     (m : Map E V) (pending : List (Record E V)) → IsAtOn log p old v m pending

@@ -19,8 +19,10 @@ abbrev pub IsNextIfFull : Which → LogPipes → ℕ → Type 0
 IsNextIfFull which v n = (IsFull which v × (n ≡ suc (last_of which v)))
     ⊎ ((IsFull which v → ⊥) × (n ≡ last_of which v))
 
--- The active file after a failed append. With `Io` it is the one that the record was to be written to. With `TryAgain`
--- it is the next one after that.
+-- The active file after a failed append.
+-- - `Io`: the file that the record was to be written to.
+-- - `TryAgain`: the next file after that.
+-- - Other errors: nothing is stated.
 abbrev pub TurnsBehind : Which → Error → LogPipes → LogPipes → Type 0
 TurnsBehind which (errors.Io kind) v w = IsNextIfFull which v (last_of which w)
 TurnsBehind which (errors.TryAgain text) v w =

@@ -32,7 +32,7 @@ abbrev pub EndsThere : Format LogRecord → PipeFiles → Disk → Type 0
 EndsThere F files d = (file : File) → d.files files.writer.handle.file ≡ Some file
     → Refuses (F.IsFrame files.active.seq (header_bytes files.active.format)) (drop files.writer.written file.content)
 
--- only zeros follow what the pipe wrote to its active file, as after an allocation
+-- only zeros follow what the pipe wrote to its active file, as an allocation leaves it
 abbrev pub IsBlankBehind : PipeFiles → Disk → Type 0
 IsBlankBehind files d = (file : File) → d.files files.writer.handle.file ≡ Some file
     → (room : ℕ) × (drop files.writer.written file.content ≡ zeros room)
@@ -42,11 +42,10 @@ abbrev pub KeepsOwn : PipeFiles → Disk → Disk → Type 0
 KeepsOwn files d image = (file after : File) → d.files files.writer.handle.file ≡ Some file
     → image.files files.writer.handle.file ≡ Some after → after.content ≡ file.content
 
--- When a crash image has no CRC collision in a pipe's active file.
--- - `kept`: if no record begins after the file's records, and the image has its content unchanged.
--- - `blank`: if only zeros follow the records, no record begins after them.
--- - `syncs`: if no record begins there, none does after a sync.
--- - `synced`: right after a sync each image has the file's content unchanged.
+-- Why a crash image has no CRC collision in a pipe's active file.
+-- - `kept`: no record begins after what the pipe wrote, and the image has the file's content unchanged.
+-- - `blank`, `syncs`: no record begins there if only zeros follow, or if none began there before a sync.
+-- - `synced`: right after a sync, each crash image has the file's content unchanged.
 pub record StandingFilesMeetIt : Type 0 where
   pub kept : (queue : LogQueue) (directories : List (List ℕ)) → 0 < length directories → (base : Disk)
       (files : PipeFiles) (q : LogFiles LogRecord) (d : Disk) → IsPipeIn queue directories base files q d
@@ -94,9 +93,9 @@ pub record CallsLeaveRoom : Type 0 where
 
 -- Recycled files.
 
--- An oldest file kept for recycling whose reuse leaves no CRC collision. It has a number of the queue, not a reserved
--- name. It begins with the header of the next files, whose records are signed. Its number and the next one differ in
--- their low 32 bits.
+-- The next rotation uses the oldest file kept for recycling, and this leaves no CRC collision (`UsedFilesMeetIt`). The
+-- file has a number of the queue, not a reserved name. It begins with the header that new files get, of version 2. Its
+-- number and the queue's next one differ in their low 32 bits.
 pub record NextIsUsed (F : Format LogRecord) (format : LogFileFormat) (files : PipeFiles) (d : Disk) : Type 0 where
   pub oldest : Listed
   pub others : List Listed
@@ -106,8 +105,9 @@ pub record NextIsUsed (F : Format LogRecord) (format : LogFileFormat) (files : P
   pub headed : HasFile oldest.handle.file (λ file. HasHeader F (header_bytes format) file.content) d
   pub apart : AreApart oldest.seq (suc files.active.seq)
 
--- Right after a rotation into such a file, no record begins after the new header, whatever bytes the file held before.
--- Right after any rotation, each crash image has the active file unchanged.
+-- Why a crash image has no CRC collision in the active file right after a rotation.
+-- - `ends`: after a rotation into a recycled file as in `NextIsUsed`, no record begins after the new header.
+-- - `stands`: after any rotation, each crash image has the active file's content unchanged.
 pub record UsedFilesMeetIt : Type 0 where
   pub ends : (queue : LogQueue) (directories : List (List ℕ)) → 0 < length directories → (base : Disk)
       (q : LogFiles LogRecord) (format : LogFileFormat) (before after : PipeFiles) (old new : Disk)

@@ -25,15 +25,15 @@ abbrev pub IsFull : Which → LogPipes → Type 0
 IsFull which v = (one_at which v).settings.new_files.target_size ≤ (pipe_at which (files_of v)).writer.written
 
 -- If the pipes ran over a log and an append failed with `NumberRange`, the active file has the last number now. The
--- queue had to rotate: the active file was full, or a file call failed, as for lack of space.
+-- queue had to rotate: the active file was full, or a file call failed, for example for lack of space.
 abbrev pub EndsNumbersAt : Which → (LogFileContext → List ℕ) → Error → LogPipes → LogPipes → Type 0
 EndsNumbersAt which signed error v w = error ≡ errors.NumberRange
     → (log : LogSense) (s : State) (y : LogRecordValue) → RunsOn log v s
     → SaysRecord log.says (layout_at which (queues log)) (queue_of which) signed y
     → HasLastNumber which w × (IsFull which v ⊎ Fails v.disk w.disk)
 
--- if a purge failed with `NumberRange`, a file of the live range has a number of more than sixteen digits; then the
--- pipes don't run over a log
+-- If a purge failed with `NumberRange`, a file of the live range has a number of more than sixteen digits. Such pipes
+-- run over no log, so a purge of a log never fails with `NumberRange`.
 abbrev pub EndsNumbersBelow : Which → Error → LogPipes → Type 0
 EndsNumbersBelow which error v = error ≡ errors.NumberRange
     → HasFarFile (pipe_at which (files_of v)).earlier.items

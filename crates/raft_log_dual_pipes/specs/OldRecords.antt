@@ -25,9 +25,9 @@ pub record BeginsOld (F : Format LogRecord) (number : ℕ) (header bytes : List 
   pub rest : List ℕ
   pub are : bytes ≡ old.bytes ++ rest
 
--- In a file of version 2, bytes that begin with such an old record begin with no record of this file (`one`). This
--- doesn't depend on the old record's entries or on the bytes after it. The same holds for bytes that are old records of
--- one other file, then zeros (`all`).
+-- In a file of version 2, bytes that begin with an old record (`BeginsOld`) begin with no record of this file (`one`).
+-- This doesn't depend on the old record's entries or on the bytes after it. The same holds for bytes that are old
+-- records of one other file, then zeros (`all`).
 pub record OldRecordsBeginNoRecord : Type 0 where
   pub one : (queue : LogQueue) (directories : List (List ℕ)) (format : LogFileFormat) → format.version ≡ V2
       → (number : ℕ) (bytes : List ℕ) → BeginsOld (log_format queue directories) number (header_bytes format) bytes

@@ -18,7 +18,8 @@ use Rattle.raft_log_dual_pipes.specs.Crash.{readings_of, AllowsIn}
 use Rattle.raft_log_dual_pipes.specs.Beginning.{begun_queue}
 use Rattle.raft_log_dual_pipes.specs.Steps.{next_log}
 
--- no file of the queue was created yet, and the queue may begin on the disk `d`; `q` are its files once it has begun
+-- No file of the queue was created yet, and the queue may begin on the disk `d`. `q` is the queue once it has begun: it
+-- has file 1, without a record.
 pub record IsUnbegun {R : Type 0} (layout : QueueLayout R) (q : Spanned R) (d : Disk) : Type 0 where
   pub fresh : IsFresh layout.format layout.own d d
   pub is : (older : ℕ → Past R) × (header : List ℕ) × (room : ℕ) × (q ≡ begun_queue older header room)
@@ -65,13 +66,12 @@ LeavesQueue {R} log which o now s new becomes takes = (files : LogFiles R) × be
     × IsOpenOrClosed log (with_open which o now) (next_log which s files new)
     × takes s (next_log which s files new)
 
--- A log of two queues, of which each may have a running pipe or only files on the disk (`IsOpenOrClosed`).
--- - `allowed`: after any crash a recovery reads what the numbered files allow.
--- - `log_of`: so if the numbered files contain a map with pending batches, that is true of the log.
+-- A log of two queues, of which each has a running pipe or only files on the disk (`IsOpenOrClosed`).
+-- - `allowed`, `log_of`: after any crash a recovery reads what the numbered files allow. So the log's contents and
+--   pending batches are those of its numbered files.
 -- - `running`: a log over which both pipes run is such a log.
--- - `held`: a log without running pipes is such a log, if each last file holds its records and no file of a live range
---   is missing.
--- - `dropped`: if its running pipes are dropped, a log still is such a log.
+-- - `held`, `dropped`: so is one without running pipes, if each last file holds its records and each file of the live
+--   ranges is there; and one whose running pipes were dropped.
 pub record LyingLogIsALog {R E V : Type 0} (log : TwoQueues R E V) : Type 0 where
   pub allowed : (o : OpenPipes) (s : LogOnDisk R) (f : Files E V) → IsSound s.disk → IsOpenOrClosed log o s
       → Ties log s f → AllowsIn log s f

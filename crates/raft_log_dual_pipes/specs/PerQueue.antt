@@ -23,8 +23,8 @@ use Rattle.raft_log_dual_pipes.specs.Turning.{GoesOnInNext, IsOrGoesOn, HasTaken
 use Rattle.raft_log_dual_pipes.specs.Syncing.{FailsMoved, raised_log}
 use Rattle.raft_log_dual_pipes.specs.OpenOrClosed.{OpenPipes, with_open, IsOpenOrClosed, LeavesQueue}
 
--- If a record is written, its pipe still runs, maybe after a rotation. The numbered files get the record in the file of
--- its location.
+-- If a running pipe writes a record, it still runs, whatever the state of the other queue. It may have rotated before
+-- the write. The numbered files get the record in the file of its location `block`.
 abbrev pub AppendsBeside : {R E V : Type 0} → TwoQueues R E V → Type 0
 AppendsBeside {R} {E} {V} log = AreTwoQueues log → (which : Which) (o : OpenPipes) (before : PipeFiles)
     (s : LogOnDisk R) → IsOpenOrClosed log (with_open which o (Some before)) s
@@ -39,7 +39,7 @@ AppendsBeside {R} {E} {V} log = AreTwoQueues log → (which : Which) (o : OpenPi
     (Appends (Ties log) which y block.id.seq)
 
 -- What a failed append leaves.
--- - `Io`, `TryAgain`: what was written of the record was truncated away, and all that was written before it is synced.
+-- - `Io`, `TryAgain`: the part of the record that was written was truncated away, and all records before it are synced.
 -- - `NumberRange`, `Memory`: no record was added.
 -- - `Failed`: the pipe has failed, and the new record may be there or not.
 abbrev pub LeavesRefused : {R E V : Type 0} → TwoQueues R E V → Which → OpenPipes → PipeFiles → LogOnDisk R
@@ -126,8 +126,8 @@ pub record RotatesBeside {R E V : Type 0} (log : TwoQueues R E V) (which : Which
       header before after error s.disk new
       → LeavesUnrotated log which o before s header after error new
 
--- The live range of one queue begins at `seq`, and the numbered files below may be lost. The queue's pipe runs with the
--- files in `now`, or, if `None`, doesn't run.
+-- The live range of one queue begins at `seq`, and numbered files below `seq` may be lost. The queue's pipe runs with
+-- the files in `now`, or, if `None`, doesn't run.
 abbrev pub LeavesRaised : {R E V : Type 0} → TwoQueues R E V → Which → OpenPipes → Option PipeFiles
     → LogOnDisk R → ℕ → Disk → Type 0
 LeavesRaised log which o now s seq new = IsOpenOrClosed log (with_open which o now) (raised_log which s seq new)
@@ -135,7 +135,7 @@ LeavesRaised log which o now s seq new = IsOpenOrClosed log (with_open which o n
 
 -- What a failed purge leaves.
 -- - `Memory`, `Other`, `NumberRange`: the same log on the same disk.
--- - `Failed`: the pipe has failed, and the files have left the live range all the same.
+-- - `Failed`: the pipe has failed, and the files below `seq` have left the live range all the same.
 abbrev pub LeavesUnpurged : {R E V : Type 0} → TwoQueues R E V → Which → OpenPipes → LogOnDisk R → ℕ
     → PipeFiles → Error → Disk → Type 0
 LeavesUnpurged log which o s seq after errors.Memory new =
@@ -160,7 +160,7 @@ pub record PurgesBeside {R E V : Type 0} (log : TwoQueues R E V) (which : Which)
       capacity seq before after error s.disk new
       → LeavesUnpurged log which o s seq after error new
 
--- a sync, a rotation and a purge of one queue leave these logs, whatever the state of the other queue
+-- `SyncsBeside`, `RotatesBeside` and `PurgesBeside` hold for each running pipe, whatever the state of the other queue
 abbrev pub QuietCallsBeside : {R E V : Type 0} → TwoQueues R E V → Type 0
 QuietCallsBeside {R} log = AreTwoQueues log → (which : Which) (o : OpenPipes) (files : PipeFiles)
     (s : LogOnDisk R) → IsOpenOrClosed log (with_open which o (Some files)) s

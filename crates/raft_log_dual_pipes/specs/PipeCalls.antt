@@ -1,5 +1,5 @@
 -- For each operation on a queue: the file system calls that its pipe makes, in order, and which of them failed. Also:
--- both pipes keep their settings.
+-- both pipes keep their settings. `v` are the pipes before the operation, `w` after it.
 use Rattle.std.specs.Prelude.{◌≡◌, ℕ, false, List}
 use Rattle.raft_log_fs.specs.Disk.{Disk}
 use Rattle.raft_log_fs.specs.Exits.{Syncs}

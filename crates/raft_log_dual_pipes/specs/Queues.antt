@@ -28,7 +28,7 @@ pub record TwoQueues (R E V : Type 0) : Type 1 where
   pub rewrite : QueueLayout R
   pub says : R → Record E V
 
--- each is a queue, and no path belongs to both
+-- both layouts are those of a queue (`IsQueueLayout`), and no path belongs to both
 pub record AreTwoQueues {R E V : Type 0} (log : TwoQueues R E V) : Type 0 where
   pub append : IsQueueLayout log.append
   pub rewrite : IsQueueLayout log.rewrite
@@ -39,8 +39,8 @@ abbrev pub layout_at : {R E V : Type 0} → Which → TwoQueues R E V → QueueL
 layout_at InAppend log = log.append
 layout_at InRewrite log = log.rewrite
 
--- `signed` gives a record's bytes, signed for a file. For each file of the queue, these are a record of that file, and
--- `y` is the model's record for it.
+-- `signed` gives the bytes of a record, signed for a file. For each file of the queue, the bytes that it gives are a
+-- record of that file, and `y` is the model's record for it.
 pub record SaysRecord {R E V : Type 0} (says : R → Record E V) (layout : QueueLayout R) (queue : LogQueue)
     (signed : LogFileContext → List ℕ) (y : Record E V) : Type 0 where
   pub value : R

@@ -1,4 +1,5 @@
--- What quiet events (syncs and rotations) make of the numbered files of one queue.
+-- What quiet events make of the numbered files of one queue. Quiet are syncs, rotations, and losses of files below the
+-- live range.
 use Rattle.std.specs.Prelude.{ℕ}
 use Rattle.raft_log_model_laws.specs.Item.{Record}
 use Rattle.raft_log_machine_laws.specs.Files.{FileQueue}

@@ -30,15 +30,15 @@ use Rattle.raft_log_dual_pipes.specs.Beginning.{stopped_log}
 use Rattle.raft_log_dual_pipes.specs.Steps.{next_log}
 use Rattle.raft_log_dual_pipes.specs.OpenOrClosed.{IsUnbegun, OpenPipes, none_open, with_open, IsOpenOrClosed}
 
--- One queue was read again. Some numbered files that had left its live range may be in it again. A prefix of its
--- unsynced records is left, and all that was read is synced.
+-- One queue of the log `s` was read again, which gave the log `t`. Numbered files that had left the live range may be
+-- in it again. A prefix of the unsynced records is left, and all that was read is synced.
 abbrev pub ReadsAgain : {S E V : Type 0} → (S → Files E V → Type 0) → Which → S → S → Type 0
 ReadsAgain {S} {E} {V} ties which s t = (f : Files E V) → ties s f
     → (r : ReadAgain (queue_at which f))
     × ties t (put which f (from_at which f) (read_files (queue_at which f) r))
 
--- Both queues were read again. Some numbered files that had left their live ranges may be in them again. A prefix of
--- the unsynced records of each is left, and all that was read is synced.
+-- Both queues of the log `s` were read again, which gave the log `t`. Numbered files that had left a live range may be
+-- in it again. A prefix of each queue's unsynced records is left, and all that was read is synced.
 abbrev pub ReadsBothAgain : {S E V : Type 0} → (S → Files E V → Type 0) → S → S → Type 0
 ReadsBothAgain {S} {E} {V} ties s t = (f : Files E V) → ties s f
     → (r : ReadAgain f.rewrite) × (a : ReadAgain f.append)
@@ -72,9 +72,9 @@ CrashIsAStep {R} log = AreTwoQueues log → (o : OpenPipes) (s : LogOnDisk R) (i
     → later.rewrite.first ≡ s.rewrite.first
     → IsLeftByCrash log (stopped_log s append rewrite image) later)
 
--- The files of a queue, as they were found. The last one was read up to `found.end`, and its handle permits writes. The
--- earlier ones are at their paths, and the number below the first of them has no file. The files that are kept for
--- recycling can be recycled.
+-- The files of a queue, as they were found. The last one has this `number`, was read up to `found.end`, and its handle
+-- permits writes. The earlier ones are at their paths, and the number below the first file has no file. The files kept
+-- for recycling can be recycled.
 pub record AreFound {R : Type 0} (layout : QueueLayout R) (found : FoundFiles) (earlier : List Listed)
     (last : Listed) (number : ℕ) (d : Disk) : Type 0 where
   pub number_is : last.seq ≡ number
@@ -144,11 +144,11 @@ OpenIsAStep {R} log = AreTwoQueues log → (which : Which) (o : OpenPipes) (begi
     → IsFoundOf (layout_at which log) found (spanned_at which s) s.disk
     → OpensBeside log which o begin found s
 
--- What is still true of a log after it was read again.
--- - `append_first`, `rewrite_first`: if one queue was read again, and then the other, both were.
--- - `still`: a queue without unsynced records counts as read again.
--- - `log_of`: the log contains the map with a prefix of the pending batches applied, and no batch is pending.
--- - `replays`: a view that is built from what was read is true of it.
+-- What is true of the log `t` that was read again from the log `s`.
+-- - `append_first`, `rewrite_first`, `still`: reading one queue and then the other reads both. A queue without unsynced
+--   records counts as read again.
+-- - `log_of`: the contents are the map after a prefix of the pending batches, and no batch is pending.
+-- - `replays`: if the view is built from whatever is read, the step from `s` to `t` is a replay in the model.
 pub record FoundLogIsALog {R E V : Type 0} (log : TwoQueues R E V) : Type 0 where
   pub append_first : (s mid t : LogOnDisk R) → ReadsAgain (Ties log) InAppend s mid
       → ReadsAgain (Ties log) InRewrite mid t → ReadsBothAgain (Ties log) s t

@@ -69,11 +69,11 @@ pub record IsStopped {R : Type 0} (layout : QueueLayout R) (q : LogFiles R) (d :
   pub N : Names
   pub stands : Stands layout.format layout.own d q path id (IsLeftover layout.format q) N d
 
--- the queue's last file holds its records, as a pipe left it, even one that has failed, or as a stop left it
+-- the queue's last file holds its records, as a pipe left it (even a pipe that has failed), or as a stop left it
 abbrev pub HoldsQueue : {R : Type 0} → QueueLayout R → LogFiles R → Disk → Type 0
 HoldsQueue layout q d = StandsWithRecords layout.format layout.own d q d ⊎ IsStopped layout q d
 
--- the last file of each queue holds its records, as a pipe left it, even one that has failed, or as a stop left it
+-- the last file of each queue holds its records, as a pipe left it (even a pipe that has failed), or as a stop left it
 pub record HoldsBoth {R E V : Type 0} (log : TwoQueues R E V) (s : LogOnDisk R) : Type 0 where
   pub append : HoldsQueue log.append s.append.files s.disk
   pub rewrite : HoldsQueue log.rewrite s.rewrite.files s.disk

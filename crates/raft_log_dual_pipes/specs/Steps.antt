@@ -40,8 +40,8 @@ OtherQueueStays layout theirs = IsQueueLayout layout → ((path : List ℕ) → 
 abbrev pub next_log : {R : Type 0} → Which → LogOnDisk R → LogFiles R → Disk → LogOnDisk R
 next_log which s files d = with_spanned which s (in_span (spanned_at which s) files) d
 
--- If a record is written, both pipes still run, maybe after a rotation. It is the last record of its queue, at its
--- location. The numbered files get it in the file of this location.
+-- If a pipe writes a record, both pipes still run. The record is the last one of its queue, at the location `block`.
+-- The queue may have rotated before the write. The numbered files get the record in the file of this location.
 abbrev pub AppendIsAStep : {R E V : Type 0} → TwoQueues R E V → Type 0
 AppendIsAStep {R} {E} {V} log = AreTwoQueues log → (which : Which) (p : Pipes) (s : LogOnDisk R)
     → Run log p s → (begin : NewFiles) (queue : LogQueue) (signed : LogFileContext → List ℕ) (y : Record E V)
@@ -57,8 +57,8 @@ AppendIsAStep {R} {E} {V} log = AreTwoQueues log → (which : Which) (p : Pipes)
     × Run log (with_pipe which p after) (next_log which s files new)
     × Appends (Ties log) which y block.id.seq s (next_log which s files new)
 
--- A record's write failed, and what was written of it was truncated away. Both pipes still run, and all that was
--- written to the queue before is synced.
+-- A record's write failed, and the part that was written was truncated away. Both pipes still run, and all that was
+-- written to the queue before is synced. The queue may have rotated.
 abbrev pub LeavesCutBack : {R E V : Type 0} → TwoQueues R E V → Which → Pipes → LogOnDisk R → List ℕ
     → PipeFiles → Disk → Type 0
 LeavesCutBack {R} log which p s header after new = (files : LogFiles R)
@@ -86,8 +86,10 @@ LeavesFailed {R} log which p s header y new = (files : LogFiles R)
     × HoldsBoth log (next_log which s files new)
     × MayAppend (Ties log) (AllowsIn log) which y s (next_log which s files new)
 
--- What a failed append leaves. `Io`, `TryAgain`: what was written of the record was truncated away. `NumberRange`,
--- `Memory`: no record was added. `Failed`: the pipe has failed.
+-- What a failed append leaves.
+-- - `Io`, `TryAgain`: the part of the record that was written was truncated away.
+-- - `NumberRange`, `Memory`: no record was added.
+-- - `Failed`: the pipe has failed, and the new record may be there or not.
 abbrev pub NotAppended : {R E V : Type 0} → TwoQueues R E V → Which → Pipes → LogOnDisk R → List ℕ
     → Record E V → PipeFiles → Error → Disk → Type 0
 NotAppended log which p s header y after (errors.Io kind) new = LeavesCutBack log which p s header after new
@@ -127,7 +129,8 @@ RefusedAppendHasFailed {R} {E} {V} log = AreTwoQueues log → (which : Which) (p
     queue signed (pipe_at which p) after error s.disk new
     → TellsOfCall error → Fails s.disk new
 
--- if a rotation fails with `Io`, `TryAgain` or `Failed`, a file call has failed
+-- if a rotation fails with `Io`, `TryAgain` or `Failed`, a file call has failed; of these, a rotation returns only
+-- `Failed`
 abbrev pub RefusedRotationHasFailed : {R E V : Type 0} → TwoQueues R E V → Type 0
 RefusedRotationHasFailed {R} log = AreTwoQueues log → (which : Which) (p : Pipes) (s : LogOnDisk R)
     → Run log p s → (header : List ℕ) (after : PipeFiles) (error : Error) (new : Disk)

@@ -39,8 +39,8 @@ RotationIsAStep {R} log = AreTwoQueues log → (which : Which) (p : Pipes) (s : 
     × Run log (with_pipe which p after) (next_log which s files new)
     × Settles (Ties log) which s (next_log which s files new)
 
--- The pipe has failed. Some quiet events (syncs and rotations) may have changed the queue's numbered files, and
--- `allows` holds for the changed ones.
+-- The pipe has failed. Quiet events (syncs, rotations, losses of files below the live range) may have changed the
+-- queue's numbered files, and `allows` holds for the changed ones.
 abbrev pub FailsMoved : {S E V : Type 0} → (S → Files E V → Type 0) → (S → Files E V → Type 0) → Which → S → S
     → Type 0
 FailsMoved {S} {E} {V} ties allows which s t =
@@ -49,7 +49,7 @@ FailsMoved {S} {E} {V} ties allows which s t =
 -- What a failed rotation leaves.
 -- - `Memory`, `NumberRange`: the same log on the same disk, and both pipes still run.
 -- - `Failed`: the pipe has failed, and the queue may have rotated or not. The last file of each queue holds its
--- records.
+--   records.
 abbrev pub NotRotated : {R E V : Type 0} → TwoQueues R E V → Which → Pipes → LogOnDisk R → List ℕ → PipeFiles
     → Error → Disk → Type 0
 NotRotated log which p s header after errors.Memory new =
@@ -87,8 +87,8 @@ PurgeIsAStep {R} log = AreTwoQueues log → (which : Which) (p : Pipes) (s : Log
 
 -- What a failed purge leaves.
 -- - `Memory`, `Other`, `NumberRange`: the same log on the same disk, and both pipes still run.
--- - `Failed`: the pipe has failed, and the files have left the live range all the same. The last file of each queue
--- holds its records.
+-- - `Failed`: the pipe has failed, and the files below `seq` have left the live range all the same. The last file of
+--   each queue holds its records.
 abbrev pub NotPurged : {R E V : Type 0} → TwoQueues R E V → Which → Pipes → LogOnDisk R → ℕ → PipeFiles
     → Error → Disk → Type 0
 NotPurged log which p s seq after errors.Memory new = (new ≡ s.disk) × Run log (with_pipe which p after) s

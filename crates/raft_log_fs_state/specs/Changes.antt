@@ -6,7 +6,8 @@ use Rattle.raft_log_fs_state.specs.declared.change.Change.{Change}
 use Rattle.raft_log_fs_state.specs.declared.change.Change.TheVariants.{Write, Shortening, Growth}
 use Rattle.raft_log_fs_state.specs.declared.change.Stamped.{Stamped}
 
--- a write or growth with `rest` appended to its bytes or zeros; a truncation unchanged
+-- the change with `rest` added: a write also writes these bytes, and a growth adds as many more zeros; a truncation is
+-- unchanged
 abbrev pub with_rest : disk.Change → List ℕ → disk.Change
 with_rest (Wrote at bytes) rest = Wrote at (bytes ++ rest)
 with_rest (ShortenedTo size) rest = ShortenedTo size

@@ -116,8 +116,8 @@ file_of file = record { content = file.content; synced = file.synced; changes = 
 abbrev pub ReadsNumber : List (Option Stored) → ℕ → ℕ → ℕ → ℕ → Type 0
 ReadsNumber files id at room count = IfHeld files id (λ file. count ≡ min room (length file.content - at))
 
--- If file `id` exists, `after` begins with the file's `count` bytes from offset `at` on. From byte `count` on, it is
--- the same as `before`.
+-- if file `id` exists, `after` is `before` with its first `count` bytes replaced by the file's bytes from offset `at`
+-- on
 abbrev pub ReadsFront : List (Option Stored) → ℕ → ℕ → ℕ → List ℕ → List ℕ → Type 0
 ReadsFront files id at count before after =
     IfHeld files id (λ file. after ≡ take count (drop at file.content) ++ drop count before)

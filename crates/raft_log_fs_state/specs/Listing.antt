@@ -14,8 +14,8 @@ pub record IsChild (directory path : List ℕ) (node : Node) (name : List ℕ) :
   pub plain : IsPlain name
   pub file : file_named (Some node) ≡ None → ⊥
 
--- the result is the name that the file at `path` has in `directory`; it is `None` if `node` is no file or `path` is not
--- in there
+-- `told` is the name that the file at `path` has in `directory`, or `None` if `node` is no file or `path` isn't in
+-- `directory`
 abbrev pub TellsChild : List ℕ → List ℕ → Node → Option (Bor (List ℕ)) → Type 0
 TellsChild directory path node told =
     MatchOption told ((name : List ℕ) → IsChild directory path node name → ⊥) (λ name.

@@ -37,8 +37,8 @@ place_in stamps stamp = length (filter (λ other. nat_lt other stamp) stamps)
 abbrev pub HasAllStamps : List (Option Stored) → List ℕ → Type 0
 HasAllStamps files stamps = IsPermutation (stamps_of (held_of files) (length files)) stamps
 
--- The content `old` after the crash keeps what is chosen for each of a file's changes. `place` gives each stamp's
--- position among the unsynced changes of all files.
+-- `old` after what a crash left of a file's changes. `what` chooses this by each change's position among the unsynced
+-- changes of all files, which `place` gives for the change's stamp.
 abbrev pub left_own : Remainder → (ℕ → ℕ) → List Made → List ℕ → List ℕ
 left_own what place [] old = old
 left_own what place (m ∷ ms) old = left_own what place ms (left_by what (place m.stamp) m.change old)

@@ -29,8 +29,9 @@ pub record Makes (id : ℕ) (change : Change) (rest : List ℕ) (old new : Stora
       → contents_of new ≡ with_file id (Some (after_part change rest file)) (contents_of old)
   pub order : unsynced_of new ≡ unsynced_of old ++ (id, change) ∷ []
 
--- A growth of file `id` to `size` bytes failed and added no zero: if the file exists, its content is the same, and the
--- growth is among its unsynced changes.
+-- A growth of file `id` to `size` bytes failed and added no zero. If the file exists, its content is the same, and its
+-- unsynced changes end with the growth that was asked for. The list of all files' changes ends with one that adds
+-- nothing.
 pub record NotesGrowth (id size : ℕ) (old new : Storage) : Type 0 where
   pub contents : (file : File) → (contents_of old).files id ≡ Some file
       → contents_of new ≡ with_file id (Some (with_change (GrewTo size) file.content file)) (contents_of old)
@@ -47,7 +48,7 @@ pub record SyncsFile (id : ℕ) (old new : Storage) : Type 0 where
 abbrev pub IsLeftBy : Remainder → Storage → Storage → Type 0
 IsLeftBy what old after = contents_of after ≡ left_disk what (unsynced_of old) (contents_of old)
 
--- the disk changed by `next`, for example got a new name, and the unsynced changes are the same
+-- the disk changed as `next` says, for example got a new name, and the unsynced changes are the same
 pub record AddsName (next : Disk → Disk) (old new : Storage) : Type 0 where
   pub contents : contents_of new ≡ next (contents_of old)
   pub order : unsynced_of new ≡ unsynced_of old
@@ -63,7 +64,8 @@ abbrev pub without_replaced : ℕ → Option ℕ → List (ℕ × Change) → Li
 without_replaced id None unsynced = unsynced
 without_replaced id (Some gone) unsynced = cond (nat_eq gone id) unsynced (without_file gone unsynced)
 
--- File `id` was renamed. The file that had the name `to`, if any, was deleted, with its unsynced changes.
+-- File `id` was renamed from `from` to `to`. If another file had the name `to`, that file was deleted, with its
+-- unsynced changes.
 pub record MovesName (from to : List ℕ) (id : ℕ) (old new : Storage) : Type 0 where
   pub contents : contents_of new ≡ renamed from to id (contents_of old)
   pub order : unsynced_of new ≡ without_replaced id ((contents_of old).names to) (unsynced_of old)

@@ -32,14 +32,14 @@ id_of queue file = record { queue = queue; seq = file.seq }
 abbrev pub AreZeros : List ℕ → Type 0
 AreZeros bytes = All (λ byte. byte ≡ 0) bytes
 
--- Nothing is wrong with a file whose last whole record ends at `end`: the file ends there too. A queue's last file may
--- have zeros after it, as the log preallocates it. If it has no header, it may have zeros only.
+-- A file that was read up to `end` (`None`: it has no header) is undamaged. Either no fault was found; or it is its
+-- queue's last file, whose space is allocated ahead of the records, and it has only zeros from `end` on.
 abbrev pub IsUndamaged : Bool → List ℕ → Option ℕ → Option Error → Type 0
 IsUndamaged last content end fault =
     (fault ≡ None) ⊎ ((last ≡ true) × AreZeros (drop (unwrap_or end 0) content))
 
--- The file is intact: its bytes have a header and then these batches, and nothing is wrong after the last one. Each
--- record is whole, with its entry block. `newest` is the number of the queue's last file.
+-- The file is intact: it reads as a header and then these batches, each in a whole record with its entry block, and is
+-- undamaged (`IsUndamaged`). `newest` is the number of the queue's last file, which may have no header.
 pub record IsIntactFile (queue : LogQueue) (directories : List (List ℕ)) (d : Disk) (newest : ℕ) (file : FoundFile)
     (batches : List Batch) : Type 0 where
   pub node : ℕ

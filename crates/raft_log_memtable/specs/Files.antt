@@ -20,32 +20,32 @@ first_file Rewrite v =
 abbrev pub first_place : LogQueue → Raw → Option ℕ
 first_place queue t = first_file queue (shown t)
 
--- The lowest file of Rewrite that has an entry or value of the table. This is right if file numbers never fall from
--- one entry to the next.
+-- the lowest file of Rewrite that has an entry or value of the table, if file numbers never fall from one entry to the
+-- next: only the first entry's file is looked at
 abbrev pub least_rewritten : Raw → Option ℕ
 least_rewritten t = lesser (first_place Rewrite t) (least_value false t.keys)
 
--- The lowest file of `queue` that the table needs. For Rewrite, it is the first file of the recorded atomic groups,
--- if these may reach to its lowest entry or value.
+-- The lowest file of `queue` that the table needs: that of its first entry there, or of a value if this is lower. For
+-- Rewrite, it is the first file of the recorded atomic groups if they may reach into that file.
 abbrev pub min_file : LogQueue → Raw → Option ℕ
 min_file Append t = lesser (first_place Append t) (least_value true t.keys)
 min_file Rewrite t = option_map (λ n. start_of n t.noted) (least_rewritten t)
 
--- `least` is the file of the first entry in Rewrite, or the lowest file of a value there, whichever is lower.
+-- `least` is the file of the first entry in Rewrite, or the lowest file of a value there, whichever is lower
 abbrev pub IsLeastRewritten : Shown → Option ℕ → Type 0
 IsLeastRewritten v least =
     (value : Option ℕ) × IsLeastValue false v.held value × (least ≡ lesser (first_file Rewrite v) value)
 
--- `file` is the lowest file of the queue that the table needs. For Rewrite, it is the first file of the recorded
--- atomic groups, if these may reach to its lowest entry or value.
+-- `file` is the lowest file of the queue that the table needs: that of its first entry there, or of a value if this is
+-- lower. For Rewrite, it is the first file of the recorded atomic groups if they may reach into that file.
 abbrev pub IsMinFile : LogQueue → Shown → Option ℕ → Type 0
 IsMinFile Append v file =
     (value : Option ℕ) × IsLeastValue true v.held value × (file ≡ lesser (first_file Append v) value)
 IsMinFile Rewrite v file =
     (least : Option ℕ) × IsLeastRewritten v least × (file ≡ option_map (λ n. start_of n v.noted) least)
 
--- the files of atomic groups to record after a group in the files `new` ended, if `least` is the lowest file of
--- Rewrite in use
+-- The files of atomic groups to record after a group in the files `new` ended. `old` were recorded before, and `least`
+-- is the lowest file of Rewrite with an entry or value of the table.
 abbrev pub noted_after : Option ℕ → Option GroupFiles → GroupFiles → GroupFiles
 noted_after None old new = new
 noted_after (Some least) old new = noting least old new

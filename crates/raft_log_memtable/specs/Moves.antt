@@ -9,8 +9,8 @@ use Rattle.raft_log_extents.specs.Counts.{passing}
 use Rattle.raft_log_memtable_index.specs.Shown.{KeyValue, Shown, with_held}
 use Rattle.raft_log_memtable_index.specs.Bridge.{moved_run}
 
--- The run covers entries that the table has. It starts at an entry of Rewrite or right after them, and ends at or
--- after the last of them.
+-- The table has all entries of the run. The run starts at an entry in Rewrite or right after the last of these, and
+-- doesn't end before the last of these. An empty run and other items qualify too.
 abbrev pub RunStandsIn : Shown → Item Place (List ℕ) → Type 0
 RunStandsIn v (Run f []) = Unit {0}
 RunStandsIn v (Run f (p ∷ ps)) =
@@ -24,13 +24,13 @@ moved_by v (Run f []) = v
 moved_by v (Run f (p ∷ ps)) = moved_run v f (p ∷ ps)
 moved_by v x = v
 
--- The index of the Compact that the table owes, if any: its first entry's if some entries are in Rewrite, else the
--- greatest one, 2 ^ 64 - 1.
+-- The index of the Compact that the table owes, if any. It is the table's first index if some entries are in Rewrite,
+-- else 2 ^ 64 - 1.
 abbrev pub owed_compact : Shown → Option ℕ
 owed_compact v = if v.compacted then Some (if nat_lt 0 v.rewritten then v.first else top) else None
 
--- How many of these places, from the front, may move to Rewrite: with a gate, those in files up to that number, and
--- without one, none.
+-- How many of these places, from the front, may move to Rewrite. With a gate, it is those before the first place in a
+-- file past the gate; without a gate, none.
 abbrev pub gated : Option ℕ → List Place → ℕ
 gated None ps = 0
 gated (Some gate) ps = passing gate ps
@@ -57,7 +57,8 @@ rewritten_by gate v (Run f ps) =
     (take (movable v gate (f - v.first) (length (drop (v.first - f) ps))) (drop (v.first - f) ps))
 rewritten_by gate v x = v
 
--- Whether a value may move to a new file of Rewrite: it is in Rewrite already, or in a file up to the gate.
+-- whether a value may move to a new file of Rewrite: it is in Rewrite already, or there is a gate and it is in a file
+-- up to the gate
 abbrev pub may_move : Option ℕ → KeyValue → Bool
 may_move None h = not h.appended
 may_move (Some gate) h = not h.appended || nat_le h.file gate

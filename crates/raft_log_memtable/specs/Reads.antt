@@ -55,12 +55,12 @@ appended_entries v gate =
 abbrev pub rewritten_entries : Shown → List EntryIndex
 rewritten_entries v = entries_from v 0 (take v.rewritten v.places)
 
--- whether there is a place, and its file in this queue is at most `gate` in the order of files
+-- whether there is a place, and its file in this queue isn't after `gate` in the order of files
 abbrev pub is_up_to : FileId → LogQueue → Option Place → Bool
 is_up_to gate queue None = false
 is_up_to gate queue (Some p) = is_le (file_cmp (record { queue = queue; seq = p.file }) gate)
 
--- whether the table has `n` entries, and the last of these is in a file up to `gate`; true if `n` is 0
+-- whether the table has at least `n` entries, and the last of the first `n` is in a file up to `gate`; true if `n` is 0
 abbrev pub has_before : Shown → FileId → ℕ → Bool
 has_before v gate zero = true
 has_before v gate (suc n) = is_up_to gate (queue_of (nat_lt n v.rewritten)) (slice_get v.places n)
@@ -75,9 +75,10 @@ Fetches v begin end max old new count =
 abbrev pub AreIn : Shown → ℕ → ℕ → Type 0
 AreIn v begin end = begin < end → (v.first ≤ begin) × (end ≤ v.first + length v.places)
 
--- Why reading entries from `begin` on, below `end`, fails. The table has no entries, or none at the last of these
--- indexes: `EntryNotFound`. The first was compacted away: `EntryCompacted`. Or memory ran out. Reading an empty range
--- never fails.
+-- Why reading entries from `begin` on, below `end`, fails. Reading an empty range never fails.
+-- - `EntryNotFound`: the table has no entries, or its entries end before `end`.
+-- - `EntryCompacted`: the table's first entry is after `begin`.
+-- - `Memory`: memory ran out, and the table has all these entries.
 abbrev pub FetchRefused : Shown → ℕ → ℕ → Error → Type 0
 FetchRefused v begin end error =
     (begin < end)
@@ -86,7 +87,7 @@ FetchRefused v begin end error =
     ⊎ (((error ≡ errors.EntryNotFound) × (v.first ≤ begin) × (v.first + length v.places < end))
     ⊎ ((error ≡ errors.Memory) × (v.first ≤ begin) × (end ≤ v.first + length v.places)))))
 
--- the number of entries and values in Rewrite, at most 2 ^ 64 - 1
+-- `n` is the number of the table's entries and values in Rewrite, at most 2 ^ 64 - 1
 abbrev pub StandIn : Shown → ℕ → Type 0
 StandIn v n = (pairs : List (List ℕ × List ℕ)) × ListsAll (rewritten_values v) pairs
     × (n ≡ min (v.rewritten + length pairs) (2 ^ 64 - 1))

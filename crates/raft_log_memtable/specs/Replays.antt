@@ -31,7 +31,8 @@ under v f =
 abbrev pub begin_alone : Shown → ℕ
 begin_alone v = if v.cleaned then v.first else (if nat_lt 0 (length v.places) then v.first else 0)
 
--- whether the entries of a later segment are in Append and begin past the end of the entries that it leaves of `v`
+-- whether the entries of the later segment `z` are in Append and begin past the end of the entries that `z` leaves of
+-- `v`
 abbrev pub leaves_hole : Shown → Replayed → Bool
 leaves_hole v z =
     nat_lt 0 (length z.table.places)

@@ -26,7 +26,7 @@ with_moves q n = record q { moves = q.moves + n }
 abbrev pub without_moves : Promise → ℕ → Promise
 without_moves q n = record q { moves = q.moves - n }
 
--- the reservation where only keys with a value have a slot
+-- the reservation in which only keys with a value have a slot
 abbrev pub with_room_of : Promise → Shown → Promise
 with_room_of q v = record q { has = λ k. is_some (v.held k) }
 
@@ -72,8 +72,8 @@ module _ {E V : Type 0} where
   HasRoom has (Del k) = has k ≡ true
   HasRoom has _ = Unit {0}
 
-  -- Applying the item can't fail: enough places are reserved, its key has a slot, and its run leaves no hole and no
-  -- index too high.
+  -- Applying the item can't fail: enough places are reserved, its key has a slot, its run leaves no hole, and the
+  -- indexes of the run are below 2 ^ 64 - 1.
   abbrev pub CanTake : Shown → Promise → Item E V → Type 0
   CanTake v q x = (count_of x ≤ q.wanted) × HasRoom q.has x × MayFollow (span v) x
 
@@ -92,8 +92,8 @@ module _ {E V : Type 0} where
   span_after w [] = w
   span_after w (x ∷ xs) = span_after (next_span w x) xs
 
-  -- The table can take all these items, one after another. Places and slots are reserved. No run leaves a hole or an
-  -- index too high, and the reserved range is the one after the items.
+  -- The table can take all these items, one after another. Places and slots are reserved for them. No run leaves a
+  -- hole, and indexes are below 2 ^ 64 - 1. The reserved range is the one after the items.
   pub record IsReady (v : Shown) (q : Promise) (xs : List (Item E V)) : Type 0 where
     pub room : needs xs ≤ q.wanted
     pub keys : AllHave q.has xs

@@ -51,7 +51,7 @@ runs_of t = t.places.runs
 abbrev pub replay_of : Raw → Replayed
 replay_of t = record { table = shown t; low = t.low; high = t.high }
 
--- both tables leave the same of the entries before them, in a replay
+-- in a replay, both tables leave the same of the entries that were read before them
 abbrev pub IsBoundAs : Raw → Raw → Type 0
 IsBoundAs t u = (u.low ≡ t.low) × (u.high ≡ t.high)
 
@@ -65,12 +65,12 @@ promise t = record {
 }
 
 -- Why a run isn't applied to entries with the range `w`. The error is `Hole` if and only if the run leaves a hole or
--- an index too high. Otherwise it is `Memory`.
+-- has an index of 2 ^ 64 - 1 or more. Otherwise it is `Memory`.
 abbrev pub RunRefused : {E V : Type 0} → Window → Item E V → Error → Type 0
 RunRefused w x error =
     ((error ≡ errors.Hole) × (MayFollow w x → ⊥)) ⊎ ((error ≡ errors.Memory) × MayFollow w x)
 
--- the table has no entries, no values, no slots and no owed Dels
+-- the table has no entries, no values, no slots and no owed Dels, and its first index is 0
 abbrev pub StandsEmpty : Raw → Type 0
 StandsEmpty t =
     (t.first ≡ 0) × (t.rewritten ≡ 0) × (length t.places.items ≡ 0) × (keys_of t.keys ≡ no_keys)

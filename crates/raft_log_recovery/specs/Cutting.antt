@@ -6,12 +6,13 @@ use Rattle.raft_log_active_file.specs.TakingUp.{TrimMakes, Trims}
 use Rattle.raft_log_active_file.specs.declared.format.File.{File}
 use Rattle.raft_log_recovery_read.specs.declared.file_ending.FileEnding.{FileEnding}
 
--- if the file is damaged, it was truncated after its last good record, or to size 0 if it has no header, and synced
+-- if the first argument is true, the file was truncated and synced; it ends after its last good record, or is empty if
+-- it has no header
 abbrev pub CutsIf : Bool → File → FileEnding → Disk → Disk → Type 0
 CutsIf true file ending old new = Trims file.handle (unwrap_or ending.end 0) old new
 CutsIf false file ending old new = new ≡ old
 
--- if `ending` says that the file is damaged, it was truncated and synced in this way
+-- if the file is damaged, which `ending` says, it was truncated and synced as in `CutsIf`
 abbrev pub CutsOne : File → FileEnding → Disk → Disk → Type 0
 CutsOne file ending old new = CutsIf ending.is_damaged file ending old new
 
@@ -21,14 +22,15 @@ pub record FailsToCutOne (file : File) (ending : FileEnding) (kind : ErrorKind) 
   pub damaged : ending.is_damaged ≡ true
   pub makes : TrimMakes file.handle (unwrap_or ending.end 0) kind old new
 
--- each damaged file was truncated and synced in this way, in order; `endings` says which are damaged
+-- each damaged file was truncated and synced as in `CutsIf`, in order; `endings` says which files are damaged
 abbrev pub CutsEach : List File → List FileEnding → Disk → Disk → Type 0
 CutsEach [] endings old new = new ≡ old
 CutsEach (file ∷ files) [] old new = new ≡ old
 CutsEach (file ∷ files) (ending ∷ endings) old new =
     (mid : Disk) × CutsOne file ending old mid × CutsEach files endings mid new
 
--- truncating the file at position `at` failed, after those before it were truncated
+-- Truncating or syncing the damaged file at position `at` failed. The damaged files before it were truncated and
+-- synced.
 pub record FailsToCutEach (files : List File) (endings : List FileEnding) (kind : ErrorKind)
     (old new : Disk) : Type 0 where
   pub at : ℕ

@@ -21,8 +21,8 @@ DropsEach paths [] old new = new ≡ old
 DropsEach paths (file ∷ files) old new =
     (mid : Disk) × DropsOrNot paths file old mid × DropsEach paths files mid new
 
--- The number of one of these files has no name, so its deletion could not be tried. Deletions of the files before it
--- were tried, and those after it are untouched.
+-- The deletion of one of these files couldn't be tried: no name was made for it, because its number has more than
+-- sixteen digits or memory ran out. Deletions of the files before it were tried. The files after it are untouched.
 pub record FailsToDropEach (paths : FilePaths) (files : List File) (error : Error) (old new : Disk)
     : Type 0 where
   pub before : List File

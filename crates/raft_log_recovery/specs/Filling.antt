@@ -1,4 +1,4 @@
--- A file is filled with zeros, piece by piece.
+-- A file is filled piece by piece: the same bytes are written again and again. An open fills files with zeros.
 use Rattle.std.specs.Prelude.{◌≡◌, ◌<◌, ◌*◌, ◌↔◌, ◌⊎◌, ℕ, zero, suc, Bool, IsTrue, false, List, length}
 use Rattle.std.specs.Int.{div_ceil}
 use Rattle.std.specs.declared.io.ErrorKind.{ErrorKind}
@@ -17,7 +17,7 @@ WritesPieces handle bytes (suc count) old new = (mid : Disk) × WritesPieces han
 abbrev pub FillsFile : Handle → List ℕ → ℕ → Disk → Disk → Type 0
 FillsFile handle bytes size old new = WritesPieces handle bytes (div_ceil size (length bytes)) old new
 
--- one of these writes failed; those before it succeeded
+-- one of the writes that fill a file failed; `count` writes before it succeeded
 pub record FailsToFill (handle : Handle) (bytes : List ℕ) (size : ℕ) (kind : ErrorKind) (old new : Disk)
     : Type 0 where
   pub count : ℕ
@@ -31,7 +31,7 @@ abbrev pub HasNoSpace : ErrorKind → Type 0
 HasNoSpace StorageFull = Unit {0}
 HasNoSpace _ = ⊥
 
--- the file was filled, or a write failed before that; `full` says whether one failed for lack of space
+-- either the file was filled, or a write failed; `full` says whether a write failed for lack of space
 abbrev pub FillsOrNot : Handle → List ℕ → ℕ → Bool → Disk → Disk → Type 0
 FillsOrNot handle bytes size full old new = (FillsFile handle bytes size old new × (full ≡ false))
     ⊎ ((kind : ErrorKind) × FailsToFill handle bytes size kind old new × (IsTrue full ↔ HasNoSpace kind))

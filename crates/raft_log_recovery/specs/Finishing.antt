@@ -21,13 +21,14 @@ use Rattle.raft_log_recovery.specs.Syncing.{FailsToSyncEach, SyncsEach}
 use Rattle.raft_log_recovery.specs.declared.builder.DualPipesBuilder.{DualPipesBuilder}
 use Rattle.raft_log_recovery.specs.declared.recovered_queue.RecoveredQueue.{RecoveredQueue}
 
--- how many files the pipe of a queue may have, including those kept for recycling; Rewrite keeps none for recycling
+-- A purge keeps files of a queue for recycling only as long as these and the live range have at most this many files
+-- together. It is 0 for Rewrite, which keeps none.
 abbrev pub capacity_of : LogQueue → Config → ℕ
 capacity_of Append config = recycle_capacity (settings_of config)
 capacity_of Rewrite config = 0
 
--- The pipe is in the log's directories. Its new files get the format and size that the settings want, and it keeps as
--- many files as they want for this queue.
+-- The pipe of a queue is to be opened in the log's directories. Its new files get the format version and the size of
+-- the settings, and no alignment. Its capacity is what the settings give this queue.
 pub record IsWantedAs (queue : LogQueue) (config : Config) (pipe : FoundPipe) : Type 0 where
   pub lies : IsFoundAs queue (paths_of config) pipe
   pub version : pipe.settings.new_files.format.version ≡ config.format_version

@@ -37,7 +37,7 @@ pub record CutsBoth (b : DualPipesBuilder) (append_endings rewrite_endings : Lis
   pub append_cut : CutsEach (append_files b) append_endings old between
   pub rewrite_cut : CutsEach (rewrite_files b) rewrite_endings between new
 
--- truncating a damaged file failed: one of Append; or one of Rewrite, after those of Append
+-- truncating a damaged file failed: either one of Append, or one of Rewrite after those of Append were truncated
 pub data FailsToCutBoth (b : DualPipesBuilder) (append_endings rewrite_endings : List FileEnding)
     (kind : ErrorKind) (old new : Disk) : Type 0 where
   append : FailsToCutEach (append_files b) append_endings kind old new

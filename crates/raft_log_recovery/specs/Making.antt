@@ -1,5 +1,5 @@
--- Reserved files are made and filled with zeros. `disk` gives the disk of a file system's state, and `tells` the free
--- space that it may return for a directory.
+-- Reserved files are made and filled. `disk` gives the disk of a file system's state. `tells` says which sizes the file
+-- system may return as a directory's free space.
 use Rattle.std.specs.Prelude.{◌≡◌, ◌+◌, ◌<◌, ◌≤◌, ◌^◌, ℕ, suc, Bool, true, false, ◌||◌, List, [], ◌∷◌, length}
 use Rattle.raft_log_record_base.specs.declared.errors.Error.{Error}
 use Rattle.raft_log_record_base.specs.declared.errors.Error.TheVariants as errors
@@ -13,16 +13,16 @@ use Rattle.raft_log_active_file.specs.declared.format.File.{File}
 use Rattle.raft_log_file_pipe.specs.Placing.{IsChosen}
 use Rattle.raft_log_recovery.specs.Filling.{FillsOrNot}
 
--- how many files were made before one failed: fewer than `count`; if memory ran out, perhaps all, as their list needs
--- memory too
+-- how many of `count` files were made before the failure: not all; or perhaps all, if memory ran out, because the list
+-- of files needs memory too
 abbrev pub AreFewer : Error → ℕ → ℕ → Type 0
 AreFewer errors.Memory made count = made ≤ count
 AreFewer _ made count = made < count
 
 module _ {F : Type 0} (disk : F → Disk) (tells : F → List ℕ → ℕ → Type 0) where
   -- A file was made under the reserved name of number `seq`, in the first directory that had room for it, else in the
-  -- main one. It was filled with zeros up to `size`, as far as writes succeeded. `full` says whether one failed for
-  -- lack of space.
+  -- main one. `bytes` were written into it again and again until it had at least `size` bytes or a write failed. `full`
+  -- says whether a write failed for lack of space.
   pub record Makes (paths : FilePaths) (bytes : List ℕ) (size seq : ℕ) (file : File) (full : Bool)
       (old new : F) : Type 0 where
     pub number : file.seq ≡ seq
@@ -35,8 +35,8 @@ module _ {F : Type 0} (disk : F → Disk) (tells : F → List ℕ → ℕ → Ty
     pub creates : Creates (path_of paths file) file.handle.file (disk old) created
     pub fills : FillsOrNot file.handle bytes size full created (disk new)
 
-  -- Why making a file fails. `Memory`: memory ran out. `NumberRange`: its number has no name. `Io`: its creation
-  -- failed.
+  -- Why making a file fails. `Memory`: memory ran out. `NumberRange`: its number has more than sixteen digits. `Io`:
+  -- its creation failed.
   abbrev pub FailsToMake : FilePaths → ℕ → ℕ → Error → F → F → Type 0
   FailsToMake paths size seq errors.Memory old new = disk new ≡ disk old
   FailsToMake paths size seq errors.NumberRange old new = (10 ^ 16 ≤ seq) × (disk new ≡ disk old)

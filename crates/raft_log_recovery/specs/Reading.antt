@@ -11,15 +11,15 @@ use Rattle.raft_log_recovery_read.specs.Segments.{BeginsFile, HoldsFile, Refuses
 use Rattle.raft_log_recovery_read.specs.declared.file_ending.FileEnding.{FileEnding}
 
 -- The machine has read the batches of all files of a queue, in order, however many workers read them. Without a worker
--- no file is read. `endings` has the result for each file.
+-- no file is read. `reads` says which batches a machine has read. `endings` has the result for each file.
 abbrev pub HasReadFiles : {M : Type 0} → (LogQueue → List Batch → M → Type 0) → RecoveryConfig → List File
     → Disk → M → List FileEnding → Type 0
 HasReadFiles reads config files d machine endings =
     HasReadSegments (HoldsFile config.mode config.queue files d) (reads config.queue) 0
     (read_by config.concurrency (length files)) machine endings
 
--- Why reading the files of a queue fails: one of them can't be read, its damage isn't tolerated, the machine rejects
--- their batches, or memory ran out.
+-- Why reading the files of a queue fails: one of them can't be read, its damage isn't tolerated, a machine rejects
+-- their batches, or memory ran out. `declines` says for which batches a machine fails with an error.
 abbrev pub FilesAreUnread : (LogQueue → List Batch → Error → Type 0) → RecoveryConfig → List File → Disk → Error
     → Type 0
 FilesAreUnread declines config files d error = IsRefusedIn (HoldsFile config.mode config.queue files d)

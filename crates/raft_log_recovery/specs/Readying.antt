@@ -17,17 +17,18 @@ number_behind (Some file) = min (suc file.seq) (2 ^ 64 - 1)
 abbrev pub next_number : List File → ℕ
 next_number files = number_behind (last_or None files)
 
--- the zeros that one write adds to a new file: as many as the file's size, at most 16 MiB
+-- the zeros that one write adds to a new file: as many as the file's size, but at least 1 and at most 16 MiB
 abbrev pub piece : ℕ → List ℕ
 piece size = zeros (max 1 (min size (2 ^ 24)))
 
--- how many reserved files are kept: the wanted number, but none if there was no space for one
+-- how many reserved files are kept: the wanted number, but none if a write failed for lack of space (`full`)
 abbrev pub kept_of : Bool → ℕ → ℕ
 kept_of full wanted = if full then 0 else wanted
 
--- The states of a file system, by its disk, and by what it may return for a directory's space.
+-- `disk` gives the disk of a file system's state. `tells` says which sizes it may return as a directory's free space.
 module _ {F : Type 0} (disk : F → Disk) (tells : F → List ℕ → ℕ → Type 0) where
-  -- reserved files were made until there were `wanted`; `all` are the old ones and then the new ones
+  -- reserved files were made until there were `wanted`; `all` are the files that were there (`files`), then the new
+  -- ones
   pub record MakesMissing (paths : FilePaths) (size wanted : ℕ) (files all : List File) (full : Bool)
       (old new : F) : Type 0 where
     pub made : List File
@@ -35,8 +36,8 @@ module _ {F : Type 0} (disk : F → Disk) (tells : F → List ℕ → ℕ → Ty
     pub all_is : all ≡ files ++ made
     pub makes : MakesEach disk tells paths (piece size) size (next_number files) made full old new
 
-  -- Reserved files were made until there were `wanted`. Then those that aren't kept were deleted, from the newest on,
-  -- as far as deletions succeeded.
+  -- Reserved files were made until there were `wanted`. Then the deletion of each file that isn't `kept` was tried,
+  -- from the newest on.
   pub record Readies (paths : FilePaths) (size wanted : ℕ) (files kept : List File) (old new : F)
       : Type 0 where
     pub all : List File
@@ -51,7 +52,8 @@ module _ {F : Type 0} (disk : F → Disk) (tells : F → List ℕ → ℕ → Ty
   FailsToMakeMissing paths size wanted files error old new = FailsToMakeEach disk tells paths (piece size)
       size (next_number files) (wanted - length files) error old new
 
-  -- all wanted files were made, and then one that was to be deleted had a number without a name
+  -- all wanted files were made, and then no name was made for one that was to be deleted: its number has more than
+  -- sixteen digits, or memory ran out
   pub record FailsToDropSurplus (paths : FilePaths) (size wanted : ℕ) (files : List File) (error : Error)
       (old new : F) : Type 0 where
     pub all : List File
@@ -61,7 +63,7 @@ module _ {F : Type 0} (disk : F → Disk) (tells : F → List ℕ → ℕ → Ty
     pub fails : FailsToDropEach paths (reverse (drop (kept_of full wanted) all)) error
         (disk between) (disk new)
 
-  -- why readying the reserved files fails: one could not be made, or one that was to be deleted had no name
+  -- why readying the reserved files fails: one couldn't be made, or no name was made for one that was to be deleted
   abbrev pub FailsToReady : FilePaths → ℕ → ℕ → List File → Error → F → F → Type 0
   FailsToReady paths size wanted files error old new =
       FailsToMakeMissing paths size wanted files error old new

@@ -50,8 +50,8 @@ abbrev pub rewrite_config : DualPipesBuilder → RecoveryConfig
 rewrite_config b = recovery_of b.config Rewrite
     (rewrite_share (all_workers b) (length (append_files b)) (length (rewrite_files b)))
 
--- One machine has read all files of Append, and another all of Rewrite; the endings are the results for the files. No
--- file has an alignment.
+-- One machine has read all files of Append, and another all files of Rewrite. The endings are the results for the
+-- files. No file has an alignment.
 pub record HasReadBoth {M : Type 0} (reads : LogQueue → List Batch → M → Type 0) (b : DualPipesBuilder)
     (d : Disk) (append rewrite : M) (append_endings rewrite_endings : List FileEnding) : Type 0 where
   pub append_read : HasReadFiles reads (append_config b) (append_files b) d append append_endings

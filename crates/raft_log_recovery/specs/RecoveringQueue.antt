@@ -48,7 +48,7 @@ abbrev pub queue_files : LogQueue → DualPipesBuilder → RecoveredQueue
 queue_files Append b = b.append
 queue_files Rewrite b = b.rewrite
 
--- only what the builder has of this queue changed
+-- between `b` and `after`, only what the builder has of this queue changed
 abbrev pub OtherQueueIsKept : LogQueue → DualPipesBuilder → DualPipesBuilder → Type 0
 OtherQueueIsKept Append b after = after ≡ record b { append = after.append }
 OtherQueueIsKept Rewrite b after = after ≡ record b { rewrite = after.rewrite }

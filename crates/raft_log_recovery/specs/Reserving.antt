@@ -19,22 +19,22 @@ abbrev pub wanted_files : DualPipesBuilder → ℕ
 wanted_files b = min (prefill_capacity (settings_of b.config))
     (recycle_capacity (settings_of b.config) - length (append_files b))
 
--- There are as many reserved files as are wanted, or none if there was no space for one. The builder's other files are
--- as before.
+-- The builder has as many reserved files as are wanted, or none if a write failed for lack of space. Its other files
+-- are as before.
 pub record ReadiesLog {F : Type 0} (disk : F → Disk) (tells : F → List ℕ → ℕ → Type 0)
     (b after : DualPipesBuilder) (old new : F) : Type 0 where
   pub readies : Readies disk tells (log_paths Append (paths_of b.config)) b.config.target_file_size.0
       (wanted_files b) b.reserved.items after.reserved.items old new
   pub same : (after.config ≡ b.config) × (after.append ≡ b.append) × (after.rewrite ≡ b.rewrite)
 
--- Why readying the reserved files fails: memory ran out, and nothing was done; or one could not be made, or one that
--- was to be deleted had no name.
+-- why readying the reserved files fails: memory ran out, and nothing was done; or one couldn't be made; or no name was
+-- made for one that was to be deleted
 abbrev pub FailsToReadyLog : {F : Type 0} → (F → Disk) → (F → List ℕ → ℕ → Type 0) → DualPipesBuilder → Error
     → F → F → Type 0
 FailsToReadyLog disk tells b error old new = ((error ≡ errors.Memory) × (disk new ≡ disk old))
     ⊎ FailsToReady disk tells (log_paths Append (paths_of b.config)) b.config.target_file_size.0
     (wanted_files b) b.reserved.items error old new
 
--- the reserved files that the builder has after a failure: those from before, if nothing was done; else none
+-- after a failure to ready the reserved files: either nothing was done, or the builder has no reserved file
 abbrev pub LeavesReserved : DualPipesBuilder → DualPipesBuilder → Disk → Disk → Type 0
 LeavesReserved b after old new = ((after ≡ b) × (new ≡ old)) ⊎ (after.reserved.items ≡ [])

@@ -19,29 +19,28 @@ use Rattle.raft_log_replay_context.specs.Pieces.{invalid_mark}
 use Rattle.raft_log_replay_context.specs.Context.{tables_of, written_to, HasRead}
 use Rattle.raft_log_replay_context.specs.Written.{written_by}
 
--- The records are in order. Between the begin and the end of an atomic group, nothing takes effect for its raft
--- groups. In each raft group, what takes effect of the records leaves no hole and no index too high.
+-- The records are in order.
+-- - `tidy`: between the begin and the end of an atomic group, nothing takes effect for its raft groups.
+-- - `healthy`: in each raft group, the runs that take effect leave no hole, and their indexes are below 2 ^ 64 - 1.
 pub record AreOrderly (rs : List ReadRecord) : Type 0 where
   pub tidy : Tidy (records_of rs)
   pub healthy : (g : ℕ) → AreHealthy (counted g rs)
 
--- there is one more record, and with it the records are not in order
+-- there is one more record `r`, and `rs` with `r` after them are not in order
 abbrev pub IsDisorder : List ReadRecord → Option ReadRecord → Type 0
 IsDisorder rs None = ⊥
 IsDisorder rs (Some r) = AreOrderly (rs ++ r ∷ []) → ⊥
 
--- Why a batch of Rewrite isn't read: it has a broken mark or two marks, and the error is `Corruption` with this text.
--- The error may always be `Memory`.
+-- Why a batch of Rewrite isn't read. `r` is the record that the batch decodes to, or `None` if it has a broken mark or
+-- two marks: then the error is `Corruption` with the text `invalid_mark`. It may be `Memory` in any case.
 abbrev pub RewriteIsUnread : Option ReadRecord → Error → Type 0
 RewriteIsUnread r (errors.Corruption text) = (r ≡ None) × (string_bytes text ≡ invalid_mark)
 RewriteIsUnread r errors.Memory = Unit {0}
 RewriteIsUnread r _ = ⊥
 
--- Why a batch isn't read after the records `rs`. `r` is the record that the batch decodes to, or `None` if its marks
--- of atomic groups are invalid. The error is
--- - `Hole` if the indexes of `rs` followed by `r` are not in order;
--- - `Corruption` with the text `invalid_mark` if `r` is `None`;
--- - or `Memory`, in any case.
+-- Why a batch isn't read after the records `rs`. `r` is the record that the batch decodes to, or `None` if it has a
+-- broken mark of an atomic group, or two marks. The error is `Hole` if `rs` with `r` after them are not in order
+-- (`AreOrderly`), or `Corruption` with the text `invalid_mark` if `r` is `None`. It may be `Memory` in any case.
 abbrev pub IsBatchDeclined : List ReadRecord → Option ReadRecord → Error → Type 0
 IsBatchDeclined rs r errors.Hole = IsDisorder rs r
 IsBatchDeclined rs r (errors.Corruption text) = (r ≡ None) × (string_bytes text ≡ invalid_mark)
@@ -54,14 +53,14 @@ ReplayDeclined file items old error =
     (rs : List ReadRecord) → HasRead file.queue rs old
     → IsBatchDeclined rs (record_read file.queue file.seq items) error
 
--- Why the records of two segments aren't joined. The error is `Hole` if the records of both are not in order. It may
--- always be `Memory`.
+-- Why the contexts of two segments aren't merged; `rs` are the records of both, one segment after the other. The error
+-- is `Hole` if `rs` are not in order. It may be `Memory` in any case.
 abbrev pub StayApart : List ReadRecord → Error → Type 0
 StayApart rs errors.Hole = AreOrderly rs → ⊥
 StayApart rs errors.Memory = Unit {0}
 StayApart rs _ = ⊥
 
--- why the context `old` isn't merged with `later`, whatever records the two have read, one after the other
+-- why the context `old` isn't merged with `later`, that of the next segment, whatever records the two have read
 abbrev pub MergeDeclined : LogQueue → MemTableRecoverContext → MemTableRecoverContext → Error → Type 0
 MergeDeclined queue old later error =
     (xs ys : List ReadRecord) → HasRead queue xs old → HasRead queue ys later → StayApart (xs ++ ys) error
@@ -70,23 +69,23 @@ MergeDeclined queue old later error =
 abbrev pub AreRecordsRead : LogQueue → List Batch → List ReadRecord → Type 0
 AreRecordsRead queue bs rs = AllZip (λ b r. record_read queue b.file b.items ≡ Some r) bs rs
 
--- The context has read these batches of a queue. Each of them is a record, and the context represents these records.
--- It has counted their entries and values, up to 2 ^ 64 - 1.
+-- The context has read these batches of a queue. Each batch decodes to a record, and the context has read these
+-- records. `written_to` counts their entries and values, but at most 2 ^ 64 - 1.
 pub record HasReadBatches (queue : LogQueue) (bs : List Batch) (c : MemTableRecoverContext) : Type 0 where
   pub records : List ReadRecord
   pub told : AreRecordsRead queue bs records
   pub read : HasRead queue records c
   pub written : written_to c ≡ min (written_by bs) (2 ^ 64 - 1)
 
--- each of the batches is a record, and the records are not in order
+-- each of the batches decodes to a record, and these records are not in order
 pub record AreDisorderly (queue : LogQueue) (bs : List Batch) : Type 0 where
   pub records : List ReadRecord
   pub told : AreRecordsRead queue bs records
   pub disorder : AreOrderly records → ⊥
 
--- Why a context fails at batches of a queue. The error is `Hole` if their records are not in order, for example
--- because a run leaves a hole. It is `Corruption` with this text if some batch has a broken mark or two marks. It may
--- always be `Memory`.
+-- Why a context fails to read batches of a queue. The error is `Hole` if their records are not in order, for example
+-- because a run leaves a hole. It is `Corruption` with the text `invalid_mark` if some batch has a broken mark or two
+-- marks. It may be `Memory` in any case.
 abbrev pub Declines : LogQueue → List Batch → Error → Type 0
 Declines queue bs errors.Hole = AreDisorderly queue bs
 Declines queue bs (errors.Corruption text) =

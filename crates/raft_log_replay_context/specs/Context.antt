@@ -38,17 +38,19 @@ abbrev pub ArePlain : List ReadRecord → Type 0
 ArePlain [] = Unit {0}
 ArePlain (r ∷ rs) = (is_plain r.taken ≡ true) × ArePlain rs
 
--- A raft group counts if an item of it took effect after its last Clean. This is claimed under two conditions.
--- Between the begin and the end of an atomic group, nothing takes effect for its raft groups. In the raft group, what
--- takes effect leaves no hole and no index too high.
+-- `counting` says which raft groups count: those of which an item took effect after their last Clean. This is claimed
+-- under two conditions. Between the begin and the end of an atomic group, nothing takes effect for its raft groups. In
+-- the raft group, the runs that take effect leave no hole, and their indexes are below 2 ^ 64 - 1.
 abbrev pub AreCounting : List ReadRecord → (ℕ → Bool) → Type 0
 AreCounting rs counting =
     Tidy (records_of rs) → (g : ℕ) → AreHealthy (counted g rs) → counting g ≡ counts_at_end false (counted g rs)
 
--- The context has read exactly these records of a queue. Its tables are those of the items that take effect. Its
--- pieces are those of atomic groups that the records leave open, or that began before them. In Append, all records
--- take effect at once, their runs end at or below 2 ^ 64 - 1, and no files are recorded. In Rewrite, the tables
--- record the files of the atomic groups, and none past those that were read.
+-- The context has read exactly these records of a queue.
+-- - `tables`, `counting`: its tables are those of the items that take effect, and know which raft groups count.
+-- - `plain`, `fit`, `none`: in Append, all records take effect at once, the indexes of their runs are below
+--   2 ^ 64 - 1, and the tables record no files of atomic groups.
+-- - `notes`, `ends`: in Rewrite, the tables record the files of atomic groups, but none past those that were read.
+-- - `pieces`: it has the pieces of atomic groups that the records leave open, or that began before them.
 pub record HasRead (queue : LogQueue) (rs : List ReadRecord) (c : MemTableRecoverContext) : Type 0 where
   pub plain : in_append queue ≡ true → ArePlain rs
   pub fit : in_append queue ≡ true → RecordsFit (records_of rs)
@@ -59,7 +61,7 @@ pub record HasRead (queue : LogQueue) (rs : List ReadRecord) (c : MemTableRecove
   pub none : in_append queue ≡ true → (g : ℕ) → (replayed_of c.tables g).table.noted ≡ None
   pub pieces : ArePieces rs c.pieces
 
--- there is one more record, and if the context had read some records, it has now read these and then this one
+-- The batch decodes to a record `r`. If the context `old` had read some records, `new` has read these and then `r`.
 abbrev pub ContextReadsOne : LogQueue → Option ReadRecord → MemTableRecoverContext → MemTableRecoverContext → Type 0
 ContextReadsOne queue None old new = ⊥
 ContextReadsOne queue (Some r) old new =
@@ -77,13 +79,14 @@ tables_of c = c.tables
 abbrev pub written_to : MemTableRecoverContext → ℕ
 written_to c = c.written
 
--- in Append, no run of the items leaves a hole, or an index too high, after what the context has of its group
+-- In Append, no run of the items leaves a hole after what the context has of the run's group. The indexes of the runs
+-- are below 2 ^ 64 - 1.
 abbrev pub LeavesNoHole : FileId → List LogItem → MemTableRecoverContext → Type 0
 LeavesNoHole file items c =
     in_append file.queue ≡ true → MayFollowAll (shown_of c.tables) (tagged_items place_of items)
 
--- If this is Append, the items before one were applied, and that one failed: its run leaves a hole or an index too
--- high, or memory ran out.
+-- A batch of Append wasn't read: the items before one of its items were applied, and applying this item failed. Its run
+-- leaves a hole or has an index of 2 ^ 64 - 1 or more, or memory ran out.
 abbrev pub AppendRefused : FileId → List LogItem → MemTableRecoverContext → MemTableRecoverContext → Error
     → Type 0
 AppendRefused file items old new error =
@@ -101,9 +104,9 @@ abbrev pub MergesInto : LogQueue → MemTableRecoverContext → MemTableRecoverC
 MergesInto queue old later new =
     (xs ys : List ReadRecord) → HasRead queue xs old → HasRead queue ys later → HasRead queue (xs ++ ys) new
 
--- In raft group `g`, the tables show what was read of Append over what was read of Rewrite. The files of the atomic
--- groups of Rewrite are recorded, and none past those that were read. The group counts if an item of it took effect
--- after the last Clean in Rewrite and then Append.
+-- In raft group `g`, the tables show what was read of Append over what was read of Rewrite. They record the files of
+-- Rewrite's atomic groups, and none past those that were read. The group counts if an item of it took effect after its
+-- last Clean. For this, all of Append comes after all of Rewrite.
 pub record IsOverAt (rewrite append : List ReadRecord) (m : MemTables) (g : ℕ) : Type 0 where
   pub rewritten : Replayed
   pub appended : Replayed
@@ -116,22 +119,22 @@ pub record IsOverAt (rewrite append : List ReadRecord) (m : MemTables) (g : ℕ)
 
 -- In every raft group, the tables show what was read of Append over what was read of Rewrite. This is claimed under
 -- two conditions, for both queues. Between the begin and the end of an atomic group, nothing takes effect for its
--- raft groups. In the raft group, what takes effect leaves no hole and no index too high.
+-- raft groups. In the raft group, the runs that take effect leave no hole, and their indexes are below 2 ^ 64 - 1.
 abbrev pub ComesOver : List ReadRecord → List ReadRecord → MemTables → Type 0
 ComesOver rewrite append m =
     Tidy (records_of rewrite) → Tidy (records_of append) → (g : ℕ)
     → AreHealthy (counted g rewrite) → AreHealthy (counted g append)
     → IsOverAt rewrite append m g
 
--- The contents of slot `s` in group `g`, if the queues have these records and `at` gives the bytes at each place.
+-- the contents of slot `s` in group `g`, if the queues have these records and `at` gives the bytes at each place
 abbrev pub meant_by : {E : Type 0} → (Located → E) → List ReadRecord → List ReadRecord → ℕ → Slot
     → Option (Content E (List ℕ))
 meant_by at rewrite append g s =
     directory s (map (told at) (counted g rewrite)) (map (told at) (counted g append))
 
 -- The records are well formed for group `g`. In both queues, nothing takes effect for the raft groups of an atomic
--- group between its begin and its end. What takes effect in `g` leaves no hole and no index too high. The resulting
--- entries have consecutive indexes.
+-- group between its begin and its end. In both queues, the runs that take effect in `g` leave no hole, and their
+-- indexes are below 2 ^ 64 - 1. The resulting entries have consecutive indexes.
 pub record IsSoundFor {E : Type 0} (at : Located → E) (rewrite append : List ReadRecord) (g : ℕ) : Type 0 where
   pub tidy : Tidy (records_of rewrite)
   pub tidy_append : Tidy (records_of append)

@@ -1,5 +1,5 @@
--- The files that the tables record for the atomic groups of Rewrite, and what takes effect if a replay starts at
--- these.
+-- The files that the tables record for the atomic groups of Rewrite, and what takes effect if a replay starts at the
+-- first of them.
 use Rattle.std.specs.Prelude.{◌≡◌, ℕ, ◌==◌, ◌||◌, ◌≤◌, ◌⊎◌, Bool, true, false, List, [], ◌∷◌, ◌++◌, Option, Some, None}
 use Rattle.std.specs.Global.{Vec}
 use Rattle.raft_log_model_laws.specs.Item.{Item, items_of}
@@ -50,20 +50,21 @@ abbrev pub is_listed : ℕ → List ℕ → Bool
 is_listed g [] = false
 is_listed g (h ∷ hs) = (h == g) || is_listed g hs
 
--- The files were recorded for a raft group, in addition to those from before. If nothing was read of the group,
--- nothing was recorded.
+-- either the files were recorded for a raft group, in addition to those from before; or nothing was read of the group,
+-- and nothing was recorded for it
 abbrev pub NotesAt : GroupFiles → Replayed → Replayed → Type 0
 NotesAt files old new =
     (new ≡ with_read_group old files) ⊎ ((old ≡ nothing_replayed) × (new ≡ nothing_replayed))
 
--- If there are files, they were recorded for each raft group for which `test` is true, and for no other.
+-- if there are files, they were recorded for each raft group for which `test` is true, and for no other (`NotesAt`);
+-- without files, nothing changed
 abbrev pub NotesAll : Option GroupFiles → (ℕ → Bool) → (ℕ → Replayed) → (ℕ → Replayed) → Type 0
 NotesAll None test old new = (g : ℕ) → new g ≡ old g
 NotesAll (Some files) test old new =
     (g : ℕ) → (test g ≡ true → NotesAt files (old g) (new g)) × (test g ≡ false → new g ≡ old g)
 
--- The atomic group with these records took effect. The records were applied to the tables, and its files were
--- recorded for each of its raft groups. Recording the files doesn't change which groups count.
+-- The atomic group with these records took effect. The records were applied to the tables, and their files were
+-- recorded for each raft group that has items in them. Recording the files doesn't change which raft groups count.
 pub record SettlesGroup (ps : List GroupPart) (old new : MemTables) : Type 0 where
   pub between : MemTables
   pub reads : ReadsParts ps old between
@@ -130,16 +131,15 @@ pub record CountsFrom (rs : List ReadRecord) (g n : ℕ) (s : Slot) : Type 0 whe
   pub from : n ≤ first.file
   pub spoken : IsSpoken (says s (counted g (first ∷ back)))
 
--- Suppose a slot of raft group `g` has content. A suffix of the records has an item that takes effect and touches the
--- slot. The suffix begins in a certain file or later: the content's own or, if an atomic group may reach into that,
--- the first recorded one.
+-- each slot of raft group `g` that has content counts (`CountsFrom`) from the content's own file on; or from the first
+-- file recorded for atomic groups, if such a group may reach into the content's file (`start_of`)
 abbrev pub NotesCover : List ReadRecord → ℕ → Option GroupFiles → Type 0
 NotesCover rs g noted =
     (s : Slot) (c : Content Located KeyValue) → says s (counted g rs) ≡ Some (Some c)
     → CountsFrom rs g (start_of (file_in c) noted) s
 
--- Suppose each record has its content in the file that it was read from, and the records are in order. Then the
--- recorded files of each raft group cover its content, as the definition above says.
+-- The files recorded for each raft group cover its content (`NotesCover`). This has two premises. Each record's entries
+-- and values are in the file that it was read from, and the records are in order for the group.
 abbrev pub AreNotedRead : List ReadRecord → (ℕ → Replayed) → Type 0
 AreNotedRead rs z =
     AreWhereRead rs → Tidy (records_of rs) → (g : ℕ) → AreHealthy (counted g rs)

@@ -42,9 +42,9 @@ FilesHold at rs (f ∷ fs) =
     (here rest : List ReadRecord) × (rs ≡ here ++ rest) × AllReadIn f.number here
     × (f.records ≡ told_records at here) × FilesHold at rest fs
 
--- `rs` are the records of the files `fs`, whose numbers rise. Their entries and values are in the files that they
--- were read from. Between the begin and the end of an atomic group, nothing takes effect for its raft groups. In each
--- raft group, what takes effect leaves no hole and no index too high.
+-- `rs` are the records of the files `fs`, whose numbers rise. Each record's entries and values are in the file that it
+-- was read from. Between the begin and the end of an atomic group, nothing takes effect for its raft groups. In each
+-- raft group, the runs that take effect leave no hole, and their indexes are below 2 ^ 64 - 1.
 pub record IsWhatWasRead {E : Type 0} (at : Located → E) (rs : List ReadRecord)
     (fs : List (LogFile E (List ℕ))) : Type 0 where
   pub files : FilesHold at rs fs
@@ -57,8 +57,8 @@ pub record IsWhatWasRead {E : Type 0} (at : Located → E) (rs : List ReadRecord
 abbrev pub map_read : {E : Type 0} → (Located → E) → List ReadRecord → List ReadRecord → Map E (List ℕ)
 map_read at rewrite append = directory_meaning (told_records at rewrite) (told_records at append)
 
--- The tables are those of the log files `f`, after these records were read from both queues. The records of Append
--- take effect at once, and in each group the entries have consecutive indexes below 2 ^ 64 - 1.
+-- The tables `m` are those of the log files `f`, from which these records of both queues were read. The records of
+-- Append take effect at once. In each raft group, the log's entries have consecutive indexes below 2 ^ 64 - 1.
 pub record AreTablesOf {E : Type 0} (at : Located → E) (rewrite append : List ReadRecord) (m : MemTables)
     (f : Files E (List ℕ)) : Type 0 where
   pub over : ComesOver rewrite append m

@@ -25,8 +25,8 @@ use Rattle.raft_log_replay_context.specs.declared.pieces.GroupPieces.{GroupPiece
 use Rattle.raft_log_replay_context.specs.OpenGroups.{Begun}
 use Rattle.raft_log_replay_context.specs.Records.{in_file, said_in, ReadItem, ReadRecord}
 
--- A function of a record's file and items. Statements about records are made for every such function, so that they
--- hold for both the items and the files.
+-- What a statement looks at in a record: a function of the record's file and items. Statements about pieces hold for
+-- every such function, so for the items (`as_said`) as for the files (`as_file`).
 abbrev pub Reading : Type 0
 Reading = ℕ → List ReadItem → List ReadItem
 
@@ -73,8 +73,8 @@ whole_seen φ (Some ps) = parts_seen φ ps.items
 abbrev pub part_read : Mark → GroupPart → ReadRecord
 part_read m p = in_file p.file (Part m (part_items p))
 
--- What a segment does with an atomic group that may be open before it: it continues the group, ends it, or begins a
--- new one with its number.
+-- what a segment does with an atomic group that may be open before the segment: it continues the group, ends it, or
+-- begins a new group with the same number
 abbrev pub head_of : Reading → GroupHead → Head Located KeyValue
 head_of φ (code.GoesOn ps) = GoesOn (parts_seen φ ps.items)
 head_of φ (code.Ends ps) = Ends (parts_seen φ ps.items)
@@ -108,14 +108,15 @@ pub record ArePieces (rs : List ReadRecord) (p : GroupPieces) : Type 0 where
 abbrev pub TakesRecord : ReadRecord → GroupPieces → GroupPieces → Type 0
 TakesRecord r old new = (rs : List ReadRecord) → ArePieces rs old → ArePieces (rs ++ r ∷ []) new
 
--- `part` ends atomic group number `n` after the records `rs`. `whole` is the complete group with all its records if
--- it began in them, else nothing.
+-- `part` ends atomic group number `n` after the records `rs`. `whole` has all records of the group if the group began
+-- in `rs`, else it is `None`.
 abbrev pub EndsGroupWhole : List ReadRecord → ℕ → GroupPart → Option (Vec GroupPart) → Type 0
 EndsGroupWhole rs n part whole =
     (φ : Reading)
     → whole_seen φ whole ≡ counts (opened none_open (seen_by φ rs)) (Part (End n) (part_seen φ part))
 
--- `part` ends atomic group number `n`: `new` has the pieces after it, and `whole` is the group if it is now complete
+-- `part` ends atomic group number `n`: `new` has the pieces of the records with `part` after them, and `whole` is the
+-- group if it is now complete
 abbrev pub EndsGroup : ℕ → GroupPart → GroupPieces → GroupPieces → Option (Vec GroupPart) → Type 0
 EndsGroup n part old new whole =
     (rs : List ReadRecord) → ArePieces rs old
@@ -135,7 +136,8 @@ abbrev pub AllGroups : (List GroupPart → Type 0) → List (Vec GroupPart) → 
 AllGroups P [] = Unit {0}
 AllGroups P (ps ∷ pss) = P ps.items × AllGroups P pss
 
--- an atomic group was open, and the next segment ends it; `ps` are its records from both, together
+-- An atomic group was open: `state` has its items so far. The next segment ends it: `head` has its items there. `ps`
+-- are the group's records from both.
 pub record GoesToEnd (φ : Reading) (state : Option (List ReadItem)) (head : Head Located KeyValue)
     (ps : List GroupPart) : Type 0 where
   pub so_far : List ReadItem
@@ -166,8 +168,8 @@ JoinsPieces old later new done =
     → ArePieces (xs ++ ys) new × IsBorder xs ys done
 
 -- The groups `old`, open after the records `rs`, continue in the next segment, which does with each what `before`
--- says. `done` has the items of those that it ends, and `new` the ones still open. After `rs`, `after` has the same
--- effect as `before`.
+-- says. `done` has the items of the groups that the segment ends, and `new` are those that it leaves open. After `rs`,
+-- `after` has the same effect as `before`.
 pub record CarryOn (old : List (Unfinished Located KeyValue)) (before : ℕ → Head Located KeyValue)
     (new : List (Unfinished Located KeyValue)) (after : ℕ → Head Located KeyValue) (done : List ReadItem)
     (rs : List (Record Located KeyValue)) : Type 0 where
@@ -175,8 +177,8 @@ pub record CarryOn (old : List (Unfinished Located KeyValue)) (before : ℕ → 
   pub left : new ≡ carried_on old before
   pub heads : (n : ℕ) → then_head (head n [] rs) (after n) ≡ then_head (head n [] rs) (before n)
 
--- The groups that `old` leaves open continue in the next segment, which does with each what `heads` says. This holds
--- for every function `φ` of their records.
+-- The groups that `old` leaves open continue in the next segment, which does with each what `heads` says. `done` are
+-- the groups that the segment ends, `new` has those that it leaves open. This holds for every function `φ` of records.
 abbrev pub CarriesOn : GroupPieces → (Reading → ℕ → Head Located KeyValue) → GroupPieces
     → (Reading → ℕ → Head Located KeyValue) → List (Vec GroupPart) → Type 0
 CarriesOn old heads new left done =
@@ -190,7 +192,8 @@ HandsOut old heads done =
     × ((φ : Reading) (rs : List (Record Located KeyValue)) → left_open φ old ≡ unfinished rs
     → GoesToEnd φ (opened none_open rs n) (heads φ n) ps)) done
 
--- If the next segment ends the group, the group is added to `old` with all its records. Otherwise `new` is `old`.
+-- If the next segment ends `group`, then `new` is `old` with this group at the end, with all its records. Otherwise
+-- `new` is `old`.
 abbrev pub PassesOn : OpenGroup → Option GroupHead → List (Vec GroupPart) → List (Vec GroupPart) → Type 0
 PassesOn group (Some (code.Ends more)) old new =
     (ps : Vec GroupPart) × (new ≡ old ++ ps ∷ [])

@@ -63,24 +63,25 @@ record_read Rewrite n items =
 abbrev pub counted : ℕ → List ReadRecord → List (Item Located KeyValue)
 counted g rs = rewritten g (records_of rs)
 
--- each run of the items ends at or below 2 ^ 64 - 1
+-- the indexes of each run of the items are below 2 ^ 64 - 1
 abbrev pub RunsFit : {E V : Type 0} → List (Item E V) → Type 0
 RunsFit [] = Unit {0}
 RunsFit (x ∷ xs) = Fits x × RunsFit xs
 
--- no run of the items leaves a hole, and each ends at or below 2 ^ 64 - 1
+-- no run of the items leaves a hole, and the indexes of each run are below 2 ^ 64 - 1
 abbrev pub AreHealthy : {E V : Type 0} → List (Item E V) → Type 0
 AreHealthy xs = NoHole nothing xs × RunsFit xs
 
--- In each raft group, the replay has the result of the items that take effect. This is claimed under two conditions:
+-- In each raft group, `z` is the result of replaying the items that take effect, in Append if `q` is true, else in
+-- Rewrite. This is claimed under two conditions:
 -- - Between the begin and the end of an atomic group, nothing takes effect for the raft groups of its items.
--- - In the raft group, the items that take effect leave no hole and no index too high.
+-- - In the raft group, the runs that take effect leave no hole, and their indexes are below 2 ^ 64 - 1.
 abbrev pub AreReplayed : Bool → List ReadRecord → (ℕ → Replayed) → Type 0
 AreReplayed q rs z =
     Tidy (records_of rs) → (g : ℕ) → AreHealthy (counted g rs) → IsReplayed q (counted g rs) (z g)
 
--- Applying the items `xs` to the tables has, in each raft group, the result of replaying them after what was read
--- before. This is claimed only if all items together leave no hole and no index too high.
+-- If `old` is the result of replaying the items `before` of a raft group, `new` is that of replaying these and then the
+-- group's items in `xs`. This is claimed only if all these runs leave no hole, and their indexes are below 2 ^ 64 - 1.
 abbrev pub TablesTake : Bool → List ReadItem → (ℕ → Replayed) → (ℕ → Replayed) → Type 0
 TablesTake q xs old new =
     (g : ℕ) (before : List (Item Located KeyValue)) → AreHealthy (before ++ of_group g xs)

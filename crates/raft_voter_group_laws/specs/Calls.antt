@@ -1,5 +1,5 @@
--- What the callers of one group see of a transcript, and what one voter gives them. A voter of this file serves one
--- group, and knows no other group and no crash.
+-- What the callers of one group see of a transcript, and what one voter gives them. In this file a voter serves the
+-- calls of one group. It knows of no other group and of no crash.
 use Rattle.std.specs.Prelude.{ℕ, ◌+◌, ◌==◌, ◌&&◌, nat_lt, Bool, true, false, not, if◌then◌else◌, List, [], ◌∷◌, ◌++◌, length, drop, slice_get, Option, None, Some}
 use Rattle.raft_voter_messages.specs.declared.reply.Reply.{Reply}
 use Rattle.raft_voter_messages.specs.declared.reply.Reply.TheVariants.{Refused}
@@ -53,7 +53,7 @@ calls_from group replied refused cut place (q ∷ qs) =
     ∷ calls_from group replied refused cut (place + 1) qs
     else calls_from group replied refused cut (place + 1) qs
 
--- the calls of `group` in round `r`; if it was cut off, then at the first of `cuts`
+-- the calls of `group` in round `r`; if the round was cut off, the first of `cuts` is its cut
 abbrev pub calls_in : ℕ → Round → List ℕ → List Call
 calls_in group r cuts =
     calls_from group (has_replies r.outcome) r.refused (place_reached r.outcome (length r.requests) cuts) 0 r.requests
@@ -65,12 +65,12 @@ calls_of group (r ∷ rounds) cuts = calls_in group r cuts ++ calls_of group rou
 
 -- One voter.
 
--- What the caller sees if voter `v` serves this call. The voter replies to a request that it takes. The reply to any
--- other is `Refused`. In a round without replies the caller sees nothing.
+-- What the caller sees if voter `v` serves this call. In a round with replies, it is the voter's reply if the request
+-- was taken, else `Refused`. In a round without replies, the caller sees nothing.
 abbrev pub shown_by : State → Call → Option Reply
 shown_by v c = if c.replied then Some (if c.taken then reply v c.request else Refused) else None
 
--- voter `v` after this call: it changes only by a request that it takes
+-- voter `v` after this call: unchanged if the request wasn't taken
 abbrev pub after_call : State → Call → State
 after_call v c = if c.taken then next v c.request else v
 

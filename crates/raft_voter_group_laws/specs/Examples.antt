@@ -1,5 +1,5 @@
--- An example: three rounds for groups 1 and 2. The second was cut off at position 2 by a crash. In the third, one
--- request was refused.
+-- An example: three rounds for groups 1 and 2. A crash cut off the second round. With its cut at position 2, voters
+-- explain the rounds. In the third round, one request was refused.
 use Rattle.std.specs.Prelude.{ℕ, List, [], ◌∷◌, Option, Some}
 use Rattle.raft_voter_messages.specs.declared.reply.Entry.{Entry}
 use Rattle.raft_voter_messages.specs.declared.reply.Reply.{Reply}
@@ -13,7 +13,7 @@ use Rattle.raft_voter_messages.specs.declared.round.Round.{Round}
 abbrev pub append_one : ℕ → ℕ → ℕ → Request
 append_one prev prev_term byte = Append 1 prev prev_term 0 ((1, byte ∷ []) ∷ [])
 
--- group 1 appends entry 1, and group 2 votes for candidate 7 in term 3; these are the replies
+-- entry 1 is appended to group 1, and candidate 7 asks for the vote of group 2 in term 3; `replies` are the replies
 abbrev pub first_life : List Reply → Round
 first_life replies = record {
   requests = (1, append_one 0 0 65) ∷ (2, Vote 3 7 0 0) ∷ [];
@@ -21,7 +21,8 @@ first_life replies = record {
   outcome = Answered replies;
 }
 
--- group 1 appends entry 2, group 2 votes for candidate 8 in term 4, and group 1 appends entry 3: no replies
+-- Entry 2 is appended to group 1. Candidate 8 asks for the vote of group 2 in term 4. Entry 3 is appended to group 1.
+-- There are no replies.
 abbrev pub crash : Round
 crash = record {
   requests = (1, append_one 1 1 66) ∷ (2, Vote 4 8 0 0) ∷ (1, append_one 2 1 67) ∷ [];
@@ -33,7 +34,8 @@ crash = record {
 abbrev pub both_entries : List Entry
 both_entries = record { index = 1; term = 1; bytes = 65 ∷ [] } ∷ record { index = 2; term = 1; bytes = 66 ∷ [] } ∷ []
 
--- group 1 reads entries 1 and 2, group 2 votes for candidate 9 in term 4, and group 1 appends entry 3, which is refused
+-- Entries 1 and 2 of group 1 are read. Candidate 9 asks for the vote of group 2 in term 4, and is denied. The Append of
+-- entry 3 to group 1 is refused.
 abbrev pub second_life : Round
 second_life = record {
   requests = (1, Read 1 3) ∷ (2, Vote 4 9 0 0) ∷ (1, append_one 2 1 67) ∷ [];
@@ -45,11 +47,11 @@ second_life = record {
 abbrev pub two_lives : List Reply → List Round
 two_lives replies = first_life replies ∷ crash ∷ second_life ∷ []
 
--- the replies of the first round
+-- replies of the first round that voters explain
 abbrev pub right_replies : List Reply
 right_replies = Matched 1 ∷ Granted 3 ∷ []
 
--- the same, but for one number: group 2's vote is granted in term 2
+-- the same replies, except that group 2's vote is granted in term 2, though the request is of term 3
 abbrev pub wrong_replies : List Reply
 wrong_replies = Matched 1 ∷ Granted 2 ∷ []
 

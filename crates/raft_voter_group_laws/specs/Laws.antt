@@ -14,8 +14,8 @@ use Rattle.raft_voter.specs.Rounds.{Explains, HasCut, Leads, World, are_rising, 
 use Rattle.raft_voter_outline.specs.State.{entry_at, fresh}
 use Rattle.raft_voter_group_laws.specs.Calls.{after_calls, calls_of, one_voter_shows, replies_seen, taken_of}
 
--- One voter explains what the callers of `group` saw in these rounds. It starts fresh and serves this group's calls.
--- It takes neither refused requests nor those from a round's cut on.
+-- One voter explains what the callers of `group` saw in these rounds. The voter starts fresh and serves this group's
+-- calls. It takes neither refused requests nor those from a round's cut on.
 abbrev pub HasOneVoter : ℕ → List Round → List ℕ → Type 0
 HasOneVoter group rounds cuts = replies_seen group rounds ≡ one_voter_shows fresh (calls_of group rounds cuts)
 
@@ -24,8 +24,8 @@ abbrev pub EachGroupHasOneVoter : Type 0
 EachGroupHasOneVoter =
     (rounds : List Round) (cuts : List ℕ) → Explains rounds cuts → (group : ℕ) → HasOneVoter group rounds cuts
 
--- Suppose rounds lead from world W to X. Then the callers of each group saw exactly what the group's voter in W shows.
--- After these calls, that voter is the group's voter in X.
+-- If the rounds lead from world `W` to world `X`, the callers of each group saw exactly what the group's voter in `W`
+-- shows. This voter, after its calls in these rounds, is the group's voter in `X`.
 abbrev pub EachGroupKeepsItsVoter : Type 0
 EachGroupKeepsItsVoter =
     (W X : World) (rounds : List Round) (cuts : List ℕ) → Leads W rounds cuts X
@@ -41,13 +41,13 @@ AccountListsTakenCalls =
     → (group : ℕ)
     → group_account group rounds cuts ≡ taken_of (calls_of group rounds cuts) (replies_seen group rounds)
 
--- a round of `size` requests with this outcome has a reply for each of them, or its cut, which is at most `size`
+-- a round of `size` requests has a reply for each of them; or it was cut off, and the first of `cuts` is at most `size`
 abbrev pub OutcomeFits : Outcome → ℕ → List ℕ → Type 0
 OutcomeFits (Answered replies) size cuts = length replies ≡ size
 OutcomeFits Cut size cuts = HasCut size cuts
 
--- The refused positions of each round rise and are within it. Each round has all its replies or one cut, and there are
--- no more cuts.
+-- The refused positions of each round rise and are below the number of its requests. Each round either has a reply for
+-- each request, or was cut off at the next of `cuts`. All cuts are used up.
 abbrev pub PlacesFit : List Round → List ℕ → Type 0
 PlacesFit [] cuts = cuts ≡ []
 PlacesFit (r ∷ rounds) cuts =
@@ -60,9 +60,10 @@ GroupsAloneExplain =
     (rounds : List Round) (cuts : List ℕ)
     → Explains rounds cuts ↔ (PlacesFit rounds cuts × ((group : ℕ) → HasOneVoter group rounds cuts))
 
--- Suppose a matched Append brought entry `e` for index `i`, and a later Read of the same group returned a range with
--- `i`. Each request taken between them spared that index. Then the Read returned an entry with this index and term.
--- Its bytes are those sent, or those of an entry of this term that the voter had there before the Append.
+-- Suppose an Append with the reply `Matched` brought entry `e` for index `i`, and a later Read of the same group
+-- returned a range with `i`. Each request taken between them left the voter's entry at `i` (`AllSpare`). Then the Read
+-- returned an entry with this index and the term of `e`. Its bytes are those of `e`, or those of an entry of this term
+-- that the voter had at `i` before the Append.
 abbrev pub AppendedEntryIsRead : Type 0
 AppendedEntryIsRead =
     (rounds : List Round) (cuts : List ℕ) (group : ℕ) → Explains rounds cuts

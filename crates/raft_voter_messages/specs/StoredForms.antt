@@ -29,8 +29,8 @@ head_text term vote base_index base_term =
 abbrev pub vote_fits : Option ℕ → Bool
 vote_fits vote = option_map_or fits vote true
 
--- The state's term, vote, base and commit are in range, and its base is at most its commit. Nothing is asked of its
--- last entry.
+-- The state's term, vote, base and commit are in range, and the index of its base is at most its commit. Its last entry
+-- may be anything.
 abbrev pub state_fits : VoterState → Bool
 state_fits s =
     fits s.term && vote_fits s.vote && fits s.base_index && fits s.base_term && fits s.commit
@@ -112,7 +112,7 @@ pub record IsEntryForm1 (body : List ℕ) (e : Entry) : Type 0 where
 
 -- The fault of the bytes `body` after form byte 1, read as the entry at `index`:
 -- - `Length`: they are fewer than 16 or more than 65,551;
--- - `Range`: they encode no entry in range;
+-- - `Range`: they are 16 to 65,551, but encode no entry in range;
 -- - `Index`: they encode an entry with another index;
 -- - `Memory`: they have no other fault, but memory can run out when the entry is read.
 abbrev pub EntryForm1Fault : StoredFault → List ℕ → ℕ → Type 0

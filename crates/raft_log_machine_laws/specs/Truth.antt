@@ -1,5 +1,5 @@
--- The invariant that connects a raft group's whereabouts with the records of both queues. The whereabouts are in which
--- queue each of its entries and values is stored, and which tombstones are owed to Rewrite.
+-- The invariant that connects a raft group's whereabouts with the records of both queues. Whereabouts say in which
+-- queue each entry and value is stored, and which tombstones are owed to Rewrite.
 use Rattle.std.specs.Prelude.{◌≡◌, ℕ, ◌<◌, ◌≤◌, ◌⊎◌, true, false, List, Option, Some, None, unwrap_or}
 use Rattle.raft_log_model_laws.specs.Meaning.{Slot, Content}
 use Rattle.raft_log_model_laws.specs.Meaning.Slot.{Index, Key}
@@ -13,14 +13,15 @@ pub record SaysOfSlot (E V : Type 0) : Type 0 where
   pub rewrite : Slot → Option (Option (Content E V))
   pub append : Slot → Option (Option (Content E V))
 
--- Rewrite alone leaves in the slot what the map has there, if all of it is read, and if only its live range is read
+-- Rewrite's records alone leave in the slot what the map has there. This is so for all of them that may be read, and
+-- for those of the live range.
 abbrev pub IsRightInRewrite : {E V : Type 0} → SaysOfSlot E V → (Slot → Option (Content E V)) → Slot → Type 0
 IsRightInRewrite said m s = (unwrap_or (said.lowest s) None ≡ m s) × (unwrap_or (said.rewrite s) None ≡ m s)
 
 -- Index `i` is settled in one of four ways:
 -- - Rewrite alone is right about it;
 -- - a Clean is owed;
--- - a Compact is owed, and will remove the index: it is below the first entry, or no entry is in Rewrite;
+-- - a Compact is owed, and `i` is below the first entry, or no entry is in Rewrite: the Compact will remove the index;
 -- - an entry at or below it is in Append, so that the run there overrides Rewrite.
 abbrev pub IsSettledIndex : {E V : Type 0} → SaysOfSlot E V → (Slot → Option (Content E V)) → Whereabouts → ℕ
     → Type 0
@@ -30,7 +31,8 @@ IsSettledIndex said m t i =
     ⊎ (((t.compacted ≡ true) × ((i < t.first) ⊎ (t.first ≡ t.split)))
     ⊎ ((t.split ≤ i) × (t.split < t.end))))
 
--- key `k` is settled: Rewrite alone is right about it, or a Clean or its Del is owed, or its value is in Append
+-- key `k` is settled in one of four ways: Rewrite alone is right about it, a Clean is owed, its Del is owed, or its
+-- value is in Append
 abbrev pub IsSettledKey : {E V : Type 0} → SaysOfSlot E V → (Slot → Option (Content E V)) → Whereabouts → List ℕ
     → Type 0
 IsSettledKey said m t k =

@@ -51,8 +51,8 @@ abbrev pub ZerosBeginNoRecord : Type 0
 ZerosBeginNoRecord = (queue : LogQueue) (directories : List (List ℕ)) (files : PipeFiles) (room : ℕ)
     → Refuses (IsOwnFrame (log_format queue directories) files) (zeros room)
 
--- if the pipe's active file is on both disks, what `image` has of it is as `IsTorn` or `IsWhole` says: the crash only
--- lost writes
+-- if the pipe's active file is on disk `d` and in its crash image `image`, the image's bytes of it are as `IsTorn` or
+-- `IsWhole` says: the crash only lost writes
 abbrev pub LosesOwn : Format LogRecord → PipeFiles → Disk → Disk → Type 0
 LosesOwn F files d image = (file after : File) → d.files files.writer.handle.file ≡ Some file
     → image.files files.writer.handle.file ≡ Some after
@@ -76,7 +76,8 @@ LossesAreFound {F} disk tells = (home : LogDirectories) (e : EngineState) (W : W
     → ForAllNaming home (λ config. FindsVoters disk tells config old W (λ X. X ≡ W))
 
 -- A store crashed during a round, between two requests, and the crash only lost writes. Then an open of the image finds
--- the voters after a prefix of the requests served so far. All settings that name the directories give the same voters.
+-- the voters after a prefix of the requests that have a reply so far. All settings that name the directories give the
+-- same voters.
 abbrev pub LossesInRoundsAreFound : {F : Type 0} → (F → Disk) → (F → List ℕ → ℕ → Type 0) → Type 0
 LossesInRoundsAreFound {F} disk tells = (home : LogDirectories) (V : World) (requests : List (ℕ × Request)) (told : List Reply)
     (wrote : Bool) (s t : EngineState) (os us : ℕ → State) → Keeps home s V → AreOutlines os V
@@ -87,8 +88,8 @@ LossesInRoundsAreFound {F} disk tells = (home : LogDirectories) (V : World) (req
 
 -- Chosen bytes.
 
--- `bytes` are all that the pipe wrote to its active file, which are whole records, then another record of the file, and
--- perhaps more. No unsynced write was asked to write that record there.
+-- `bytes` are the header of the active file, then all that the pipe wrote after it, which is whole records, and then
+-- another record of this file, and maybe more. No unsynced write was asked to write that other record there.
 pub record HasForeign (F : Format LogRecord) (files : PipeFiles) (file : File) (bytes : List ℕ) : Type 0 where
   pub own : List (Written LogRecord)
   pub frames : AreFrames (IsOwnFrame F files) own

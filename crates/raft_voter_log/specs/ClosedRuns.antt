@@ -1,5 +1,5 @@
--- Runs in which stores are closed and opened again, and closed logs are copied. A close in which no file call fails asks
--- nothing of chance, nor does a crash of a running store that only loses writes.
+-- Runs in which stores are closed and opened again, and closed logs are copied. A close in which no file call fails
+-- needs no premise on CRC collisions, nor does a crash of a running store that only loses writes.
 use Rattle.std.specs.Prelude.{◌≡◌, false, List, [], ◌∷◌, ◌++◌}
 use Rattle.raft_log_fs.specs.Causes.{Fails}
 use Rattle.raft_log_fs.specs.Disk.{Disk as OnDisk}
@@ -28,9 +28,9 @@ pub record ClosesUndisturbed (s : EngineState) (d : OnDisk) : Type 0 where
   pub calm : Fails s.pipes.disk d → ⊥
 
 -- In these moments stores are opened, serve rounds, are purged, have faults armed under them, are closed, and crash.
--- Each close is undisturbed; only one that is the last moment may be any. A crash under a store is one of a running
--- store, and only loses writes. While no store is open, rounds are idle, faults are armed, files are copied, and there
--- are any crashes.
+-- Each close is undisturbed, except that a close at the very end may be any. A crash under a store is one of a running
+-- store, and only loses writes. While no store is open, rounds are idle, faults are armed, files are copied, and any
+-- crash may happen.
 abbrev pub ClosesOrLoses : {S : Type 0} → (S → Config) → (S → EngineState) → Storage S LogFiles
     → List (Moment S LogFiles) → Type 0
 ClosesOrLoses config shows storage [] = Unit {0}

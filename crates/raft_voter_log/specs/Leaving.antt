@@ -44,8 +44,8 @@ SparesFiles config d cut (bare is none) read = Unit {0}
 SparesFiles config d cut (rests before image m is W means follows) read = Unit {0}
 SparesFiles config d cut (left l) read = SparesLeft (home_of config) d cut l read
 
--- The premise on CRC collisions in a crash image under an open store. If the store runs, the active files have only
--- records that its engine wrote. If it has failed, there is no collision in the image of the files that it left.
+-- The premise on CRC collisions in a crash image under an open store. If the store runs, there is none in the image's
+-- active files. If it has failed, there is none in the image of the files that it left.
 abbrev pub SparesStore : (home : LogDirectories) (s : EngineState) (cut : CutRound) → LeavesAt home s cut → Disk → Type 0
 SparesStore home s cut (running W none keeps) read = LeavesNoChance home s.pipes read
 SparesStore home s cut (is_left failed l) read = IsCrashOf home l.left.1.lies.state s.pipes.disk read

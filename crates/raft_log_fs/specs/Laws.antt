@@ -37,7 +37,7 @@ AnyByteLeft = (file : File) (bytes : List ℕ) (change : Change) (place byte : �
     → Contains file.changes change → Touches change place
     → IsLeft file bytes → IsLeft file (set bytes place byte)
 
--- if nothing disturbs the disk, and no failure was counted since `old`, a call has no cause to fail
+-- if nothing disturbs disk `new`, and no failure was counted since `old`, a call on these files has no cause to fail
 abbrev pub UndisturbedHasNoCause : (ℕ → Type 0) → Type 0
 UndisturbedHasNoCause files = (old new : Disk) → IsUndisturbed new → new.failures ≡ old.failures
     → HasCause files old new → ⊥
@@ -76,7 +76,8 @@ pub record StopIsNoWantOfMemory (wrong : ErrorKind → Type 0) (done : Disk → 
   pub whole : (error : ErrorKind) (old new : Disk)
       → new.stopped ≡ true → RefusedWhole done wrong error old new → IsStopKind error
 
--- each call, whether it succeeds or fails, leaves a consistent disk consistent
+-- Each call, whether it succeeds or fails, leaves a consistent disk consistent. A write or growth must end below
+-- `file_limit`.
 pub record CallsKeepSound : Type 0 where
   pub change : (d : Disk) (id : ℕ) (file : File) (change : Change) (content : List ℕ) → IsSound d
       → d.files id ≡ Some file

@@ -34,7 +34,8 @@ pub record HasUsed (directory : List ℕ) (d : Disk) (used : ℕ) : Type 0 where
 abbrev pub unlimited : ℕ
 unlimited = 18446744073709551615
 
--- `free` is what the directory's files leave of the space that is set for it, or 0; it is `unlimited` if none is set
+-- `free` is what the directory's files leave of the space that is set for it, or 0 if they leave none; it is
+-- `unlimited` if no space is set
 abbrev pub IsLeftFree : Option ℕ → List ℕ → Disk → ℕ → Type 0
 IsLeftFree None directory d free = free ≡ unlimited
 IsLeftFree (Some space) directory d free = (used : ℕ) × HasUsed directory d used × (free ≡ space - used)

@@ -14,7 +14,8 @@ use Rattle.raft_voter_program.specs.Lines.{voters_text}
 abbrev pub AreRising : List (ℕ × State) → Type 0
 AreRising voters = AllAdjacentBelow (λ one next. one.0 < next.0) voters (length voters)
 
--- `text` has a line for each voter that the store serves, in ascending order of their groups.
+-- `text` has a line for each voter of a list, in ascending order of their groups. If the store serves voters, they are
+-- those of the list, and each group that isn't in it has a fresh voter.
 pub record TellsLines {S : Type 0} (v : Service S) (store : S) (text : List ℕ) : Type 0 where
   pub voters : List (ℕ × State)
   pub tells : TellsVoters v store voters

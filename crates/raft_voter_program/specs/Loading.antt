@@ -10,8 +10,8 @@ use Rattle.raft_voter_program.specs.Listing.{ListsEarly, ListsVoters}
 use Rattle.raft_voter_log.specs.declared.files.LogFiles.{LogFiles}
 use Rattle.raft_voter_program.specs.Setup.{usual_settings}
 
--- `files` are the log's files in memory. The log has the usual settings, and its directory has exactly some list of
--- files, all synced.
+-- `files` are the log's files in memory. The log has the usual settings. Its directory exists, and all files in it are
+-- synced.
 pub record IsLoaded (files : LogFiles) : Type 0 where
   pub usual : settings_of files.config ≡ usual_settings
   pub held : HoldsFiles (codes "raft") (disk_of files.files)

@@ -16,14 +16,14 @@ replies_in Cut = None
 abbrev pub said : Round → Bool × Option (List Reply)
 said r = (are_rising 0 (length r.requests) r.refused, replies_in r.outcome)
 
--- what a record of the round `r` must claim in world `W`: that its positions are right, and the voters' replies if it
--- has any
+-- what a record of the round `r` must claim in world `W`: that its refused positions rise and are within the round, and
+-- the voters' replies unless it was cut off
 abbrev pub owed_by : Outcome → World → Round → Bool × Option (List Reply)
 owed_by (Answered replies) W r = (true, Some (replies_of W r))
 owed_by Cut W r = (true, None)
 
--- The world after a record. If it has replies, the voters took its requests, except those at refused positions. If it
--- was cut off, the world is unchanged.
+-- The world after a record of round `r`. If the record has replies, the voters took its requests, except those at
+-- refused positions. If the round was cut off, the world is unchanged.
 abbrev pub behind_outcome : Outcome → World → Round → World
 behind_outcome (Answered replies) W r = after W (taken_below r (length r.requests))
 behind_outcome Cut W r = W

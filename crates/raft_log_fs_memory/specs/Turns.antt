@@ -148,13 +148,14 @@ abbrev pub after_stop : Kept → Kept
 after_stop k = record k { disk = at_stop k.disk }
 
 -- Why a changing call failed, and what is left:
--- - `uncounted`: the file system has stopped, and the call returned `Other`, or an argument is wrong. Nothing changed.
+-- - `uncounted`: either the file system has stopped, and the call returned `Other`, or an argument is wrong. Nothing
+--   changed.
 -- - `stop_fell`: a stop was due. `left_at_stop` says what it left.
 -- - `refusal_fell`: an armed failure was due. Nothing was done.
 -- - `part_fell`: a partial failure was due. `left_in_part` says what it left.
 -- - `room_short`: nothing was due, and there was no room for the change. `no_room` says why.
 -- In the last three cases the failure is counted with the error that the call returned. If the count is full, the file
--- system stops instead, and the error isn't out of memory.
+-- system stops instead, and the error isn't `OutOfMemory`.
 pub data IsRefusedCall (left_at_stop : ErrorKind → Kept → Type 0)
     (left_in_part : ℕ → ErrorKind → Kept → Type 0) (wrong no_room : ErrorKind → Type 0) (error : ErrorKind) (old new : MemoryFileSystem) : Type 0 where
   uncounted : IsAfterStop (disk_of old) error ⊎ wrong error → armed new ≡ armed old → kept new ≡ kept old

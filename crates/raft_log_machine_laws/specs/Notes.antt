@@ -1,5 +1,6 @@
--- For each slot, an engine notes a file of the queue that has its content. In Append, this file has all of it. In
--- Rewrite, it is in this file and later ones. The queue's live range may begin at the lowest noted file, or before it.
+-- For each slot, an engine notes a file of the queue. In Append, a record of this file has the slot's content. In
+-- Rewrite, the records from this file on are enough to get it. The queue's live range may begin at the lowest noted
+-- file, or before it.
 use Rattle.std.specs.Prelude.{◌≡◌, ℕ, ◌<◌, ◌≤◌, ◌⊎◌, true, false, List, [], ◌∷◌, ◌++◌, None}
 use Rattle.raft_log_model_laws.specs.Item.{Record, Tagged, items_of}
 use Rattle.raft_log_model_laws.specs.Meaning.{Slot, says}

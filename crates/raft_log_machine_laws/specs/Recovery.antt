@@ -32,7 +32,7 @@ pub record HasMarks {E V : Type 0} (append : List (Item E V)) (t : Whereabouts) 
 
 -- Whereabouts `t` are right for a raft group with content `m` if an open read the items `append` from Append. They
 -- place in Append what these items leave there, and all else in Rewrite. The tombstones for Append's deletions are
--- owed.
+-- owed, as `HasMarks` says.
 pub record IsRecovered {E V : Type 0} (m : Slot → Option (Content E V)) (append : List (Item E V))
     (t : Whereabouts) : Type 0 where
   pub in_order : (t.first ≤ t.split) × (t.split ≤ t.end) × (t.end ≤ top)

@@ -159,7 +159,8 @@ pub data Refused (part done : Disk → Type 0) (wrong : ErrorKind
       → new ≡ at_stop left
       → Refused part done wrong error old new
 
--- What a call that is done in full or not at all, such as a sync or a renaming, may leave if it fails: the same disk.
+-- What a failed call may leave if calls of its kind are done in full or not at all: the same disk. A sync and a
+-- renaming are of this kind.
 abbrev pub Nothing : Disk → Disk → Type 0
 Nothing old left = left ≡ old
 

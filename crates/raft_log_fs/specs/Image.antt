@@ -51,8 +51,8 @@ pub record IsImage (d image : Disk) : Type 0 where
   pub uncounted : image.failures ≡ 0
   pub untold : image.kinds ≡ []
 
--- The file is consistent: its content is one that a crash may leave, and nothing that a crash may leave is as long as
--- 2 ^ 63 bytes.
+-- The file is consistent. Its content is one that a crash may leave. Nothing that a crash may leave is as long as 2 ^
+-- 63 bytes.
 pub record IsSoundFile (file : File) : Type 0 where
   pub stands : IsLeft file file.content
   pub short : length file.synced < file_limit

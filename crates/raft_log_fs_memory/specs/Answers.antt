@@ -108,8 +108,8 @@ abbrev pub RunsWithWriter : Handle → Disk → Type 0
 RunsWithWriter handle d =
     (d.stopped ≡ false) × (d.files handle.file ≡ None → ⊥) × (handle.permission ≡ ReadWrite)
 
--- the error of a call that writes: the file system has stopped, or it runs and the handle's file was deleted or is open
--- only for reading
+-- The error of a call that writes. The file system has stopped, or it runs and the handle's file was deleted or is open
+-- only for reading.
 abbrev pub LacksWriter : Handle → Disk → ErrorKind → Type 0
 LacksWriter handle d error = IsAfterStop d error ⊎ ((d.stopped ≡ false) × WrongWriter handle d error)
 

@@ -10,8 +10,8 @@ use Rattle.raft_log_machine_laws.specs.Queue.{Store, reread}
 use Rattle.raft_log_machine_laws.specs.Machine.{Machine, Event}
 use Rattle.raft_log_machine_laws.specs.Machine.Event.{Reopen}
 
--- The entries of the raft group are one run: each index from the run's first one to below its end has an entry, and no
--- other index has one. All are below 2^64 - 1.
+-- The entries of the raft group are one run. Each index from `first` to below `end` has an entry, and no other index
+-- has one. All are below 2^64 - 1.
 pub record IsOneRun {E V : Type 0} (m : Slot → Option (Content E V)) : Type 0 where
   pub first : ℕ
   pub end : ℕ

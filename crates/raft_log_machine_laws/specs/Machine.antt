@@ -67,8 +67,8 @@ pub data Event (E V : Type 0) : Type 0 where
   -- Append are kept. Of the records below the live ranges, the suffixes `r_back` and `a_back` are read.
   Reopen : (r_kept r_lost r_cut r_back a_kept a_lost a_cut a_back : List (Record E V)) → Event E V
 
--- queue `q` ends with the records of atomic group `n`, which has no end yet: its begin has the items `first`, and its
--- middles have `more`
+-- Queue `q` ends with the records of atomic group `n`, which has no end yet. Its begin has the items `first`, and its
+-- middles have `more`.
 abbrev pub GoesOnWith : {E V : Type 0} → Queue E V → ℕ → List (Tagged E V) → List (List (Tagged E V)) → Type 0
 GoesOnWith {E} {V} q n first more =
     (front : List (Record E V)) × (q.live ++ q.pending ≡ front ++ begun n first more)

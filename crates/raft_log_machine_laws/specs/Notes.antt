@@ -53,8 +53,8 @@ abbrev pub AllBelow : {E V : Type 0} → ℕ → List (LogFile E V) → Type 0
 AllBelow n [] = Unit {0}
 AllBelow n (f ∷ fs) = (f.number < n) × AllBelow n fs
 
--- If only `back` is read, a suffix of the live range's files that are all numbered `n` or higher, an item touches slot
--- `s` of raft group `g`. The item is in a plain record there, or in an atomic group that is whole there.
+-- If only the files `back` are read, an item touches slot `s` of raft group `g`. They are a suffix of the live range,
+-- all numbered `n` or higher. The item is in a plain record there, or in an atomic group that is whole there.
 pub record SpeaksFrom {E V : Type 0} (q : FileQueue E V) (g n : ℕ) (s : Slot) : Type 0 where
   pub front : List (LogFile E V)
   pub back : List (LogFile E V)

@@ -1,5 +1,5 @@
 -- What a crash may leave of a directory's two queues, and which map a recovery gets from it. A start is the record at
--- which the recovery begins to read a queue: the first of the live range, or one below it that is still on disk.
+-- which the recovery begins to read a queue. It is the first of the live range, or one below it that is still on disk.
 use Rattle.std.specs.Prelude.{◌≡◌, ℕ, ◌≤◌, ◌⊎◌, List, ◌++◌, length, take, Option, None, Some}
 use Rattle.raft_log_model_laws.specs.Item.{Item, Record}
 use Rattle.raft_log_model_laws.specs.Meaning.{Slot, says, holds}

@@ -6,23 +6,24 @@ use Rattle.raft_log_model_laws.specs.Meaning.Slot.{Index, Key}
 use Rattle.raft_log_machine_laws.specs.Survival.{IsSpoken}
 use Rattle.raft_log_machine_laws.specs.Whereabouts.{Whereabouts, top}
 
--- What the records do to each slot of a raft group: `lowest` for all of Rewrite that may be read, `rewrite` for
--- Rewrite's live range, and `append` for Append's live range.
+-- What the records do to each slot of a raft group:
+-- - `lowest`: all records of Rewrite that a recovery may read;
+-- - `rewrite`, `append`: the records of this queue's live range.
 pub record SaysOfSlot (E V : Type 0) : Type 0 where
   pub lowest : Slot → Option (Option (Content E V))
   pub rewrite : Slot → Option (Option (Content E V))
   pub append : Slot → Option (Option (Content E V))
 
--- Rewrite's records alone leave in the slot what the map has there. This is so for all of them that may be read, and
--- for those of the live range.
+-- Rewrite's records alone leave in the slot what the map has there. This is so if all that may be read are read, and if
+-- only the live range is read.
 abbrev pub IsRightInRewrite : {E V : Type 0} → SaysOfSlot E V → (Slot → Option (Content E V)) → Slot → Type 0
 IsRightInRewrite said m s = (unwrap_or (said.lowest s) None ≡ m s) × (unwrap_or (said.rewrite s) None ≡ m s)
 
 -- Index `i` is settled in one of four ways:
 -- - Rewrite alone is right about it;
 -- - a Clean is owed;
--- - a Compact is owed, and `i` is below the first entry, or no entry is in Rewrite: the Compact will remove the index;
--- - an entry at or below it is in Append, so that the run there overrides Rewrite.
+-- - a Compact is owed that will remove the index: `i` is below the first entry, or no entry is in Rewrite;
+-- - an entry at or below `i` is in Append, so the run there overrides Rewrite.
 abbrev pub IsSettledIndex : {E V : Type 0} → SaysOfSlot E V → (Slot → Option (Content E V)) → Whereabouts → ℕ
     → Type 0
 IsSettledIndex said m t i =
@@ -31,8 +32,11 @@ IsSettledIndex said m t i =
     ⊎ (((t.compacted ≡ true) × ((i < t.first) ⊎ (t.first ≡ t.split)))
     ⊎ ((t.split ≤ i) × (t.split < t.end))))
 
--- key `k` is settled in one of four ways: Rewrite alone is right about it, a Clean is owed, its Del is owed, or its
--- value is in Append
+-- Key `k` is settled in one of four ways:
+-- - Rewrite alone is right about it;
+-- - a Clean is owed;
+-- - a Del of it is owed;
+-- - its value is in Append.
 abbrev pub IsSettledKey : {E V : Type 0} → SaysOfSlot E V → (Slot → Option (Content E V)) → Whereabouts → List ℕ
     → Type 0
 IsSettledKey said m t k =

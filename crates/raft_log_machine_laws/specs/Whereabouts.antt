@@ -32,8 +32,8 @@ with_key test key answer k = if bytes_eq key k then answer else test k
 abbrev pub Alone : Whereabouts → ℕ → Type 0
 Alone t f = (f ≤ t.first) ⊎ (t.first ≡ t.end)
 
--- a run that starts at `f` continues the entries: `f` is above the index of the first entry, and at most the index
--- after the last
+-- a run that starts at `f` continues the entries: `f` is above the first index, and at most the index after the last
+-- entry
 abbrev pub GoesOn : Whereabouts → ℕ → Type 0
 GoesOn t f = (t.first < f) × (f ≤ t.end)
 

@@ -11,7 +11,7 @@ use Rattle.raft_log_machine_laws.specs.Survival.{HoldsMap}
 use Rattle.raft_log_machine_laws.specs.Machine.{Machine}
 use Rattle.raft_log_machine_laws.specs.Fresh.{nowhere}
 
--- these items, as those of raft group `g`
+-- these items, each marked as one of raft group `g`
 abbrev pub tagged : ℕ → List (Item ℕ ℕ) → List (Tagged ℕ ℕ)
 tagged g [] = []
 tagged g (x ∷ xs) = record { group = g; item = x } ∷ tagged g xs

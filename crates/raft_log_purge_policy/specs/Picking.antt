@@ -42,8 +42,8 @@ abbrev pub asks_by : Option Watermarks → Raw → Bool
 asks_by None t = false
 asks_by (Some marks) t = asks marks t
 
--- Whether the group with this table is returned to the purge's caller. It is if the caller is asked to compact it, or
--- if Rewrite was compacted before (`restated`) and the group has more than 32 entries there.
+-- Whether the group with this table is returned to the purge's caller. It is if the caller is asked to compact it. It
+-- also is if Rewrite was compacted before (`restated`) and the group has more than 32 entries there.
 abbrev pub answers_in : Option Watermarks → Bool → Option Raw → Bool
 answers_in marks restated None = false
 answers_in marks restated (Some t) = asks_by marks t || (restated && nat_lt 32 (shown t).rewritten)

@@ -149,8 +149,8 @@ HasNoEntries (contents.EntryIndexes es) = ⊥
 HasNoEntries (contents.Command c) = Unit {0}
 HasNoEntries (contents.Kv kv) = Unit {0}
 
--- the handle of the entry block in a record at `handle`: it begins 16 bytes into the record, and has the length of
--- these entries' block
+-- The handle of the entry block in a record at `handle`. The block begins 16 bytes into the record, and has the length
+-- of these entries' block.
 abbrev pub block_place : FileBlockHandle → List ℕ → FileBlockHandle
 block_place handle entries = record handle { offset = handle.offset + 16; len = length (block_bytes entries) }
 

@@ -103,14 +103,13 @@ IsEntriesRefusal errors.Full held indexes entries =
     IsRunWith indexes entries × (max_entries_len < held + bytes_len entries)
 IsEntriesRefusal _ held indexes entries = ⊥
 
--- Why adding these `entries` to a batch with `held` bytes of entries fails: their indexes aren't a run, the bytes
+-- Why adding these `entries` to a batch with `held` bytes of entries fails. Their indexes aren't a run, the bytes would
 -- exceed the limit, or memory ran out. Each entry has its `index` and the bytes that `spelling` gives for it.
 abbrev pub IsMessagesRefusal : {E : Type 0} → (E → ℕ) → (E → List ℕ) → Error → ℕ → List E → Type 0
 IsMessagesRefusal index spelling e held entries =
     IsEntriesRefusal e held (map index entries) (map spelling entries)
 
--- why adding these `entries`, each with its `index` and its `spelling`, to the batch `b` fails: a bad run, too many
--- bytes, or lack of memory
+-- why adding these `entries` to the batch `b` fails, as in `IsMessagesRefusal`
 abbrev pub FailsToAddEntries : {E : Type 0} → (E → ℕ) → (E → List ℕ) → Error → Batch → List E → Type 0
 FailsToAddEntries index spelling e b entries = IsMessagesRefusal index spelling e (length b.entries) entries
 

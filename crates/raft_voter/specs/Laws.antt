@@ -223,8 +223,8 @@ AreReadAs index [] [] = Unit {0}
 AreReadAs index (bytes ∷ others) (e ∷ es) = IsEntry bytes index e × AreReadAs (index + 1) others es
 AreReadAs index others es = ⊥
 
--- `s` and `es` can be read from the bytes that are written for voter `v`: `s` from its state's bytes, and each of `es`
--- from the bytes of one entry
+-- `s` and `es` can be read from the bytes that are written for voter `v`. `s` can be read from its state's bytes, and
+-- each of `es` from the bytes of one entry.
 pub record IsReadOfWritten (v : State) (s : VoterState) (es : List Entry) : Type 0 where
   pub state : IsState (state_text (state_of v)) s
   pub entries : AreReadAs (v.base_index + 1) (map entry_text (log_entries v)) es

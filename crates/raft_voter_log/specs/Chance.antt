@@ -51,8 +51,8 @@ abbrev pub ZerosBeginNoRecord : Type 0
 ZerosBeginNoRecord = (queue : LogQueue) (directories : List (List ℕ)) (files : PipeFiles) (room : ℕ)
     → Refuses (IsOwnFrame (log_format queue directories) files) (zeros room)
 
--- if the pipe's active file is on disk `d` and in its crash image `image`, the image's bytes of it are as `IsTorn` or
--- `IsWhole` says: the crash only lost writes
+-- The crash that left `image` of disk `d` only lost writes to the pipe's active file. If both disks have the file, its
+-- bytes in the image are as `IsTorn` or `IsWhole` says.
 abbrev pub LosesOwn : Format LogRecord → PipeFiles → Disk → Disk → Type 0
 LosesOwn F files d image = (file after : File) → d.files files.writer.handle.file ≡ Some file
     → image.files files.writer.handle.file ≡ Some after
@@ -88,8 +88,8 @@ LossesInRoundsAreFound {F} disk tells = (home : LogDirectories) (V : World) (req
 
 -- Chosen bytes.
 
--- `bytes` are the header of the active file, then all that the pipe wrote after it, which is whole records, and then
--- another record of this file, and maybe more. No unsynced write was asked to write that other record there.
+-- `bytes` are the header of the active file and then whole records, which are all that the pipe wrote. Another record
+-- of this file follows, and maybe more bytes. No unsynced write was asked to write that other record there.
 pub record HasForeign (F : Format LogRecord) (files : PipeFiles) (file : File) (bytes : List ℕ) : Type 0 where
   pub own : List (Written LogRecord)
   pub frames : AreFrames (IsOwnFrame F files) own
@@ -108,7 +108,8 @@ pub record LeavesForeign (F : Format LogRecord) (files : PipeFiles) (d image : D
   pub left : image.files files.writer.handle.file ≡ Some after
   pub has : HasForeign F files file after.content
 
--- If a crash image of a running engine has such a record in either queue, it has a CRC collision.
+-- If a crash image of a running engine has another record after those of either queue's active file, as `LeavesForeign`
+-- says, it has a CRC collision.
 abbrev pub ForeignRecordsAreChance : Type 0
 ForeignRecordsAreChance = (home : LogDirectories) (e : EngineState) (m : LogMap) (pending : List LogRecordValue) → Represents home e m pending
     → (image : Disk)

@@ -20,9 +20,9 @@ use Rattle.raft_voter_store.specs.Service.{LeavesAt}
 use Rattle.raft_voter_store.specs.Service.LeavesAt.{left as is_left, running}
 
 -- The files have voters that are possible after the round `cut`:
--- - `bare`: there is no log yet, so all voters are fresh.
--- - `rests`: after a crash, the log is at rest and stores such voters.
--- - `left`: the log's files can be opened, and whatever a crash keeps of them has such voters.
+-- - `bare`: there is no log yet, and no round was cut off, so all voters are fresh.
+-- - `rests`: after a crash, the log is at rest and stores possible voters.
+-- - `left`: the log's files can be opened, and whatever a crash keeps of them has possible voters.
 pub data FilesLeave (config : Config) (d : Disk) (cut : CutRound) : Type 0 where
   bare : IsBare config d → cut ≡ uncut fresh_world → FilesLeave config d cut
   rests : (before : Disk) → IsImage before d → (m : LogMap) → IsDurableAs (log_in (home_of config)) d m → (W : World)

@@ -47,8 +47,9 @@ CrashesOnlyLose config shows (Open store) (crashed gone left ∷ ms) =
 CrashesOnlyLose config shows (Closed files) (idle round now ∷ ms) = CrashesOnlyLose config shows (Closed now) ms
 CrashesOnlyLose config shows storage ms = ⊥
 
--- Suppose a run has only such moments, and starts from files without a log. Then each store that it opens serves voters
--- of some world, and no open loses voters. Voters that never fail give exactly the replies in its transcript.
+-- Suppose a run has only moments as in `CrashesOnlyLose`, and starts from files without a log. Then each store that it
+-- opens serves voters of some world, and no open loses voters. Voters that never fail give exactly the replies in its
+-- transcript.
 abbrev pub RunsAskNothing : {S : Type 0} → Service S → Upkeep S → Disk S LogFiles → (S → Config) → (S → EngineState) → Type 0
 RunsAskNothing {S} v u d config shows = (first : LogFiles) (events : List Event) (report : WorldReport LogFiles)
     → (run : IsRun v u d first events report) → IsBare first.config (disk_of first.files)

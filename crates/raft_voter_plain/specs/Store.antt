@@ -39,8 +39,8 @@ pub record FileStandsBehind (file : PlainContent) (cut : CutRound) : Type 0 wher
   pub synced : StandsBehind file.synced cut
   pub read : StandsBehind (whole file) cut
 
--- the positions of a round that the store refuses: none if it has failed by the end of the round, otherwise those of
--- the requests out of range
+-- The positions of a round that the store refuses. If it has failed by the end of the round, there are none. Otherwise
+-- they are those of the requests out of range.
 abbrev pub refused_by : Bool → List (ℕ × Request) → List ℕ
 refused_by false requests = out_of_range 0 requests
 refused_by true requests = []
@@ -57,8 +57,8 @@ plain_voters = record {
   fails = λ old new. (old.failed ≡ false) × (new.failed ≡ true);
 }
 
--- An open of this file may fail for this cause: `Memory` unless the file is empty, and `FileSystem` if its bytes aren't
--- a sequence of records that can be stored.
+-- An open of this file may fail for this cause. It may be `Memory` unless the file is empty. It is `FileSystem` only if
+-- the bytes aren't a sequence of records that can be stored.
 abbrev pub FileIsRefusedFor : PlainContent → Cause → Type 0
 FileIsRefusedFor file Memory = 0 < length (whole file)
 FileIsRefusedFor file FileSystem = StandsForNothing (whole file)
@@ -82,9 +82,9 @@ plain_files = record {
 abbrev pub LeadsFrom : World → PlainVoters → Type 0
 LeadsFrom W store = LeadTo W store.file.unsynced (world_of store)
 
--- One request was taken in memory, and `told` is the reply of its voter. The synced bytes are the same. If all voters
--- were in range and the unsynced records led to them from a world `W`, the unsynced records now lead from `W` to the
--- new voters. So a change of the voter was written.
+-- One request was taken in memory, and `told` is the reply of its voter. The synced bytes are the same. A change of the
+-- voter was written, if all voters were in range: records that led from a world to the voters before now lead to those
+-- after.
 pub record Takes (old : PlainVoters) (asked : ℕ × Request) (told : Reply) (new : PlainVoters) : Type 0 where
   pub told_is : told ≡ reply (world_of old asked.0) asked.1
   pub taken : world_of new ≡ after_one (world_of old) asked

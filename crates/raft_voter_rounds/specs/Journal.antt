@@ -16,8 +16,8 @@ replies_in Cut = None
 abbrev pub said : Round → Bool × Option (List Reply)
 said r = (are_rising 0 (length r.requests) r.refused, replies_in r.outcome)
 
--- what a record of the round `r` must claim in world `W`: that its refused positions rise and are within the round, and
--- the voters' replies unless it was cut off
+-- What a record of round `r` must claim in world `W`: refused positions that rise and are within the round. If it has
+-- replies, it must also claim those that the voters give.
 abbrev pub owed_by : Outcome → World → Round → Bool × Option (List Reply)
 owed_by (Answered replies) W r = (true, Some (replies_of W r))
 owed_by Cut W r = (true, None)

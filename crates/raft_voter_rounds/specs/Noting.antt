@@ -1,5 +1,5 @@
--- What a shared store does: it serves rounds of several callers together, as one round, appends a record of each to the
--- journal, and answers each caller with its own record.
+-- What a shared store does with rounds of several callers. It serves them together, as one round, and appends a record
+-- of each to the journal. Each caller gets the answer to its own round.
 use Rattle.std.specs.Prelude.{◌≡◌, ◌≤◌, ◌<◌, ℕ, ◌+◌, ◌-◌, ◌++◌, ◌==◌, ◌||◌, ◌&&◌, nat_le, nat_lt, Bool, true, if◌then◌else◌, List, [], ◌∷◌, length, map, take, drop, Result, Ok, Err}
 use Rattle.std.specs.List.{AllZip}
 use Rattle.raft_voter_messages.specs.declared.reply.Reply.{Reply}
@@ -52,15 +52,15 @@ cut_each start (n ∷ counts) requests refused =
 
 -- Answers.
 
--- the answers to the callers of rounds that were served together: each has the place of the caller's own record, and
--- the replies to its own requests; the first record is at `place`
+-- The answers to the callers of rounds that were served together. Each has the place of the caller's own record, and
+-- the replies to its own requests. The first record is at `place`.
 abbrev pub told_each : ℕ → List ℕ → List Reply → List (Result Told SharedFault)
 told_each place [] replies = []
 told_each place (n ∷ counts) replies =
     Ok (record { place = place; replies = take n replies }) ∷ told_each (place + 1) counts (drop n replies)
 
--- the answers to the callers of rounds that were cut off together for this cause: each has the place of the caller's
--- own record; the first record is at `place`
+-- The answers to the callers of rounds that were cut off together for this cause. Each has the place of the caller's
+-- own record. The first record is at `place`.
 abbrev pub cut_told : ℕ → Cause → List ℕ → List (Result Told SharedFault)
 cut_told place cause [] = []
 cut_told place cause (n ∷ counts) = Err (faults.Cut place cause) ∷ cut_told (place + 1) cause counts
@@ -115,15 +115,15 @@ abbrev pub records_in : Result Told SharedFault → ℕ
 records_in (Ok told) = 1
 records_in (Err fault) = records_of fault
 
--- a round of `count` requests may get this fault, by its length: `TooLong` if it is too long, `Memory` always, and any
--- other fault if it isn't too long
+-- A round of `count` requests may get this fault, by its length. `TooLong` needs a round that is too long, and `Memory`
+-- is always possible. Any other fault needs a round that isn't too long.
 abbrev pub ToldOfLength : SharedFault → ℕ → Type 0
 ToldOfLength (faults.Cut place TooLong) count = 4096 < count
 ToldOfLength faults.Memory count = Unit {0}
 ToldOfLength fault count = count ≤ 4096
 
--- a round of `count` requests may be cut off for this cause, by its length: `TooLong` if it is too long, any other
--- cause if it isn't
+-- A round of `count` requests may be cut off for this cause, by its length. `TooLong` needs a round that is too long,
+-- and any other cause one that isn't.
 abbrev pub may_cut : Cause → ℕ → Bool
 may_cut TooLong count = nat_lt 4096 count
 may_cut cause count = nat_le count 4096

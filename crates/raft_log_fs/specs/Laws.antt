@@ -8,15 +8,16 @@ use Rattle.raft_log_fs.specs.Image.{Touches, end_of, IsLeft, IsImage, IsSound, a
 use Rattle.raft_log_fs.specs.Calls.{with_change, flushed, created, deleted, renamed, with_directory, with_marks, counted, at_stop, InPart, IsStopKind, IsRight, RefusedChange, RefusedWhole}
 use Rattle.raft_log_fs.specs.Causes.{HasCause, Fails, IsUndisturbed}
 
--- one crash image keeps the present content of every file
+-- a consistent disk has a crash image that keeps the present content of every file
 abbrev pub StandsIsImage : Type 0
 StandsIsImage = (d : Disk) → IsSound d → IsImage d (as_it_stands d)
 
--- if no file has unsynced changes, the only crash image is the one that keeps the present content of every file
+-- if no file of a consistent disk has unsynced changes, the only crash image is the one that keeps the present content
+-- of every file
 abbrev pub SyncedIsOnlyImage : Type 0
 SyncedIsOnlyImage = (d image : Disk) → IsSound d → IsAllSynced d → IsImage d image → image ≡ as_it_stands d
 
--- if a file has no unsynced changes, it has its present content in every crash image
+-- if a file of a consistent disk has no unsynced changes, it has its present content in every crash image
 abbrev pub SyncedFileHasOneImage : Type 0
 SyncedFileHasOneImage = (d image : Disk) (id : ℕ) (file : File) → IsSound d → d.files id ≡ Some file
     → file.changes ≡ [] → IsImage d image

@@ -204,7 +204,7 @@ MadeUnlessShort space no_room id change old error left =
     ((error ≡ Other) × space × IsChangeMade id change old left)
     ⊎ ((kind : ErrorKind) × no_room kind × IsToldAtStop kind error × (left ≡ old))
 
--- The first `count` bytes of a write were written, and that is the last unsynced change of all files. The file's own
+-- The first `count` bytes of a write were written, and they are the last unsynced change of all files. The file's own
 -- list of changes has the whole write.
 pub record IsFrontMade (id at : ℕ) (bytes : List ℕ) (count : ℕ) (old left : Kept) : Type 0 where
   pub file : File
@@ -223,8 +223,8 @@ LeftInPart space no_room id (Wrote at bytes) old count error left =
 LeftInPart space no_room id (ShortenedTo size) old count error left = Untouched old error left
 LeftInPart space no_room id (GrewTo size) old count error left = Untouched old error left
 
--- how a call that is done whole or not at all failed: an argument is wrong, or something armed was due, or memory ran
--- out
+-- How a call that is done whole or not at all failed: after a stop, for a wrong argument, because something armed was
+-- due, or for lack of memory.
 abbrev pub IsRefusedWhole : (Disk → Type 0) → List (ℕ × Change) → (ErrorKind → Type 0) → ErrorKind
     → MemoryFileSystem → MemoryFileSystem → Type 0
 IsRefusedWhole done order wrong error old new =
@@ -239,7 +239,8 @@ NoRoomFor id change old error = HasNoRoom (armed old).spaces id change (disk_of 
 abbrev pub HasSpaceFor : ℕ → Change → MemoryFileSystem → Type 0
 HasSpaceFor id change old = HasSpace (armed old).spaces id change (disk_of old)
 
--- how a write, truncation or growth failed: an argument is wrong, or something armed was due, or there was no room
+-- How a write, truncation or growth failed: after a stop, for a wrong argument, because something armed was due, or
+-- because there was no room.
 abbrev pub IsRefusedChange : ℕ → Change → (ErrorKind → Type 0) → ErrorKind
     → MemoryFileSystem → MemoryFileSystem → Type 0
 IsRefusedChange id change wrong error old new =

@@ -1,5 +1,5 @@
--- A service keeps voters: what it promises for each round of requests. Its files keep the voters from a close or a
--- crash to the next open: what an open finds in them.
+-- What a service of voters promises for each round of requests. Also what an open finds in its files, which keep the
+-- voters from a close or a crash to the next open.
 use Rattle.std.specs.Prelude.{◌≡◌, ℕ, ◌+◌, ◌<◌, ◌≤◌, IsTrue, Bool, true, false, if◌then◌else◌, List, [], ◌∷◌, length}
 use Rattle.raft_voter_messages.specs.declared.reply.Reply.{Reply}
 use Rattle.raft_voter_messages.specs.declared.reply.Reply.TheVariants.{Refused}

@@ -88,8 +88,9 @@ LossesInRoundsAreFound {F} disk tells = (home : LogDirectories) (V : World) (req
 
 -- Chosen bytes.
 
--- `bytes` are the header of the active file and then whole records, which are all that the pipe wrote. Another record
--- of this file follows, and maybe more bytes. No unsynced write was asked to write that other record there.
+-- `bytes` are the header of the active file and then whole records, which are all that the pipe wrote after the header.
+-- Another record of this file follows, and maybe more bytes. No unsynced write was asked to write that other record
+-- there.
 pub record HasForeign (F : Format LogRecord) (files : PipeFiles) (file : File) (bytes : List ℕ) : Type 0 where
   pub own : List (Written LogRecord)
   pub frames : AreFrames (IsOwnFrame F files) own
@@ -100,7 +101,7 @@ pub record HasForeign (F : Format LogRecord) (files : PipeFiles) (file : File) (
   pub are : bytes ≡ active_header files ++ (spelled own ++ (foreign.bytes ++ behind))
   pub unhanded : IsHandedIn file.changes (length (active_header files) + length (spelled own)) foreign.bytes → ⊥
 
--- what the image has of the pipe's active file has another record after the pipe's own, as `HasForeign` says
+-- in the image, another record follows those that the pipe wrote to its active file, as `HasForeign` says
 pub record LeavesForeign (F : Format LogRecord) (files : PipeFiles) (d image : Disk) : Type 0 where
   pub file : File
   pub after : File

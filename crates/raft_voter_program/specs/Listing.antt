@@ -22,8 +22,8 @@ pub record TellsLines {S : Type 0} (v : Service S) (store : S) (text : List ℕ)
   pub rising : AreRising voters
   pub written : text ≡ voters_text voters
 
--- A store was opened from `files` with `workers` recovery threads. It serves voters that are possible for these files,
--- and `text` has their lines.
+-- A store was opened from `files` with `workers` recovery threads. If `files` have no CRC collision, it serves voters
+-- that are possible for them. `text` has the lines for its voters.
 pub record OpensAndTells {S F : Type 0} (v : Service S) (d : Disk S F) (files : F) (workers : ℕ) (text : List ℕ) : Type 0 where
   pub store : S
   pub opens : d.opens files workers store

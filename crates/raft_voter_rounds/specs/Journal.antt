@@ -1,5 +1,5 @@
 -- The journal of a shared store: a record for each round, with its requests, its refused positions and its outcome. It
--- is legal if the replies in it are those of voters that take the rounds in this order.
+-- is legal if its replies are those of voters that take the rounds with replies, in this order.
 use Rattle.std.specs.Prelude.{◌≡◌, Bool, true, List, [], ◌∷◌, length, map, Option, None, Some}
 use Rattle.raft_voter_messages.specs.declared.reply.Reply.{Reply}
 use Rattle.raft_voter_messages.specs.declared.round.Outcome.{Outcome}

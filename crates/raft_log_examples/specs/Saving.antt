@@ -15,8 +15,8 @@ use Rattle.raft_log_engine.specs.raft_log_engine_laws.specs.Writing.{Writes}
 use Rattle.raft_log_engine.specs.raft_log_open.specs.Opening.{OpensDirectory}
 
 -- A log was opened, and a batch that puts `value` at `key` of group `group` was written with a sync. Then the key was
--- read, and the log was closed, with everything synced. The key was read with `value`, whatever the log's contents were
--- before.
+-- read, and the log was closed, with everything synced. If the opened engine represents any contents, with nothing
+-- pending, the read found `value`.
 pub record SavesInLog {F : Type 0} (disk : F → Disk) (tells : F → List ℕ → ℕ → Type 0) (config : Config)
     (group : ℕ) (key value : List ℕ) (old new : F) (found : Option (List ℕ)) : Type 0 where
   pub pipes : LogPipes

@@ -1,5 +1,5 @@
--- The wrong arguments: in which states of the disk a call has one, and which error the call returns. Also the error
--- of every call after the file system has stopped.
+-- In which states of the disk an argument of a call is wrong, and which error the call then returns. Also the error of
+-- every call after the file system has stopped.
 use Rattle.std.specs.Prelude.{◌≡◌, ℕ, ◌⊎◌, true, false, None, List}
 use Rattle.std.specs.declared.io.ErrorKind.{ErrorKind}
 use Rattle.std.specs.declared.io.ErrorKind.TheVariants.{NotFound, AlreadyExists, PermissionDenied, IsADirectory, InvalidInput, OutOfMemory, Other}
@@ -50,8 +50,8 @@ WrongListing path d error = ((error ≡ InvalidInput) × (d.names path ≡ None 
 abbrev pub IsAfterStop : Disk → ErrorKind → Type 0
 IsAfterStop d error = (d.stopped ≡ true) × (error ≡ Other)
 
--- A call that fails and changes nothing. After a stop, the error is `Other`. Otherwise an argument is wrong, or the
--- error is `OutOfMemory`.
+-- A call failed and changed nothing. After a stop, the error is `Other`. Otherwise an argument is wrong, or the error
+-- is `OutOfMemory`.
 pub data IsDeclined (wrong : Type 0) (d : Disk) (error : ErrorKind) : Type 0 where
   stopped : d.stopped ≡ true → error ≡ Other → IsDeclined wrong d error
   wrong_argument : d.stopped ≡ false → wrong → IsDeclined wrong d error

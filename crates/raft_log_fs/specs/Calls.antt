@@ -33,13 +33,13 @@ abbrev pub deleted : List ℕ → ℕ → Disk → Disk
 deleted path id d =
     record d { names = update bytes_eq d.names path None; files = update nat_eq d.files id None }
 
--- the files without this one, if there is one
+-- the files without the one of this number; for `None`, all of them
 abbrev pub without : Option ℕ → (ℕ → Option File) → ℕ → Option File
 without None files = files
 without (Some id) files = update nat_eq files id None
 
--- The disk after the file `id` was renamed. A file that had the new path is gone. The content and unsynced changes of
--- the renamed file stay the same.
+-- The disk after the file `id` was renamed. Another file that had the path `to` is gone. The content and unsynced
+-- changes of the renamed file stay the same.
 abbrev pub renamed : List ℕ → List ℕ → ℕ → Disk → Disk
 renamed from to id d = record d {
   names = update bytes_eq (update bytes_eq d.names from None) to (Some id);
@@ -54,13 +54,13 @@ with_directory path d = record d { directories = λ q. cond (bytes_eq path q) tr
 abbrev pub with_marks : (ℕ → ℕ → Bool) → Disk → Disk
 with_marks marks d = record d { unreadable = marks }
 
--- the marks, with one more at offset `place` of this file, if there is one
+-- the marks, with one more at offset `place` of this file; for `None`, the same marks
 abbrev pub marked : Option ℕ → ℕ → (ℕ → ℕ → Bool) → ℕ → ℕ → Bool
 marked None place marks id at = marks id at
 marked (Some file) place marks id at =
     cond (nat_eq file id) (cond (nat_eq place at) true (marks id at)) (marks id at)
 
--- the disk after offset `place` became unreadable in the file at `name`; unchanged if no file has this path
+-- the disk after offset `place` became unreadable in the file of path `name`; unchanged if no file has this path
 abbrev pub denied : List ℕ → ℕ → Disk → Disk
 denied name place d = with_marks (marked (d.names name) place d.unreadable) d
 
@@ -72,9 +72,8 @@ counted error d = record d { failures = suc d.failures; kinds = error ∷ d.kind
 abbrev pub at_stop : Disk → Disk
 at_stop d = record d { stopped = true }
 
--- What a write may leave if it fails after some bytes. The bytes outside of its range are unchanged, and inside it
--- there may be any bytes. The file doesn't shrink, and doesn't grow beyond the later of its old end and the write's
--- end.
+-- What a write may leave if it fails after some bytes. The old bytes outside of its range are unchanged, and all others
+-- may be any. The file doesn't shrink, and doesn't grow beyond the later of its old end and the write's end.
 pub record IsTorn (at : ℕ) (bytes old new : List ℕ) : Type 0 where
   pub outside : (place : ℕ) → place < length old → (place < at) ⊎ (at + length bytes ≤ place)
       → slice_index new place ≡ slice_index old place
@@ -160,12 +159,13 @@ pub data Refused (part done : Disk → Type 0) (wrong : ErrorKind
       → new ≡ at_stop left
       → Refused part done wrong error old new
 
--- What a failed call may leave that is done in full or not at all, such as a sync or a renaming: the same disk.
+-- What a failed call may leave if calls of its kind are done in full or not at all: the same disk. A sync and a
+-- renaming are of this kind.
 abbrev pub Nothing : Disk → Disk → Type 0
 Nothing old left = left ≡ old
 
--- What a failed write, truncation or growth may leave: the same disk, or the file with a part of the change. In the
--- second case, the change is among the unsynced ones.
+-- What a failed write, truncation or growth may leave: the same disk, or the file with a part of the change. A change
+-- that was done in part is added to the unsynced changes.
 pub data SomeOf (id : ℕ) (change : Change) (old left : Disk) : Type 0 where
   none : left ≡ old → SomeOf id change old left
   some : (file : File) (content : List ℕ) → old.files id ≡ Some file → InPart change file.content content
@@ -176,6 +176,6 @@ abbrev pub RefusedChange : ℕ → Change → (ErrorKind → Type 0) → ErrorKi
 RefusedChange id change wrong error old new =
     Refused (SomeOf id change old) (Changes id (after_change change) old) wrong error old new
 
--- a call failed that is done in full or not at all; `done` says what it does if it succeeds
+-- a call that is done in full or not at all failed; `done` is true of the disk after it succeeds
 abbrev pub RefusedWhole : (Disk → Type 0) → (ErrorKind → Type 0) → ErrorKind → Disk → Disk → Type 0
 RefusedWhole done wrong error old new = Refused (Nothing old) done wrong error old new

@@ -43,7 +43,7 @@ zeros n = replicate n 0
 abbrev pub grown : ℕ → List ℕ → List ℕ
 grown size bytes = bytes ++ zeros (size - length bytes)
 
--- the content `old` overwritten with `bytes` from offset `at` on; a gap before that is filled with zeros
+-- the content `old` overwritten with `bytes` from offset `at` on; if `old` ends before `at`, zeros fill the gap
 abbrev pub spliced : ℕ → List ℕ → List ℕ → List ℕ
 spliced at bytes old =
     let room = grown (at + length bytes) old in take at room ++ (bytes ++ drop (at + length bytes) room)

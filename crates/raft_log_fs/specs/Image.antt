@@ -22,9 +22,9 @@ end_of (Wrote at bytes) = at + length bytes
 end_of (ShortenedTo size) = 0
 end_of (GrewTo size) = size
 
--- `bytes` is what a crash may leave of the file. A synced byte that no unsynced change touches is kept. The bytes end
--- at most at the largest of the synced size and the ends of the changes. In the range of a write, after a
--- truncation's size and past the synced size, any bytes may be, and the file may end there.
+-- `bytes` is what a crash may leave of the file. A synced byte that no unsynced change touches is kept. All other bytes
+-- may be any, or be missing at the end. The bytes end at most at the largest of the synced size and the ends of the
+-- changes.
 pub record IsLeft (file : File) (bytes : List ℕ) : Type 0 where
   pub kept : (place : ℕ) → place < length file.synced → All (Spares place) file.changes
       → (place < length bytes) × (slice_index bytes place ≡ slice_index file.synced place)
@@ -51,15 +51,16 @@ pub record IsImage (d image : Disk) : Type 0 where
   pub uncounted : image.failures ≡ 0
   pub untold : image.kinds ≡ []
 
--- The file is consistent: its content is one that a crash may leave, and nothing that a crash may leave is as long as
--- 2 ^ 63 bytes.
+-- The file is consistent. Its content is one that a crash may leave. Nothing that a crash may leave is as long as 2 ^
+-- 63 bytes.
 pub record IsSoundFile (file : File) : Type 0 where
   pub stands : IsLeft file file.content
   pub short : length file.synced < file_limit
   pub ends : All (λ change. end_of change < file_limit) file.changes
 
--- The disk is consistent. Each path of a file has a file, and no file has two paths. No path is both a file's and a
--- directory's, and each file is in a directory that exists. Unused numbers have no file. Each file is consistent.
+-- The disk is consistent. The file of each path exists, and no file has two paths. No path is both a file's and a
+-- directory's, and each path of a file is in a directory that exists. Unused numbers have no file. Each file is
+-- consistent.
 pub record IsSound (d : Disk) : Type 0 where
   pub named : (path : List ℕ) (id : ℕ) → d.names path ≡ Some id → d.files id ≡ None → ⊥
   pub one_name : (a b : List ℕ) (id : ℕ) → d.names a ≡ Some id → d.names b ≡ Some id → a ≡ b

@@ -8,15 +8,16 @@ use Rattle.raft_log_fs.specs.Image.{Touches, end_of, IsLeft, IsImage, IsSound, a
 use Rattle.raft_log_fs.specs.Calls.{with_change, flushed, created, deleted, renamed, with_directory, with_marks, counted, at_stop, InPart, IsStopKind, IsRight, RefusedChange, RefusedWhole}
 use Rattle.raft_log_fs.specs.Causes.{HasCause, Fails, IsUndisturbed}
 
--- one crash image keeps the present content of every file
+-- a consistent disk has a crash image that keeps the present content of every file
 abbrev pub StandsIsImage : Type 0
 StandsIsImage = (d : Disk) → IsSound d → IsImage d (as_it_stands d)
 
--- if no file has unsynced changes, the only crash image is the one that keeps the present content of every file
+-- if no file of a consistent disk has unsynced changes, the only crash image is the one that keeps the present content
+-- of every file
 abbrev pub SyncedIsOnlyImage : Type 0
 SyncedIsOnlyImage = (d image : Disk) → IsSound d → IsAllSynced d → IsImage d image → image ≡ as_it_stands d
 
--- if a file has no unsynced changes, it has its present content in every crash image
+-- if a file of a consistent disk has no unsynced changes, it has its present content in every crash image
 abbrev pub SyncedFileHasOneImage : Type 0
 SyncedFileHasOneImage = (d image : Disk) (id : ℕ) (file : File) → IsSound d → d.files id ≡ Some file
     → file.changes ≡ [] → IsImage d image
@@ -37,7 +38,7 @@ AnyByteLeft = (file : File) (bytes : List ℕ) (change : Change) (place byte : �
     → Contains file.changes change → Touches change place
     → IsLeft file bytes → IsLeft file (set bytes place byte)
 
--- if nothing disturbs the disk, and no failure was counted since `old`, a call has no cause to fail
+-- if nothing disturbs disk `new`, and no failure was counted since `old`, a call on these files has no cause to fail
 abbrev pub UndisturbedHasNoCause : (ℕ → Type 0) → Type 0
 UndisturbedHasNoCause files = (old new : Disk) → IsUndisturbed new → new.failures ≡ old.failures
     → HasCause files old new → ⊥
@@ -76,7 +77,8 @@ pub record StopIsNoWantOfMemory (wrong : ErrorKind → Type 0) (done : Disk → 
   pub whole : (error : ErrorKind) (old new : Disk)
       → new.stopped ≡ true → RefusedWhole done wrong error old new → IsStopKind error
 
--- each call, whether it succeeds or fails, leaves a consistent disk consistent
+-- Each call, whether it succeeds or fails, leaves a consistent disk consistent. A write or growth must end below
+-- `file_limit`.
 pub record CallsKeepSound : Type 0 where
   pub change : (d : Disk) (id : ℕ) (file : File) (change : Change) (content : List ℕ) → IsSound d
       → d.files id ≡ Some file

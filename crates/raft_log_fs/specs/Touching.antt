@@ -20,8 +20,7 @@ pub record TouchesOnly (id : ℕ) (old new : Disk) : Type 0 where
   pub directories : new.directories ≡ old.directories
   pub others : (other : ℕ) → (other ≡ id → ⊥) → new.files other ≡ old.files other
 
--- Directories are unchanged. Each path for which `own` is false has the same file as before, and that file is
--- unchanged.
+-- Directories are unchanged. Each path that isn't in `own` has the same file as before, and that file is unchanged.
 pub record TouchesOnlyNames (own : List ℕ → Type 0) (old new : Disk) : Type 0 where
   pub directories : new.directories ≡ old.directories
   pub names : (path : List ℕ) → (own path → ⊥) → new.names path ≡ old.names path

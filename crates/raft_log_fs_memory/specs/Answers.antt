@@ -16,16 +16,16 @@ use Rattle.raft_log_fs_memory.specs.Turns.{ArmedRefusalFell, ArmedPartFell, Arme
 
 -- Why a call failed.
 
--- If `result` is an error: how a call failed that is done whole or not at all. `wrong` gives the errors of wrong
--- arguments. If the call was done in spite of the error, it changed the disk by `done`, and `order` gives the unsynced
--- changes.
+-- If `result` is an error, a call that is done whole or not at all failed as `IsRefusedWhole` says. `wrong` gives the
+-- errors of wrong arguments. If the call was done in spite of the error, it changed the disk by `done`, and the
+-- unsynced changes are then those of `order`.
 abbrev pub RefusesWhole : {A : Type 0} → (Disk → ErrorKind → Type 0) → (Disk → Disk → Type 0)
     → (Kept → List (ℕ × Change)) → Result A ErrorKind → MemoryFileSystem → MemoryFileSystem → Type 0
 RefusesWhole wrong done order result old new =
     IfErr result (λ error.
     IsRefusedWhole (done (disk_of old)) (order (kept old)) (wrong (disk_of old)) error old new)
 
--- if `result` is an error: why this change of the handle's file failed, and what is left of it
+-- if `result` is an error, this change of the handle's file failed as `IsRefusedChange` says
 abbrev pub RefusesChange : {A : Type 0} → Handle → Change → Result A ErrorKind
     → MemoryFileSystem → MemoryFileSystem → Type 0
 RefusesChange handle change result old new =
@@ -108,8 +108,8 @@ abbrev pub RunsWithWriter : Handle → Disk → Type 0
 RunsWithWriter handle d =
     (d.stopped ≡ false) × (d.files handle.file ≡ None → ⊥) × (handle.permission ≡ ReadWrite)
 
--- the error of a call that writes: the file system has stopped, or it runs and the handle's file was deleted or is open
--- only for reading
+-- The error of a call that writes. The file system has stopped, or it runs and the handle's file was deleted or is open
+-- only for reading.
 abbrev pub LacksWriter : Handle → Disk → ErrorKind → Type 0
 LacksWriter handle d error = IsAfterStop d error ⊎ ((d.stopped ≡ false) × WrongWriter handle d error)
 

@@ -59,8 +59,8 @@ most_failures = 18446744073709551615
 abbrev pub failed_once : ErrorKind → Disk → Disk
 failed_once error d = cond (nat_lt (suc d.failures) most_failures) (counted error d) (at_stop d)
 
--- the error that the call returns for such a failure of this kind: `kind`, or, if the file system stops instead, the
--- error of a stop
+-- The error of a call that fails with one more failure of this kind, as in `failed_once`. It is `kind`. If the file
+-- system stops instead, it is the error of a stop.
 abbrev pub IsToldOnce : ErrorKind → ErrorKind → Disk → Type 0
 IsToldOnce kind error d = ((suc d.failures < most_failures) × (error ≡ kind))
     ⊎ ((most_failures ≤ suc d.failures) × IsToldAtStop kind error)

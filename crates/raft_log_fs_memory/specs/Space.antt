@@ -34,12 +34,14 @@ pub record HasUsed (directory : List ℕ) (d : Disk) (used : ℕ) : Type 0 where
 abbrev pub unlimited : ℕ
 unlimited = 18446744073709551615
 
--- `free` is what the directory's files leave of the space that is set for it, or 0; it is `unlimited` if none is set
+-- `free` is what the directory's files leave of the space that is set for it, or 0 if they leave none; it is
+-- `unlimited` if no space is set
 abbrev pub IsLeftFree : Option ℕ → List ℕ → Disk → ℕ → Type 0
 IsLeftFree None directory d free = free ≡ unlimited
 IsLeftFree (Some space) directory d free = (used : ℕ) × HasUsed directory d used × (free ≡ space - used)
 
--- `free` is by how many bytes the files of a directory may still grow; `spaces` gives the space set for each directory
+-- `free` is the number of bytes by which the files of a directory may still grow; `spaces` gives the space set for each
+-- directory
 abbrev pub IsFree : (List ℕ → Option ℕ) → List ℕ → Disk → ℕ → Type 0
 IsFree spaces directory d free = IsLeftFree (spaces directory) directory d free
 
@@ -49,8 +51,8 @@ pub record LiesIn (id : ℕ) (directory : List ℕ) (d : Disk) : Type 0 where
   pub named : d.names path ≡ Some id
   pub inside : IsPathIn directory path
 
--- `free` is by how many bytes file `id` may still grow: the free space of a directory that it has a name in. It is
--- `unlimited` if no space is set for any such directory.
+-- `free` is the number of bytes by which file `id` may still grow: the free space of a directory that it has a name in.
+-- It is `unlimited` if no space is set for any directory that it has a name in.
 abbrev pub MayGrowBy : (List ℕ → Option ℕ) → ℕ → Disk → ℕ → Type 0
 MayGrowBy spaces id d free = ((directory : List ℕ) × LiesIn id directory d × IsFree spaces directory d free)
     ⊎ (((directory : List ℕ) → LiesIn id directory d → spaces directory ≡ None) × (free ≡ unlimited))

@@ -47,12 +47,12 @@ armed system = record {
 abbrev pub nothing_armed : Armed
 nothing_armed = record { refusals = []; parts = []; stop = 0; after = false; spaces = λ directory. None }
 
--- with this space set for a directory, in place of the one set before
+-- what is armed after this space was set for a directory, in place of the one set before
 abbrev pub with_space : List ℕ → ℕ → Armed → Armed
 with_space directory space a = record a { spaces = update bytes_eq a.spaces directory (Some space) }
 
--- After one more fault is armed. A stop replaces the one armed before, and call number 0 arms nothing. `DenyRead` arms
--- nothing either: an unreadable place is a mark on the disk.
+-- What is armed after one more fault. A stop replaces the one armed before, and call number 0 arms nothing. `DenyRead`
+-- arms nothing either: an unreadable place is a mark on the disk.
 abbrev pub armed_with : Fault → Armed → Armed
 armed_with (Refuse n) a = record a { refusals = cond (nat_eq n 0) a.refusals (a.refusals ++ n ∷ []) }
 armed_with (RefuseInPart n count) a =
@@ -66,7 +66,7 @@ armed_with (Space directory space) a = with_space (string_bytes directory) space
 abbrev pub nearer : List ℕ → List ℕ
 nearer refusals = map (λ n. n - 1) (filter (λ n. nat_lt 1 n) refusals)
 
--- a partial failure after one more call
+-- a partial failure after one more call: it is one call nearer
 abbrev pub part_later : ℕ × ℕ → ℕ × ℕ
 part_later part = (part.0 - 1, part.1)
 
@@ -114,8 +114,8 @@ pub record StopsAfter (a : Armed) : Type 0 where
   pub falls : a.stop ≡ 1
   pub done : a.after ≡ true
 
--- An armed failure and no stop was due at this call. The call returned `Other`. On the disk, the failure was counted,
--- or the file system stopped if the count was full; nothing else changed.
+-- An armed failure and no stop was due at this call, which returned `Other`. On the disk, the failure was counted, or
+-- the file system stopped if the count was full; nothing else changed.
 pub record ArmedRefusalFell (error : ErrorKind) (old new : MemoryFileSystem) : Type 0 where
   pub falls : Contains (armed old).refusals 1
   pub no_stop : (armed old).stop ≡ 1 → ⊥
@@ -130,7 +130,8 @@ pub record ArmedPartFell (error : ErrorKind) (old new : MemoryFileSystem) : Type
   pub kind : error ≡ Other
   pub left : disk_of new ≡ failed_once error (disk_of old)
 
--- A stop was due before this call. The call returned `Other`; on the disk, nothing else changed.
+-- A stop before the call was due at this call, which returned `Other`. The file system stopped, and nothing else
+-- changed on its disk.
 pub record ArmedStopFell (error : ErrorKind) (old new : MemoryFileSystem) : Type 0 where
   pub falls : (armed old).stop ≡ 1
   pub undone : (armed old).after ≡ false
@@ -147,13 +148,14 @@ abbrev pub after_stop : Kept → Kept
 after_stop k = record k { disk = at_stop k.disk }
 
 -- Why a changing call failed, and what is left:
--- - `uncounted`: the file system has stopped, and the call returned `Other`, or an argument is wrong. Nothing changed.
+-- - `uncounted`: either the file system has stopped, and the call returned `Other`, or an argument is wrong. Nothing
+--   changed.
 -- - `stop_fell`: a stop was due. `left_at_stop` says what it left.
 -- - `refusal_fell`: an armed failure was due. Nothing was done.
 -- - `part_fell`: a partial failure was due. `left_in_part` says what it left.
 -- - `room_short`: nothing was due, and there was no room for the change. `no_room` says why.
 -- In the last three cases the failure is counted with the error that the call returned. If the count is full, the file
--- system stops instead, and the error isn't out of memory.
+-- system stops instead, and the error isn't `OutOfMemory`.
 pub data IsRefusedCall (left_at_stop : ErrorKind → Kept → Type 0)
     (left_in_part : ℕ → ErrorKind → Kept → Type 0) (wrong no_room : ErrorKind → Type 0) (error : ErrorKind) (old new : MemoryFileSystem) : Type 0 where
   uncounted : IsAfterStop (disk_of old) error ⊎ wrong error → armed new ≡ armed old → kept new ≡ kept old
@@ -181,8 +183,8 @@ pub record IsCallDone (done : Disk → Type 0) (changes : List (ℕ × Change)) 
   pub disk : done left.disk
   pub order : left.unsynced ≡ changes
 
--- What a stop leaves of a call that is done whole or not at all. After a stop before the call (`false`), nothing was
--- done. At a stop after it, the call was done and returns `Other`; if memory ran out, it wasn't done and returns
+-- What a stop leaves of a call that is done whole or not at all. With a stop before the call (`false`), nothing was
+-- done. With a stop after it, the call was done and returned `Other`. If memory ran out, it wasn't done and returned
 -- `ResourceBusy`.
 abbrev pub LeftAtStop : Bool → (Disk → Type 0) → List (ℕ × Change) → Kept → ErrorKind → Kept → Type 0
 LeftAtStop false done order old error left = Untouched old error left
@@ -195,14 +197,14 @@ pub record IsChangeMade (id : ℕ) (change : Change) (old left : Kept) : Type 0 
   pub order : left.unsynced ≡ old.unsynced ++ (id, change) ∷ []
 
 -- What a stop, before or after the call, leaves of a write, truncation or growth. If there was room, the change was
--- made but not synced, and the call returned `Other`. Otherwise nothing was done, and the call returned why, but
+-- made but not synced, and the call returned `Other`. Otherwise nothing was done, and the error is the reason, but
 -- `ResourceBusy` if memory ran out.
 abbrev pub MadeUnlessShort : Type 0 → (ErrorKind → Type 0) → ℕ → Change → Kept → ErrorKind → Kept → Type 0
 MadeUnlessShort space no_room id change old error left =
     ((error ≡ Other) × space × IsChangeMade id change old left)
     ⊎ ((kind : ErrorKind) × no_room kind × IsToldAtStop kind error × (left ≡ old))
 
--- The first `count` bytes of a write were written, and that is the last unsynced change of all files. The file's own
+-- The first `count` bytes of a write were written, and they are the last unsynced change of all files. The file's own
 -- list of changes has the whole write.
 pub record IsFrontMade (id at : ℕ) (bytes : List ℕ) (count : ℕ) (old left : Kept) : Type 0 where
   pub file : File
@@ -212,7 +214,8 @@ pub record IsFrontMade (id at : ℕ) (bytes : List ℕ) (count : ℕ) (old left 
   pub order : left.unsynced ≡ old.unsynced ++ (id, Wrote at (take count bytes)) ∷ []
 
 -- What a partial failure leaves of a change. A write wrote its first `count` bytes and returned `Other`. If there was
--- no room for the whole write, it wrote none and returned why. A truncation or growth wasn't made.
+-- no room for the whole write, it wrote none, and the error is the reason. A truncation or growth wasn't made, and
+-- returned `Other`.
 abbrev pub LeftInPart : Type 0 → (ErrorKind → Type 0) → ℕ → Change → Kept → ℕ → ErrorKind → Kept → Type 0
 LeftInPart space no_room id (Wrote at bytes) old count error left =
     ((error ≡ Other) × space × IsFrontMade id at bytes count old left)
@@ -220,8 +223,8 @@ LeftInPart space no_room id (Wrote at bytes) old count error left =
 LeftInPart space no_room id (ShortenedTo size) old count error left = Untouched old error left
 LeftInPart space no_room id (GrewTo size) old count error left = Untouched old error left
 
--- how a call failed that is done whole or not at all; its arguments are wrong, or something armed was due, or memory
--- ran out
+-- How a call that is done whole or not at all failed: after a stop, for a wrong argument, because something armed was
+-- due, or for lack of memory.
 abbrev pub IsRefusedWhole : (Disk → Type 0) → List (ℕ × Change) → (ErrorKind → Type 0) → ErrorKind
     → MemoryFileSystem → MemoryFileSystem → Type 0
 IsRefusedWhole done order wrong error old new =
@@ -236,7 +239,8 @@ NoRoomFor id change old error = HasNoRoom (armed old).spaces id change (disk_of 
 abbrev pub HasSpaceFor : ℕ → Change → MemoryFileSystem → Type 0
 HasSpaceFor id change old = HasSpace (armed old).spaces id change (disk_of old)
 
--- how a write, truncation or growth failed: an argument is wrong, or something armed was due, or there was no room
+-- How a write, truncation or growth failed: after a stop, for a wrong argument, because something armed was due, or
+-- because there was no room.
 abbrev pub IsRefusedChange : ℕ → Change → (ErrorKind → Type 0) → ErrorKind
     → MemoryFileSystem → MemoryFileSystem → Type 0
 IsRefusedChange id change wrong error old new =
@@ -246,9 +250,9 @@ IsRefusedChange id change wrong error old new =
 
 -- How a call that didn't succeed ended. `stops` is whether the file system stops at it, and `done` whether its work was
 -- done, or why not.
--- At a stop, the error is `Other` if the work was done. Otherwise it is the reason, but `ResourceBusy` if memory ran
--- out.
--- Without a stop the work wasn't done, and a failure is counted.
+-- - At a stop, the error is `Other` if the work was done. Otherwise it is the reason, but `ResourceBusy` if memory ran
+--   out.
+-- - Without a stop, the work wasn't done, and a failure is counted.
 pub data IsEnded {E : Type 0} (kind_of : E → ErrorKind) (stops : Bool) (done : Result (Unit {0}) E)
     (error : ErrorKind) (old new : Disk) : Type 0 where
   at_the_stop : stops ≡ true → MatchResult done (λ v. error ≡ Other) (λ e. IsToldAtStop (kind_of e) error)
@@ -260,6 +264,6 @@ pub data IsEnded {E : Type 0} (kind_of : E → ErrorKind) (stops : Bool) (done :
 abbrev pub IsChangeEnded : Bool → Result (Unit {0}) ErrorKind → ErrorKind → Disk → Disk → Type 0
 IsChangeEnded = IsEnded (λ kind. kind)
 
--- how a call ended that is done whole or not at all; its work fails only if memory runs out
+-- how a call that is done whole or not at all ended if it didn't succeed; its work fails only if memory runs out
 abbrev pub IsCallEnded : Bool → Result (Unit {0}) AllocError → ErrorKind → Disk → Disk → Type 0
 IsCallEnded = IsEnded (λ none. OutOfMemory)

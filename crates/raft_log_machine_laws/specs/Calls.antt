@@ -1,6 +1,6 @@
--- What the calls of a pipe do to the numbered files of its queue. `ties s f`: a running pipe in state `s` may have the
--- files `f`. `allows s f`: `f` allow each image that a crash may leave. Quiet events are syncs, rotations, and losses
--- of files below the live range.
+-- What a call of a pipe, which changes its state from `s` to `t`, does to the numbered files of its queue. `ties s f`:
+-- a running pipe in state `s` may have the files `f`. `allows s f`: `f` allow each image that a crash may leave. Quiet
+-- events are syncs, rotations, and losses of files below the live range.
 use Rattle.std.specs.Prelude.{◌≡◌, ℕ, ◌⊎◌, List, [], ◌++◌}
 use Rattle.raft_log_model_laws.specs.Item.{Record, Tagged}
 use Rattle.raft_log_model_laws.specs.Groups.{Map, appended, directory_meaning}
@@ -22,12 +22,12 @@ abbrev pub queue_at : {E V : Type 0} → Which → Files E V → FileQueue E V
 queue_at InAppend f = f.append
 queue_at InRewrite f = f.rewrite
 
--- the number at which this queue's files after the last gap start
+-- the number of this queue's first file after the last gap
 abbrev pub from_at : {E V : Type 0} → Which → Files E V → ℕ
 from_at InAppend f = f.append_from
 from_at InRewrite f = f.rewrite_from
 
--- files `f` with `q` as the files of this queue, whose numbers after the last gap start at `from`
+-- files `f` with `q` as the files of this queue, the first of which after the last gap has the number `from`
 abbrev pub put : {E V : Type 0} → Which → Files E V → ℕ → FileQueue E V → Files E V
 put InAppend f from q = with_append f from q
 put InRewrite f from q = with_rewrite f from q
@@ -53,7 +53,7 @@ abbrev pub LeavesOut : {S E V : Type 0} → (S → Files E V → Type 0) → Whi
 LeavesOut {S} {E} {V} ties which s t =
     (f : Files E V) → ties s f → (a : MovedIn which f) × ties t (put which f a.from a.queue)
 
--- the pipe fails, after some quiet events, and the record is in the files or not
+-- the pipe fails, after some quiet events; the record may be in the files, or not
 abbrev pub MayAppend : {S E V : Type 0} → (S → Files E V → Type 0) → (S → Files E V → Type 0) → Which
     → Record E V → S → S → Type 0
 MayAppend {S} {E} {V} ties allows which y s t =
@@ -72,12 +72,13 @@ Settles {S} {E} {V} ties which s t =
     (f : Files E V) → ties s f
     → (a : MovedIn which f) × (a.queue.pending ≡ []) × ties t (put which f a.from a.queue)
 
--- the pipe fails, and the files it had allow each image that a crash may leave
+-- the pipe fails, and the files that it had before allow each image that a crash may leave then
 abbrev pub FailsWhole : {S E V : Type 0} → (S → Files E V → Type 0) → (S → Files E V → Type 0) → S → S
     → Type 0
 FailsWhole {S} {E} {V} ties allows s t = (f : Files E V) → ties s f → allows t f
 
--- files with numbers below `n` leave the live range of this queue at its beginning; some quiet events may follow
+-- Files leave the live range of this queue at its beginning, and some quiet events may follow. These files, maybe none,
+-- have numbers below `n`. `become t f`: the pipe may have the files `f` after the call.
 abbrev pub Raises : {S E V : Type 0} → (S → Files E V → Type 0) → (S → Files E V → Type 0) → Which → ℕ → S → S
     → Type 0
 Raises {S} {E} {V} ties become which n s t =
@@ -114,8 +115,8 @@ pub record IsMadeOf {E V : Type 0} (v : View E V) (rewrite append : List (Record
   pub noted : AreNoted v.whereabouts v.noted f.append
   pub noted_in_rewrite : AreNotedInRewrite v.map v.whereabouts v.noted_in_rewrite f.rewrite
 
--- For any files that may have been there, an open reads some image of them, and syncs what it reads. If the entries of
--- each raft group are one run then, the view is built from what was read.
+-- For any files that may have been there, an open reads some image of them, and syncs what it reads. If the records
+-- that it read give each raft group one run of entries, the view is built from them.
 abbrev pub Replays : {S E V : Type 0} → (S → Files E V → Type 0) → (S → Files E V → Type 0) → View E V → S → S
     → Type 0
 Replays {S} {E} {V} allows ties v s t =
@@ -126,7 +127,7 @@ Replays {S} {E} {V} allows ties v s t =
     → IsMadeOf v (records_read f.rewrite r) (records_read f.append a)
     (record f { rewrite = read_files f.rewrite r; append = read_files f.append a }))
 
--- the pipe has exactly these files: a pipe that is nothing else
+-- the simplest relation of a pipe to its files: its state `s` is the files
 abbrev pub IsExactly : {E V : Type 0} → Files E V → Files E V → Type 0
 IsExactly s f = f ≡ s
 

@@ -60,8 +60,8 @@ abbrev pub ShowsNoMore : {D E V : Type 0} → Readings D E V → D → D → Typ
 ShowsNoMore {D} r old new =
     (image : D) → r.leaves new image → (before : D) × r.leaves old before × ReadsAsPartOf r image before
 
--- the image has no log: of each queue, a recovery can only read an empty file of number 1, as it does if there is no
--- file
+-- The image has no log. Of each queue, a recovery can only read an empty file of number 1, as it does if there is no
+-- file.
 pub record ReadsNothing {D E V : Type 0} (r : Readings D E V) (image : D) : Type 0 where
   pub rewrite : (s : ℕ) (files : List (LogFile E V)) → r.rewrite image s files
       → (s ≡ 1) × (files ≡ empty_file ∷ [])

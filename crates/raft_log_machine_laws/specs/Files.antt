@@ -49,12 +49,12 @@ AllBehind n (f ∷ fs) = (f.number + 1 < n) × AllBehind n fs
 abbrev pub IsNumbered : {E V : Type 0} → ℕ → FileQueue E V → Type 0
 IsNumbered n q = NumberedFrom n (q.gone ++ span q []) × AllBehind n q.behind
 
--- the number of the first file of the live range
+-- the number of the first file of the live range, if the files after the last gap are numbered from `n` on
 abbrev pub first_file : {E V : Type 0} → ℕ → FileQueue E V → ℕ
 first_file n q = n + length q.gone
 
--- A recovery may read the files `files` of those that are there, from file `s` on. They are a suffix with consecutive
--- numbers, and begin no later than `first`, the first file of the live range.
+-- A recovery may read `files` of those that are there, from file number `s` on. They are a suffix that isn't empty,
+-- with consecutive numbers. It begins no later than `first`, the number of the live range's first file.
 pub record IsReadOf {E V : Type 0} (first : ℕ) (there : List (LogFile E V)) (s : ℕ)
     (files : List (LogFile E V)) : Type 0 where
   pub low : s ≤ first
@@ -63,21 +63,22 @@ pub record IsReadOf {E V : Type 0} (first : ℕ) (there : List (LogFile E V)) (s
   pub numbered : NumberedFrom s files
   pub some : 0 < length files
 
--- a recovery may read these files from file `s` on, if an image kept the records `kept` of the pending ones
+-- a recovery may read these files from file `s` on, if an image kept the records `kept` of the pending ones; the files
+-- after the last gap are numbered from `n` on
 abbrev pub IsRead : {E V : Type 0} → ℕ → FileQueue E V → List (Record E V) → ℕ → List (LogFile E V) → Type 0
 IsRead n q kept s files = IsReadOf (first_file n q) (all_files q kept) s files
 
--- the records of these files, as a queue of the machine
+-- the records of the files after the last gap, as a queue of the machine
 abbrev pub queue_of : {E V : Type 0} → FileQueue E V → Queue E V
 queue_of q = record { gone = records_of q.gone; live = records_of q.full ++ q.synced; pending = q.pending }
 
--- the records of Rewrite's files `r` and Append's files `a`
+-- the records of Rewrite's files `r` and Append's files `a` after the last gaps, as a directory of the machine
 abbrev pub store_of : {E V : Type 0} → FileQueue E V → FileQueue E V → Store E V
 store_of r a = record { rewrite = queue_of r; append = queue_of a }
 
--- A crash loses at most a suffix of the pending `batches`. For whatever prefixes of pending records it leaves, there
--- is one number of batches. A recovery then gets map `m` after that many batches, from every file at which it may
--- start.
+-- A crash of Rewrite's files `r` and Append's `a` loses at most a suffix of the pending `batches`. The prefixes of
+-- pending records that it leaves determine a number `count`. From every file at which it may start, a recovery then
+-- gets map `m` after the first `count` batches. Files after the last gap are numbered from `n` and `k` on.
 abbrev pub SurvivesInFiles : {E V : Type 0} → ℕ → FileQueue E V → ℕ → FileQueue E V → Map E V
     → List (Record E V) → Type 0
 SurvivesInFiles {E} {V} n r k a m batches =
@@ -122,7 +123,7 @@ FileStep (Read below again kept) q p =
     (below ++ again ≡ q.gone)
     × (p ≡ record q { gone = below; full = again ++ q.full; synced = q.synced ++ kept; pending = [] })
 
--- the number at which the files after the last gap start, after this event
+-- the number of the first file after the last gap, after this event; before it, that number is `n`
 abbrev pub numbered_from : {E V : Type 0} → ℕ → FileEvent E V → ℕ
 numbered_from n (Lose before file rest) = n + (length before + 1)
 numbered_from n _ = n

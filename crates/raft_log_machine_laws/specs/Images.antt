@@ -1,5 +1,5 @@
--- In each image that a crash may leave, the entries of each raft group are one run. Also what a recovery reads of an
--- image.
+-- In each image that a crash may leave, the entries of each raft group are one run. The file also has the choices of a
+-- crash and of the recovery after it.
 use Rattle.std.specs.Prelude.{◌≡◌, ℕ, ◌<◌, ◌≤◌, List, ◌++◌, Option, Some, None}
 use Rattle.raft_log_model_laws.specs.Item.{Record}
 use Rattle.raft_log_model_laws.specs.Meaning.{Slot, Content}
@@ -10,8 +10,8 @@ use Rattle.raft_log_machine_laws.specs.Queue.{Store, reread}
 use Rattle.raft_log_machine_laws.specs.Machine.{Machine, Event}
 use Rattle.raft_log_machine_laws.specs.Machine.Event.{Reopen}
 
--- The entries of the raft group are one run: each index from the run's first one to below its end has an entry, and no
--- other index has one. All are below 2^64 - 1.
+-- The entries of the raft group are one run. Each index from `first` to below `end` has an entry, and no other index
+-- has one. All are below 2^64 - 1.
 pub record IsOneRun {E V : Type 0} (m : Slot → Option (Content E V)) : Type 0 where
   pub first : ℕ
   pub end : ℕ
@@ -25,8 +25,8 @@ pub record HasRuns {E V : Type 0} (w : Machine E V) : Type 0 where
   pub runs : (g : ℕ) (kept lost : List (Record E V)) → kept ++ lost ≡ w.store.append.pending
       → IsOneRun (taken w.map kept g)
 
--- A crash and a recovery. The image kept `r_kept` and `a_kept`, prefixes of the pending records of Rewrite and Append.
--- Of the records below the live ranges, the recovery reads the suffixes `r_back` and `a_back`.
+-- A crash and a recovery of directory `q`. The image kept `r_kept` and `a_kept`, prefixes of the pending records of
+-- Rewrite and Append. Of the records below the live ranges, the recovery reads the suffixes `r_back` and `a_back`.
 pub record Recovery {E V : Type 0} (q : Store E V) : Type 0 where
   pub r_kept : List (Record E V)
   pub r_lost : List (Record E V)

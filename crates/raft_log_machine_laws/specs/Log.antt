@@ -1,4 +1,4 @@
--- An engine's log as its callers see it: the map that is synced, and the pending batches. The engine's view of it:
+-- An engine's log as its callers see it: the map that is synced, and the pending batches. Also the engine's view of it:
 -- where each entry and value is stored. `may_be` says which files may be on disk.
 use Rattle.std.specs.Prelude.{◌≡◌, ℕ, Bool, List, [], ◌++◌}
 use Rattle.raft_log_model_laws.specs.Item.{Record}
@@ -19,13 +19,13 @@ pub record IsLog {E V : Type 0} (may_be : Files E V → Type 0) (m : Map E V) (p
   pub ends : files.append.pending ≡ pending
   pub there : may_be files
 
--- the log of file system `d` is map `m` with these pending batches: some such files allow each image that a crash of
--- `d` may leave
+-- The log of file system `d` is map `m` with these pending batches. Some files hold this log, and allow each image that
+-- a crash of `d` may leave.
 abbrev pub IsLogOf : {D E V : Type 0} → Readings D E V → D → Map E V → List (Record E V) → Type 0
 IsLogOf r d m pending = IsLog (Allows r d) m pending
 
--- what an engine knows: in which queue each entry and value is stored, the files noted in Append and in Rewrite, and
--- the map that its tables have
+-- What an engine knows: in which queue each entry and value is stored, which files are noted for them, and the map that
+-- its tables have.
 pub record View (E V : Type 0) : Type 0 where
   pub whereabouts : ℕ → Whereabouts
   pub noted : Notes

@@ -58,7 +58,7 @@ pub data Event (E V : Type 0) : Type 0 where
   -- the records `out` leave a queue's live range at its beginning, and the records `stay` stay
   RaiseAppend : (out stay : List (Record E V)) → Event E V
   RaiseRewrite : (out stay : List (Record E V)) → Event E V
-  -- of a queue's records below the live range, the oldest, `lost`, are lost, and `rest` remain
+  -- the oldest of a queue's records below the live range, `lost`, are lost; `rest` are the others below it
   LoseAppend : (lost rest : List (Record E V)) → Event E V
   LoseRewrite : (lost rest : List (Record E V)) → Event E V
   -- the engine fails
@@ -67,19 +67,20 @@ pub data Event (E V : Type 0) : Type 0 where
   -- Append are kept. Of the records below the live ranges, the suffixes `r_back` and `a_back` are read.
   Reopen : (r_kept r_lost r_cut r_back a_kept a_lost a_cut a_back : List (Record E V)) → Event E V
 
--- the live range of Rewrite ends with the records of atomic group `n`, which has no end yet
+-- Queue `q` ends with the records of atomic group `n`, which has no end yet. Its begin has the items `first`, and its
+-- middles have `more`.
 abbrev pub GoesOnWith : {E V : Type 0} → Queue E V → ℕ → List (Tagged E V) → List (List (Tagged E V)) → Type 0
 GoesOnWith {E} {V} q n first more =
     (front : List (Record E V)) × (q.live ++ q.pending ≡ front ++ begun n first more)
 
 -- The items `items` may replace `parts`. They do the same to each slot, and `parts` leave no hole if `items` leave
--- none. So several runs, each at the end of the one before, may count as one.
+-- none. So one run may replace several runs, each of which starts at the end of the one before.
 pub record IsJoined {E V : Type 0} (parts items : List (Item E V)) : Type 0 where
   pub same_words : (s : Slot) → says s parts ≡ says s items
   pub no_more_holes : (w : Window) → NoHole w items → NoHole w parts
 
--- this event may happen to machine `w`, and changes it into `v`; conditions on raft groups are conditions on their
--- whereabouts
+-- This event may happen to machine `w`, and changes it into `v`. Its conditions on raft groups are stated with their
+-- whereabouts.
 abbrev pub Step : {E V : Type 0} → Event E V → Machine E V → Machine E V → Type 0
 Step (Take y) w v =
     (w.failed ≡ false)
@@ -164,7 +165,7 @@ said_of g q = record {
 }
 
 -- The invariant of the machine. The directory holds its map. No other record comes between those of an atomic group of
--- Rewrite. Unless it has failed, its whereabouts agree with its records.
+-- Rewrite. No run in Rewrite ends above 2^64 - 1. Unless the engine has failed, the whereabouts agree with the records.
 pub record IsKept {E V : Type 0} (w : Machine E V) : Type 0 where
   pub holds : HoldsMap w.store w.map
   pub unbroken : IsUnbroken (all_records w.store.rewrite)

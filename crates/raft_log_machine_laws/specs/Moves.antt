@@ -14,14 +14,15 @@ IsQuiet (Raise out stay) = ⊥
 IsQuiet (Lose before file rest) = Unit {0}
 IsQuiet (Read below again kept) = ⊥
 
--- these quiet events change files `q` into files `p`; the numbers after the last gap start at `n` before and at `k`
--- after
+-- these quiet events change files `q` into files `p`; the numbers of the files after the last gap start at `n` before
+-- and at `k` after
 abbrev pub Moves : {E V : Type 0} → ℕ → FileQueue E V → List (FileEvent E V) → ℕ → FileQueue E V → Type 0
 Moves n q [] k p = (k ≡ n) × (p ≡ q)
 Moves {E} {V} n q (e ∷ es) k p =
     (next : FileQueue E V) × IsQuiet e × FileStep e q next × Moves (numbered_from n e) next es k p
 
--- files `queue` come from files `q` by some quiet events; their numbers after the last gap start at `from`
+-- Quiet events change files `q` into `queue`. The numbers of the files after the last gap start at `n` before and at
+-- `from` after.
 pub record Moved {E V : Type 0} (n : ℕ) (q : FileQueue E V) : Type 0 where
   pub events : List (FileEvent E V)
   pub from : ℕ

@@ -1,5 +1,6 @@
--- For each slot, an engine notes a file of the queue. In Append, this file has the slot's content; in Rewrite, the
--- content is in this file and later ones. The queue's live range may begin at the lowest noted file, or before it.
+-- For each slot, an engine notes a file of the queue. In Append, a record of this file has the slot's content. In
+-- Rewrite, the records from this file on are enough to get it. The queue's live range may begin at the lowest noted
+-- file, or before it.
 use Rattle.std.specs.Prelude.{◌≡◌, ℕ, ◌<◌, ◌≤◌, ◌⊎◌, true, false, List, [], ◌∷◌, ◌++◌, None}
 use Rattle.raft_log_model_laws.specs.Item.{Record, Tagged, items_of}
 use Rattle.raft_log_model_laws.specs.Meaning.{Slot, says}
@@ -52,8 +53,8 @@ abbrev pub AllBelow : {E V : Type 0} → ℕ → List (LogFile E V) → Type 0
 AllBelow n [] = Unit {0}
 AllBelow n (f ∷ fs) = (f.number < n) × AllBelow n fs
 
--- What counts of Rewrite's files from number `n` on touches slot `s` of raft group `g`. This is an item of a plain
--- record there, or of an atomic group that is whole there.
+-- If only the files `back` are read, an item touches slot `s` of raft group `g`. They are a suffix of the live range,
+-- all numbered `n` or higher. The item is in a plain record there, or in an atomic group that is whole there.
 pub record SpeaksFrom {E V : Type 0} (q : FileQueue E V) (g n : ℕ) (s : Slot) : Type 0 where
   pub front : List (LogFile E V)
   pub back : List (LogFile E V)
@@ -66,8 +67,8 @@ abbrev pub IsInRewrite : Whereabouts → Slot → Type 0
 IsInRewrite t (Index i) = (t.first ≤ i) × (i < t.split)
 IsInRewrite t (Key k) = t.appended k ≡ false
 
--- for each slot whose content is stored in Rewrite, what counts from the noted file on touches the slot; an empty slot
--- needs no note
+-- for each slot that isn't empty and whose content is stored in Rewrite, the files from the noted one on touch it, as
+-- `SpeaksFrom` says
 abbrev pub AreNotedInRewrite : {E V : Type 0} → Map E V → (ℕ → Whereabouts) → Notes → FileQueue E V → Type 0
 AreNotedInRewrite m whereabouts notes q =
     (g : ℕ) (s : Slot) → IsInRewrite (whereabouts g) s → (m g s ≡ None) ⊎ SpeaksFrom q g (notes g s) s

@@ -33,7 +33,7 @@ synced q = record { gone = q.gone; live = q.live ++ q.pending; pending = [] }
 abbrev pub raised : {E V : Type 0} → Queue E V → List (Record E V) → List (Record E V) → Queue E V
 raised q n1 n2 = record { gone = q.gone ++ n1; live = n2; pending = q.pending }
 
--- the queue, with only the records `back` below its live range; the files of the others are deleted, renamed, or
+-- the queue after all its records below the live range except `back` were lost: their files are deleted, renamed, or
 -- before a gap
 abbrev pub left : {E V : Type 0} → Queue E V → List (Record E V) → Queue E V
 left q back = record { gone = back; live = q.live; pending = q.pending }

@@ -21,17 +21,18 @@ has_del k [] = false
 has_del k (Del l ∷ xs) = bytes_eq l k || has_del k xs
 has_del k (x ∷ xs) = has_del k xs
 
--- Which tombstones are owed after an open read these items of Append. A Clean is owed exactly if there is one.
--- Otherwise a Compact and each Del are owed if there is one. A Del isn't owed unless there is one; a Compact may be,
--- which does no harm.
+-- Which tombstones are owed after an open read these items of Append. A Clean is owed exactly if they have one. If they
+-- have no Clean, each of their Compacts and Dels is owed. A Del is owed only if they have it. A Compact may be owed
+-- without one, which does no harm.
 pub record HasMarks {E V : Type 0} (append : List (Item E V)) (t : Whereabouts) : Type 0 where
   pub cleaned : t.cleaned ≡ has_clean append
   pub compacted : has_clean append ≡ false → has_compact append ≡ true → t.compacted ≡ true
   pub deleted : (k : List ℕ) → has_clean append ≡ false → has_del k append ≡ true → t.deleted k ≡ true
   pub was_deleted : (k : List ℕ) → t.deleted k ≡ true → has_del k append ≡ true
 
--- Whereabouts `t` are right for a raft group with content `m`, if `append` was read of it from Append. They place in
--- Append what Append's items have, and all else in Rewrite. The tombstones for Append's deletions are owed.
+-- Whereabouts `t` are right for a raft group with content `m` if an open read the items `append` from Append. They
+-- place in Append what these items leave there, and all else in Rewrite. The tombstones for Append's deletions are
+-- owed, as `HasMarks` says.
 pub record IsRecovered {E V : Type 0} (m : Slot → Option (Content E V)) (append : List (Item E V))
     (t : Whereabouts) : Type 0 where
   pub in_order : (t.first ≤ t.split) × (t.split ≤ t.end) × (t.end ≤ top)
@@ -55,7 +56,7 @@ pub record IsReadOff {E V : Type 0} (rewrite : Table E V) (append : Summary E V)
   pub split : t.split ≡ (if nat_lt 0 (length append.table.entries) then append.table.first else t.end)
   pub appended : (k : List ℕ) → t.appended k ≡ is_some (append.table.values k)
 
--- Whereabouts `t` and `u` place entries and keys in the same queues. If there are no entries, their index may differ.
+-- Whereabouts `t` and `u` place entries and keys in the same queues. If there are no entries, the indexes may differ.
 -- An owed Compact or Del may differ too.
 pub record StandAlike (t u : Whereabouts) : Type 0 where
   pub entries : t.first < t.end → (u.first ≡ t.first) × (u.split ≡ t.split) × (u.end ≡ t.end)

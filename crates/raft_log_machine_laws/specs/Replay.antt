@@ -1,5 +1,5 @@
--- What a recovery needs in order to read the files: no run leaves a hole, and no other record comes between those of
--- an atomic group.
+-- What a recovery needs in order to read the files. No run leaves a hole, and no other record comes between those of an
+-- atomic group.
 use Rattle.std.specs.Prelude.{◌≡◌, ℕ, ◌≤◌, ◌⊎◌, false, List, ◌++◌}
 use Rattle.raft_log_model_laws.specs.Item.{Record}
 use Rattle.raft_log_model_laws.specs.Groups.{appended, rewritten}

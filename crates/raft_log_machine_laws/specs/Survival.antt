@@ -1,5 +1,5 @@
 -- What a crash may leave of a directory's two queues, and which map a recovery gets from it. A start is the record at
--- which the recovery begins to read a queue: the first of the live range, or one below it that is still on disk.
+-- which the recovery begins to read a queue. It is the first of the live range, or one below it that is still on disk.
 use Rattle.std.specs.Prelude.{◌≡◌, ℕ, ◌≤◌, ◌⊎◌, List, ◌++◌, length, take, Option, None, Some}
 use Rattle.raft_log_model_laws.specs.Item.{Item, Record}
 use Rattle.raft_log_model_laws.specs.Meaning.{Slot, says, holds}
@@ -15,8 +15,8 @@ HoldsMap {E} {V} q m =
     → a_cut ++ a_back ≡ q.append.gone
     → directory_meaning (r_back ++ (q.rewrite.live ++ r_kept)) (a_back ++ q.append.live) g s ≡ m g s
 
--- A crash loses at most a suffix of the pending `batches`. For whatever prefixes of pending records it leaves, there
--- is one number of batches. A recovery then gets map `m` after that many batches, from every start in both queues.
+-- A crash loses at most a suffix of the pending `batches`. The prefixes of pending records that it leaves determine a
+-- number `count`. From every start in both queues, a recovery then gets map `m` after the first `count` batches.
 abbrev pub Survives : {E V : Type 0} → Store E V → Map E V → List (Record E V) → Type 0
 Survives {E} {V} q m batches =
     (r_kept r_lost a_kept a_lost : List (Record E V)) → r_kept ++ r_lost ≡ q.rewrite.pending
@@ -31,8 +31,8 @@ Survives {E} {V} q m batches =
 abbrev pub IsSpoken : {C : Type 0} → Option (Option C) → Type 0
 IsSpoken {C} word = (value : Option C) × (word ≡ Some value)
 
--- What Rewrite does to a slot changes nothing. Either Rewrite doesn't touch the slot, or puts there what the map has.
--- Or Append's records touch the slot too, and so override Rewrite.
+-- `word`, what Rewrite does to a slot, changes nothing. Either it doesn't touch the slot, or it puts there the map's
+-- content `value`. Or Append's records touch the slot too (`append_word`), and so override Rewrite.
 abbrev pub IsHarmless : {C : Type 0} → Option (Option C) → Option C → Option (Option C) → Type 0
 IsHarmless word value append_word = (word ≡ None) ⊎ ((word ≡ Some value) ⊎ IsSpoken append_word)
 
@@ -41,23 +41,23 @@ IsHarmless word value append_word = (word ≡ None) ⊎ ((word ≡ Some value) �
 abbrev pub counting : {E V : Type 0} → Queue E V → List (Record E V) → Record E V → ℕ → List (Item E V)
 counting q back y g = of_group g (counts (opened none_open (back ++ (q.live ++ q.pending))) y)
 
--- Rewrite may take record `y`. From every start, what starts to count with it changes nothing, even without Append's
--- pending records.
+-- Rewrite may take record `y`. From every start, the items that start to count with `y` change nothing, even without
+-- Append's pending records.
 abbrev pub MayRewrite : {E V : Type 0} → Store E V → Map E V → Record E V → Type 0
 MayRewrite {E} {V} q m y =
     (g : ℕ) (s : Slot) (cut back : List (Record E V)) → cut ++ back ≡ q.rewrite.gone
     → IsHarmless (says s (counting q.rewrite back y g)) (m g s) (says s (appended g q.append.live))
 
--- Append's live range may begin at the records `n2`. For each slot, these touch it, or Rewrite alone has the map's
--- content of it, from each of Rewrite's starts.
+-- Append's live range may begin at the records `n2`. For each slot, these touch it, or Rewrite's synced records alone
+-- leave in it what the map has, from each of Rewrite's starts.
 abbrev pub MayRaiseAppend : {E V : Type 0} → Store E V → Map E V → List (Record E V) → Type 0
 MayRaiseAppend {E} {V} q m n2 =
     (g : ℕ) (s : Slot) → IsSpoken (says s (appended g n2))
     ⊎ ((cut back : List (Record E V)) → cut ++ back ≡ q.rewrite.gone
     → holds s (rewritten g (back ++ q.rewrite.live)) ≡ m g s)
 
--- Rewrite's live range may begin at the records `n2`. For each slot, what counts of these touches it, or the map has
--- nothing in it, or Append's synced records override Rewrite there.
+-- Rewrite's live range may begin at the records `n2`. For each slot, an item that counts in these touches it, or the
+-- map has nothing in it, or Append's synced records override Rewrite there.
 abbrev pub MayRaiseRewrite : {E V : Type 0} → Store E V → Map E V → List (Record E V) → Type 0
 MayRaiseRewrite {E} {V} q m n2 =
     (g : ℕ) (s : Slot) → IsSpoken (says s (rewritten g n2)) ⊎ ((m g s ≡ None)

@@ -1,27 +1,29 @@
--- The invariant that connects a raft group's whereabouts with the records of both queues. The whereabouts are in which
--- queue each of its entries and values is stored, and which tombstones are owed to Rewrite.
+-- The invariant that connects a raft group's whereabouts with the records of both queues. Whereabouts say in which
+-- queue each entry and value is stored, and which tombstones are owed to Rewrite.
 use Rattle.std.specs.Prelude.{◌≡◌, ℕ, ◌<◌, ◌≤◌, ◌⊎◌, true, false, List, Option, Some, None, unwrap_or}
 use Rattle.raft_log_model_laws.specs.Meaning.{Slot, Content}
 use Rattle.raft_log_model_laws.specs.Meaning.Slot.{Index, Key}
 use Rattle.raft_log_machine_laws.specs.Survival.{IsSpoken}
 use Rattle.raft_log_machine_laws.specs.Whereabouts.{Whereabouts, top}
 
--- What the records do to each slot of a raft group: `lowest` for all of Rewrite that may be read, `rewrite` for
--- Rewrite's live range, and `append` for Append's live range.
+-- What the records do to each slot of a raft group:
+-- - `lowest`: all records of Rewrite that a recovery may read;
+-- - `rewrite`, `append`: the records of this queue's live range.
 pub record SaysOfSlot (E V : Type 0) : Type 0 where
   pub lowest : Slot → Option (Option (Content E V))
   pub rewrite : Slot → Option (Option (Content E V))
   pub append : Slot → Option (Option (Content E V))
 
--- Rewrite alone leaves in the slot what the map has there, if all of it is read, and if only its live range is read
+-- Rewrite's records alone leave in the slot what the map has there. This is so if all that may be read are read, and if
+-- only the live range is read.
 abbrev pub IsRightInRewrite : {E V : Type 0} → SaysOfSlot E V → (Slot → Option (Content E V)) → Slot → Type 0
 IsRightInRewrite said m s = (unwrap_or (said.lowest s) None ≡ m s) × (unwrap_or (said.rewrite s) None ≡ m s)
 
 -- Index `i` is settled in one of four ways:
 -- - Rewrite alone is right about it;
 -- - a Clean is owed;
--- - a Compact is owed, and will remove the index: it is below the first entry, or no entry is in Rewrite;
--- - an entry at or below it is in Append, so that the run there overrides Rewrite.
+-- - a Compact is owed that will remove the index: `i` is below the first entry, or no entry is in Rewrite;
+-- - an entry at or below `i` is in Append, so the run there overrides Rewrite.
 abbrev pub IsSettledIndex : {E V : Type 0} → SaysOfSlot E V → (Slot → Option (Content E V)) → Whereabouts → ℕ
     → Type 0
 IsSettledIndex said m t i =
@@ -30,13 +32,19 @@ IsSettledIndex said m t i =
     ⊎ (((t.compacted ≡ true) × ((i < t.first) ⊎ (t.first ≡ t.split)))
     ⊎ ((t.split ≤ i) × (t.split < t.end))))
 
--- key `k` is settled: Rewrite alone is right about it, or a Clean or its Del is owed, or its value is in Append
+-- Key `k` is settled in one of four ways:
+-- - Rewrite alone is right about it;
+-- - a Clean is owed;
+-- - a Del of it is owed;
+-- - its value is in Append.
 abbrev pub IsSettledKey : {E V : Type 0} → SaysOfSlot E V → (Slot → Option (Content E V)) → Whereabouts → List ℕ
     → Type 0
 IsSettledKey said m t k =
     IsRightInRewrite said m (Key k) ⊎ ((t.cleaned ≡ true) ⊎ ((t.deleted k ≡ true) ⊎ (t.appended k ≡ true)))
 
--- whereabouts `t` agree with what the records do to each slot, for a raft group whose content is `m`
+-- Whereabouts `t` are correct for a raft group with content `m`, if its records do `said` to each slot. The group's
+-- entries are exactly those from `first` to below `end`. The live range of the queue that `t` says has each entry and
+-- value. Each index and key is settled.
 pub record AreCorrect {E V : Type 0} (said : SaysOfSlot E V) (m : Slot → Option (Content E V)) (t : Whereabouts)
     : Type 0 where
   pub in_order : (t.first ≤ t.split) × (t.split ≤ t.end) × (t.end ≤ top)

@@ -11,11 +11,10 @@ use Rattle.raft_log_model_laws.specs.Meaning.Content.{Entry, Value}
 unfoldable pub top : ℕ
 top = 2 ^ 64 - 1
 
--- In which queue the content of a raft group is stored:
--- - the entries from index `first` to below `split` in Rewrite, and those from `split` to below `end` in Append;
--- - the values of the keys `appended` in Append, and those of all other keys in Rewrite;
--- - owed tombstones: since tombstones were last written, Append has a Clean (`cleaned`), a Compact (`compacted`), or a
---   Del of these keys (`deleted`).
+-- In which queue the content of a raft group is stored, and which tombstones are owed:
+-- - the entries from index `first` to below `split` are in Rewrite, and those from `split` to below `end` in Append;
+-- - the values of the keys `appended` are in Append, and those of all other keys in Rewrite;
+-- - the owed tombstones are a Clean (`cleaned`), a Compact (`compacted`), and a Del of each key of `deleted`.
 pub record Whereabouts : Type 0 where
   pub first : ℕ
   pub split : ℕ
@@ -25,7 +24,7 @@ pub record Whereabouts : Type 0 where
   pub compacted : Bool
   pub deleted : List ℕ → Bool
 
--- the set of keys `test`, with `answer` for key `key`
+-- the set of keys `test`, except that key `key` is in it exactly if `answer` is true
 abbrev pub with_key : (List ℕ → Bool) → List ℕ → Bool → List ℕ → Bool
 with_key test key answer k = if bytes_eq key k then answer else test k
 
@@ -33,12 +32,12 @@ with_key test key answer k = if bytes_eq key k then answer else test k
 abbrev pub Alone : Whereabouts → ℕ → Type 0
 Alone t f = (f ≤ t.first) ⊎ (t.first ≡ t.end)
 
--- a run that starts at `f` continues the entries: `f` is above the first of them, and at most at the index after the
--- last
+-- a run that starts at `f` continues the entries: `f` is above the first index, and at most the index after the last
+-- entry
 abbrev pub GoesOn : Whereabouts → ℕ → Type 0
 GoesOn t f = (t.first < f) × (f ≤ t.end)
 
--- the index of the first entry after a Compact with index `c`
+-- the index of the first entry after a Compact with index `c`, or the index after the last if no entry is left
 abbrev pub compacted_first : Whereabouts → ℕ → ℕ
 compacted_first t c = max t.first (min c t.end)
 
@@ -68,22 +67,23 @@ abbrev pub GrowsBy : {E V : Type 0} → Whereabouts → List (Item E V) → Wher
 GrowsBy t [] u = u ≡ t
 GrowsBy t (x ∷ xs) u = (next : Whereabouts) × AppendTakes t x next × GrowsBy next xs u
 
--- the run of entries `es` at index `f` has the same entries as the map
+-- the run of entries `es` that starts at index `f` has the same entries as content `m`
 abbrev pub RunStands : {E V : Type 0} → (Slot → Option (Content E V)) → ℕ → List E → Type 0
 RunStands m f es = (i : ℕ) → f ≤ i → i < f + length es → option_map Entry (slice_get es (i - f)) ≡ m (Index i)
 
--- by these whereabouts, no entry or value of the raft group is stored in Rewrite
+-- by these whereabouts, no entry or value of a raft group with content `m` is stored in Rewrite
 abbrev pub NothingRewritten : {E V : Type 0} → (Slot → Option (Content E V)) → Whereabouts → Type 0
 NothingRewritten m t = (t.first ≡ t.split) × ((k : List ℕ) → t.appended k ≡ false → m (Key k) ≡ None)
 
 -- Rewrite may take the item, and the whereabouts are `t` before and `u` after it. The raft group has the content `m`.
--- - A run has the map's entries. It starts at an index stored in Rewrite or the first one in Append, and ends at the
+-- Each item has its condition:
+-- - A run has the entries of `m`. It starts at an index stored in Rewrite or at the first one in Append. It ends at the
 --   last one in Rewrite or past it. To end past it, neither Clean nor Compact may be owed.
 -- - A Clean is owed, or nothing of the group is stored in Rewrite.
 -- - A Compact has the first index if there are entries in Rewrite, otherwise `top`.
--- - A Put has a key's value. If that value is stored in Append, neither Clean nor Del may be owed.
--- - A Del is owed, or the key has no value in Rewrite.
--- An engine may write a tombstone again, and may thus keep its sets of tombstones until they are synced.
+-- - A Put has the key's value. If that value is stored in Append, neither a Clean nor a Del of the key may be owed.
+-- - A Del is owed, or no value of the key is stored in Rewrite.
+-- An engine may write a tombstone twice, so it may count tombstones as owed until they are synced.
 abbrev pub Carries : {E V : Type 0} → (Slot → Option (Content E V)) → Whereabouts → Item E V → Whereabouts
     → Type 0
 Carries m t (Run f []) u = u ≡ t
@@ -113,20 +113,21 @@ CarriesAll m t (x ∷ xs) u = (next : Whereabouts) × Carries m t x next × Carr
 abbrev pub OwesNothing : Whereabouts → Type 0
 OwesNothing t = (t.cleaned ≡ false) × (t.compacted ≡ false) × ((k : List ℕ) → t.deleted k ≡ false)
 
--- these items of Append have each entry that these whereabouts place in Append, and touch each such key
+-- these items of Append have each entry that these whereabouts place in Append, and touch each key that these place
+-- there
 abbrev pub HasAppended : {E V : Type 0} → Whereabouts → List (Item E V) → Type 0
 HasAppended {E} {V} t kept =
     ((i : ℕ) → t.split ≤ i → i < t.end → (entry : Content E V) × (says (Index i) kept ≡ Some (Some entry)))
     × ((k : List ℕ) → t.appended k ≡ true → (value : Option (Content E V)) × (says (Key k) kept ≡ Some value))
 
--- these items of Rewrite have each entry and value that these whereabouts place in Rewrite
+-- these items of Rewrite have each entry and value of content `m` that these whereabouts place in Rewrite
 abbrev pub HasRewritten : {E V : Type 0} → (Slot → Option (Content E V)) → Whereabouts → List (Item E V)
     → Type 0
 HasRewritten m t kept =
     ((i : ℕ) → t.first ≤ i → i < t.split → says (Index i) kept ≡ Some (m (Index i)))
     × ((k : List ℕ) → t.appended k ≡ false → (m (Key k) ≡ None) ⊎ (says (Key k) kept ≡ Some (m (Key k))))
 
--- whereabouts `u` are `t`; if the raft group has no entries, they may have another index for them
+-- whereabouts `u` are `t`, but if the raft group has no entries, another index may be its `first`, `split` and `end`
 abbrev pub IsRenumbered : Whereabouts → Whereabouts → Type 0
 IsRenumbered t u =
     (u ≡ t)

@@ -1,5 +1,5 @@
--- Examples of wrong rules for a purge. For each of them, a directory that holds its map, and how the rule loses
--- something. Entries and values are numbers.
+-- Examples of wrong rules for a purge. In each, a directory holds its map until the rule is applied. Entries and values
+-- are numbers.
 use Rattle.std.specs.Prelude.{ℕ, true, List, [], ◌∷◌}
 use Rattle.raft_log_model_laws.specs.Item.{Item, Tagged, Record}
 use Rattle.raft_log_model_laws.specs.Item.Item.{Run, Clean, Compact, Put}
@@ -11,7 +11,7 @@ use Rattle.raft_log_machine_laws.specs.Survival.{HoldsMap}
 use Rattle.raft_log_machine_laws.specs.Machine.{Machine}
 use Rattle.raft_log_machine_laws.specs.Fresh.{nowhere}
 
--- these items, as those of raft group `g`
+-- these items, each marked as one of raft group `g`
 abbrev pub tagged : ℕ → List (Item ℕ ℕ) → List (Tagged ℕ ℕ)
 tagged g [] = []
 tagged g (x ∷ xs) = record { group = g; item = x } ∷ tagged g xs
@@ -24,14 +24,16 @@ lone rs = record { gone = []; live = rs; pending = [] }
 abbrev pub lone_store : List (Record ℕ ℕ) → List (Record ℕ ℕ) → Store ℕ ℕ
 lone_store rewrite append = record { rewrite = lone rewrite; append = lone append }
 
--- the directory holds its map, but no longer holds it after the records `out` left Append's live range
+-- the directory with the records `rewrite` and `all` holds its map, but no longer after the records `out` left Append's
+-- live range
 abbrev pub LosesByAppend : (rewrite out stay all : List (Record ℕ ℕ)) → Type 0
 LosesByAppend rewrite out stay all =
     HoldsMap (lone_store rewrite all) (directory_meaning rewrite all)
     × (HoldsMap (with_append (lone_store rewrite all) (raised (lone all) out stay))
     (directory_meaning rewrite all) → ⊥)
 
--- the directory holds its map, but no longer holds it after the records `out` left Rewrite's live range
+-- the directory with the records `all` and `append` holds its map, but no longer after the records `out` left Rewrite's
+-- live range
 abbrev pub LosesByRewrite : (append out stay all : List (Record ℕ ℕ)) → Type 0
 LosesByRewrite append out stay all =
     HoldsMap (lone_store all append) (directory_meaning all append)
@@ -50,7 +52,7 @@ compact_3 = Plain (tagged 1 (Compact 3 ∷ []))
 abbrev pub compact_4 : Record ℕ ℕ
 compact_4 = Plain (tagged 1 (Compact 4 ∷ []))
 
--- a new entry 3, which replaces entries 3 and 4, and then a Compact that deletes it
+-- a new entry 3 of group 1, which replaces all entries from there on, and then a Compact that deletes it and all below
 abbrev pub all_compacted : Record ℕ ℕ
 all_compacted = Plain (tagged 1 (Run 3 (23 ∷ []) ∷ Compact 4 ∷ []))
 
@@ -78,7 +80,7 @@ group_end = Part (End 1) (tagged 1 (Run 3 (13 ∷ 14 ∷ []) ∷ []))
 abbrev pub both : Record ℕ ℕ
 both = Plain (record { group = 1; item = Clean } ∷ record { group = 2; item = Put (7 ∷ []) 70 } ∷ [])
 
--- a directory in which this batch is pending in Append, and Rewrite has these records
+-- a directory in which the batch `both` is pending in Append, and Rewrite has these records
 abbrev pub unsynced_both : List (Record ℕ ℕ) → Store ℕ ℕ
 unsynced_both rewrite = record {
   rewrite = lone rewrite;

@@ -17,12 +17,12 @@ use Rattle.raft_log_purge_policy.specs.Rules.{asks, rewrites}
 abbrev pub count_of : Rounds → ℕ → ℕ
 count_of rounds g = unwrap_or (get nat_cmp rounds.counts g) 0
 
--- whether the caller is asked to compact the group with this table; not if it has no table
+-- whether the caller is asked to compact the group with this table; never if there is no table
 abbrev pub asks_in : Watermarks → Option Raw → Bool
 asks_in marks None = false
 asks_in marks (Some t) = asks marks t
 
--- whether the group with this table is rewritten, if `rounds` purges in a row asked for it before; not if it has no
+-- whether the group with this table is rewritten, if `rounds` purges in a row asked for it before; never if there is no
 -- table
 abbrev pub rewrites_in : Watermarks → ℕ → Option Raw → Bool
 rewrites_in marks rounds None = false
@@ -36,14 +36,14 @@ asks_at marks m g = asks_in marks (raw_of m g)
 abbrev pub rewrites_at : Watermarks → (ℕ → ℕ) → MemTables → ℕ → Bool
 rewrites_at marks counts m g = rewrites_in marks (counts g) (raw_of m g)
 
--- whether the caller is asked to compact the group with this table; not if there are no watermarks, as Append isn't
--- purged
+-- whether the caller is asked to compact the group with this table; never if there are no watermarks, since then Append
+-- isn't purged
 abbrev pub asks_by : Option Watermarks → Raw → Bool
 asks_by None t = false
 asks_by (Some marks) t = asks marks t
 
--- Whether the group with this table is returned to the purge's caller. It is if the caller is asked to compact it, or
--- if Rewrite was rewritten and the group has more than 32 entries there.
+-- Whether the group with this table is returned to the purge's caller. It is if the caller is asked to compact it. It
+-- also is if Rewrite was compacted before (`restated`) and the group has more than 32 entries there.
 abbrev pub answers_in : Option Watermarks → Bool → Option Raw → Bool
 answers_in marks restated None = false
 answers_in marks restated (Some t) = asks_by marks t || (restated && nat_lt 32 (shown t).rewritten)
@@ -53,7 +53,7 @@ abbrev pub answers_at : Option Watermarks → Bool → MemTables → ℕ → Boo
 answers_at marks restated m g = answers_in marks restated (raw_of m g)
 
 -- `picked` lists the groups that a purge of Append up to these watermarks picks. `counts` says in how many purges in a
--- row each group was asked for before; `restated` says whether Rewrite was rewritten.
+-- row each group was asked for before; `restated` says whether Rewrite was compacted before.
 pub record ListsPicked (marks : Watermarks) (counts : ℕ → ℕ) (restated : Bool) (m : MemTables) (picked : GroupLists)
     : Type 0 where
   pub asked : ListsGroups (asks_at marks m) picked.asked.items

@@ -6,25 +6,25 @@ use Rattle.raft_log_memtable.specs.Reads.{has_before}
 use Rattle.raft_log_memtable.specs.Table.{Raw, shown}
 use Rattle.raft_log_purge_policy.specs.declared.watermarks.Watermarks.{Watermarks}
 
--- the second argument, the least file of Append in which a group has an entry or value, is below `file`
+-- the least file of Append in which a group has an entry or value, `least` if there is one, is below `file`
 abbrev pub is_below : ℕ → Option ℕ → Bool
 is_below file None = false
 is_below file (Some least) = nat_lt least file
 
--- the group has an entry or value in a file of Append below the watermark of old files, or an entry in Rewrite
+-- the group has an entry or value in a file of Append below the watermark `compact`, or an entry in Rewrite
 abbrev pub is_old : Watermarks → Raw → Bool
 is_old marks t = is_below marks.compact (min_file Append t) || nat_lt 0 (shown t).rewritten
 
--- the group has at least 32 entries in total in Rewrite and in files of Append up to the watermark of rewriting
+-- the group has at least 32 entries in total in Rewrite and in files of Append up to the watermark `rewrite`
 abbrev pub is_heavy : Watermarks → Raw → Bool
 is_heavy marks t = has_before (shown t) (record { queue = Append; seq = marks.rewrite }) 32
 
--- the group has fewer than 32 entries in files of Append up to the watermark of rewriting
+-- the group has fewer than 32 entries in files of Append up to the watermark `rewrite`
 abbrev pub is_light : Watermarks → Raw → Bool
 is_light marks t = not (has_before (shown t) (record { queue = Append; seq = marks.rewrite })
     (min ((shown t).rewritten + 32) (2 ^ 64 - 1)))
 
--- the group has an entry or value in a file of Append up to the watermark of rewriting
+-- the group has an entry or value in a file of Append up to the watermark `rewrite`
 abbrev pub has_to_rewrite : Watermarks → Raw → Bool
 has_to_rewrite marks t = is_below (marks.rewrite + 1) (min_file Append t)
 
@@ -32,8 +32,9 @@ has_to_rewrite marks t = is_below (marks.rewrite + 1) (min_file Append t)
 abbrev pub asks : Watermarks → Raw → Bool
 asks marks t = is_old marks t && is_heavy marks t
 
--- The group is rewritten if it has an entry or value in Append up to the watermark of rewriting. If the caller is
--- asked to compact it, nine purges in a row must have asked before; else the group must be light.
+-- The group is rewritten if it has an entry or value in Append up to the watermark `rewrite`, and meets one of two
+-- conditions. If the caller is asked to compact it, nine purges in a row must have asked before. If not, the group must
+-- be light.
 abbrev pub rewrites : Watermarks → ℕ → Raw → Bool
 rewrites marks rounds t =
     (if asks marks t then nat_le 9 rounds else is_light marks t) && has_to_rewrite marks t

@@ -2,7 +2,7 @@
 use Rattle.raft_log_file_settings.specs.Settings.{Settings}
 use Rattle.raft_log_purge_policy.specs.declared.thresholds.Thresholds.{Thresholds}
 
--- the thresholds that these settings have
+-- the thresholds that these settings have for both queues
 abbrev pub thresholds_of : Settings → Thresholds
 thresholds_of s = record {
   append = s.purge_threshold;

@@ -14,16 +14,18 @@ use Rattle.raft_log_dual_pipes.specs.LastFile.{last_of}
 abbrev pub first_at : Which → LogPipes → ℕ
 first_at which v = (pipe_at which (files_of v)).first_seq
 
--- the file after `thousandths` thousandths of Append's live range, but at most the last file before the active one
+-- The number of the file after `thousandths` thousandths of the files in Append's live range. It is at most that of the
+-- last file before the active one.
 abbrev pub watermark : ℕ → LogPipes → ℕ
 watermark thousandths v = min (seq_at InAppend v thousandths 1000) (last_of InAppend v - 1)
 
--- the watermarks of a purge of Append: files up to 70 percent of its live range are rewritten, and those below 20
--- percent are old
+-- The watermarks of a purge of Append. Files up to the one after 70 percent of its live range are rewritten. Those
+-- below the one after 20 percent are old.
 abbrev pub watermarks_of : LogPipes → Watermarks
 watermarks_of v = record { rewrite = watermark 700 v; compact = watermark 200 v }
 
--- the live range of a queue has more than one file, and its files are together larger than `threshold`
+-- The live range of a queue has more than one file. If each file had the target size, they would together be larger
+-- than `threshold`.
 abbrev pub IsQueuePast : Which → ℕ → LogPipes → Type 0
 IsQueuePast which threshold v = (first_at which v < last_of which v) × (threshold < size_at which v)
 
@@ -39,7 +41,7 @@ TakesAppend t v = IsQueuePast InAppend t.append v
 abbrev pub IsAnyPast : Thresholds → LogPipes → Type 0
 IsAnyPast t v = TakesAppend t v ⊎ ((threshold : ℕ) × (t.rewrite ≡ Some threshold) × IsQueuePast InRewrite threshold v)
 
--- a purge rewrites Rewrite: the settings have a threshold for it, it is past that, and enough of it is garbage
+-- a purge compacts Rewrite: the settings have a threshold for it, it is past that, and enough of it is garbage
 abbrev pub TakesRewrite : Thresholds → GlobalStats → LogPipes → Type 0
 TakesRewrite t stats v = (threshold : ℕ) × (t.rewrite ≡ Some threshold)
     × IsQueuePast InRewrite threshold v × IsGarbage t.garbage_ratio stats

@@ -23,7 +23,7 @@ pub record Batch : Type 0 where
   pub capacity : ℕ
   pub buffer : ℕ
 
--- The bytes of a batch's buffer. An empty buffer gets 16 bytes for the header first.
+-- The bytes of a batch's buffer. If it is empty, they are 16 zeros, which leave room for the header.
 abbrev pub roomy : List ℕ → List ℕ
 roomy [] = replicate 16 0
 roomy (b ∷ bs) = b ∷ bs
@@ -123,8 +123,9 @@ HoldsRecord signature buffer checksum [] entries = Unit {0}
 HoldsRecord signature buffer checksum (x ∷ xs) entries =
     HoldsRecordBytes signature buffer checksum (x ∷ xs) entries
 
--- What the buffer holds in each state. While `Filling`, it has 16 bytes for the header and then the entries' bytes.
--- If `Populated`, it has the record without a signature, and if `Signed`, the signed record.
+-- What the buffer holds in each state. While `Filling`, it has 16 bytes for the header and then the entries' bytes. If
+-- `Populated`, it has the record without a signature, and if `Signed`, the signed record. If `Written`, it may hold
+-- anything.
 abbrev pub HoldsIn : BatchState → List ℕ → ℕ → List LogItem → List ℕ → Type 0
 HoldsIn Filling buffer checksum items entries = length buffer ≡ 16 + length entries
 HoldsIn Populated buffer checksum items entries = HoldsRecord None buffer checksum items entries
@@ -148,8 +149,8 @@ HasNoEntries (contents.EntryIndexes es) = ⊥
 HasNoEntries (contents.Command c) = Unit {0}
 HasNoEntries (contents.Kv kv) = Unit {0}
 
--- the handle of the entry block in a record at `handle`: it begins 16 bytes into the record, and has the length of
--- these entries' block
+-- The handle of the entry block in a record at `handle`. The block begins 16 bytes into the record, and has the length
+-- of these entries' block.
 abbrev pub block_place : FileBlockHandle → List ℕ → FileBlockHandle
 block_place handle entries = record handle { offset = handle.offset + 16; len = length (block_bytes entries) }
 

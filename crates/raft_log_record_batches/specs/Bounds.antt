@@ -10,18 +10,18 @@ use Rattle.raft_log_record_items.specs.Writing.{value_of}
 use Rattle.raft_log_record_frames.specs.ItemBatch.{all_entries}
 use Rattle.raft_log_record_batches.specs.Batch.{Batch}
 
--- the bytes of key and value that an operation on a key writes; a deletion writes only the key
+-- the length of the key and value that an operation on a key writes; a deletion writes only the key
 abbrev pub operation_len : OpType → List ℕ → List ℕ → ℕ
 operation_len Put key value = length key + length value
 operation_len Del key value = length key
 
--- the bytes of key and value that this content writes; 0 if it is no operation on a key
+-- the length of the key and value that this content writes; 0 if it is no operation on a key
 abbrev pub key_value_len : LogItemContent → ℕ
 key_value_len (contents.EntryIndexes es) = 0
 key_value_len (contents.Command c) = 0
 key_value_len (contents.Kv kv) = operation_len kv.op_type kv.key (value_of kv)
 
--- the bytes of keys and values that these items write in total
+-- the total length of the keys and values that these items write
 abbrev pub keys_values_len : List LogItem → ℕ
 keys_values_len items = sum_by (λ x. key_value_len x.content) items
 

@@ -84,7 +84,8 @@ spelled_len spelling entries = bytes_len (map spelling entries)
 abbrev pub MayHold : Batch → List (List ℕ) → Type 0
 MayHold b entries = length b.entries + bytes_len entries ≤ max_entries_len
 
--- the error's text if indexes, as many as the first argument says, don't fit entries, as many as the second says
+-- the error's text if the indexes that were given, `indexes` in number, aren't a run with one for each of `entries`
+-- entries
 abbrev pub run_refusal : ℕ → ℕ → List ℕ
 run_refusal indexes entries =
     if indexes == entries
@@ -102,14 +103,13 @@ IsEntriesRefusal errors.Full held indexes entries =
     IsRunWith indexes entries × (max_entries_len < held + bytes_len entries)
 IsEntriesRefusal _ held indexes entries = ⊥
 
--- Why adding these `entries` to a batch with `held` bytes of entries fails. Their indexes aren't a run, the bytes
+-- Why adding these `entries` to a batch with `held` bytes of entries fails. Their indexes aren't a run, the bytes would
 -- exceed the limit, or memory ran out. Each entry has its `index` and the bytes that `spelling` gives for it.
 abbrev pub IsMessagesRefusal : {E : Type 0} → (E → ℕ) → (E → List ℕ) → Error → ℕ → List E → Type 0
 IsMessagesRefusal index spelling e held entries =
     IsEntriesRefusal e held (map index entries) (map spelling entries)
 
--- why adding these `entries`, each with its `index` and its `spelling`, to the batch `b` fails: a bad run, too many
--- bytes, or lack of memory
+-- why adding these `entries` to the batch `b` fails, as in `IsMessagesRefusal`
 abbrev pub FailsToAddEntries : {E : Type 0} → (E → ℕ) → (E → List ℕ) → Error → Batch → List E → Type 0
 FailsToAddEntries index spelling e b entries = IsMessagesRefusal index spelling e (length b.entries) entries
 

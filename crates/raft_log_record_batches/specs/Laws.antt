@@ -1,5 +1,5 @@
--- Laws of the upper bound for a record's length. No record is longer than its bound, and each addition to a batch
--- raises the bound by at most the length of what is added. If the bound is below 2 ^ 56, the record is not too long.
+-- Laws of the upper bound for a record's length. No record is longer than its bound. Each addition to a batch raises
+-- the bound by at most what it counts for the added items. If the bound is below 2 ^ 56, the record is not too long.
 use Rattle.std.specs.Prelude.{◌≡◌, ◌≢◌, ℕ, ◌+◌, ◌*◌, ◌≤◌, ◌<◌, ◌^◌, List, [], ◌∷◌, length}
 use Rattle.raft_log_record_base.specs.declared.errors.Error.{Error}
 use Rattle.raft_log_record_base.specs.declared.errors.Error.TheVariants as errors
@@ -19,8 +19,8 @@ abbrev pub NoRecordIsLonger : Type 0
 NoRecordIsLonger =
     (items : List LogItem) (entries : List ℕ) → record_len items entries ≤ record_bound items entries
 
--- How much each addition raises the upper bound of a batch: for entries at most, otherwise exactly, by what is given
--- here. The bound of an empty batch is 34.
+-- How much each addition raises the upper bound of a batch, which is 34 for an empty one. For entries, the bound rises
+-- by at most this much, and for all other additions by exactly this much.
 pub record AdditionsRaise : Type 0 where
   pub nothing : (capacity buffer : ℕ) → batch_bound (empty_batch capacity buffer) ≡ 34
   pub entries : (old new : Batch) (g : ℕ) (indexes : List ℕ) (entries : List (List ℕ))

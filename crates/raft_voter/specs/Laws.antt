@@ -120,13 +120,14 @@ abbrev pub AllSpare : State → ℕ → List (Request × Option Reply) → Type 
 AllSpare v i [] = Unit {0}
 AllSpare v i (t ∷ ts) = SparesEntry v i t.0 × AllSpare (next v t.0) i ts
 
--- an Append with these values in an account, with the reply that it matched up to index `last`
+-- what an account has for an Append with these values and the reply that it matched up to index `last`
 abbrev pub matched_up_to : ℕ → ℕ → ℕ → ℕ → List (ℕ × List ℕ) → ℕ → Request × Option Reply
 matched_up_to term prev prev_term commit sent last =
     (Append term prev prev_term commit sent, Some (Matched last))
 
--- After an Append with the reply `Matched`, the voter has an entry at each index for which the Append brought one,
--- with the same term. The voter has that entry, with the same bytes, as long as every request spares it.
+-- After an Append with the reply `Matched`, the voter has an entry at each index for which the Append brought one, with
+-- the same term. The voter keeps that entry, with the same bytes, as long as every later request spares it
+-- (`AllSpare`).
 abbrev pub MatchedEntriesStand : Type 0
 MatchedEntriesStand =
     (rounds : List Round) (cuts : List ℕ) (group : ℕ) → Explains rounds cuts
@@ -176,7 +177,7 @@ GroupIsolation =
     → requests_of before ≡ requests_of before' → a ≡ a'
 
 -- After an Append with the reply `Matched`, the voter has an entry at each index above its base and up to the matched
--- one. The voter has that entry, with the same term and bytes, as long as every request spares it.
+-- one. The voter keeps that entry, with the same term and bytes, as long as every later request spares it (`AllSpare`).
 abbrev pub MatchedIsAcknowledged : Type 0
 MatchedIsAcknowledged =
     (rounds : List Round) (cuts : List ℕ) (group : ℕ) → Explains rounds cuts
@@ -222,8 +223,8 @@ AreReadAs index [] [] = Unit {0}
 AreReadAs index (bytes ∷ others) (e ∷ es) = IsEntry bytes index e × AreReadAs (index + 1) others es
 AreReadAs index others es = ⊥
 
--- `s` and `es` can be read from the bytes that are written for voter `v`: `s` from its state's bytes, and each of `es`
--- from the bytes of one entry
+-- `s` and `es` can be read from the bytes that are written for voter `v`. `s` can be read from its state's bytes, and
+-- each of `es` from the bytes of one entry.
 pub record IsReadOfWritten (v : State) (s : VoterState) (es : List Entry) : Type 0 where
   pub state : IsState (state_text (state_of v)) s
   pub entries : AreReadAs (v.base_index + 1) (map entry_text (log_entries v)) es

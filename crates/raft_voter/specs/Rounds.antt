@@ -95,8 +95,8 @@ place_reached (Answered replies) size cuts = size
 place_reached Cut size [] = 0
 place_reached Cut size (cut ∷ cuts) = cut
 
--- if round `r` has replies, they are those that the voters of world `W` give; if it was cut off, the first of `cuts`
--- is at most the number of its requests
+-- The outcome of round `r` is possible in world `W`. If it has replies, these are what the voters of `W` reply. If it
+-- was cut off, the first of `cuts` is at most the number of its requests.
 abbrev pub OutcomeHolds : Outcome → World → Round → List ℕ → Type 0
 OutcomeHolds (Answered replies) W r cuts = replies ≡ replies_of W r
 OutcomeHolds Cut W r cuts = HasCut (length r.requests) cuts

@@ -1,5 +1,5 @@
--- A service keeps voters: what it promises for each round of requests. Its files keep the voters from a close or a
--- crash to the next open: what an open finds in them.
+-- What a service of voters promises for each round of requests. Also what an open finds in its files, which keep the
+-- voters from a close or a crash to the next open.
 use Rattle.std.specs.Prelude.{◌≡◌, ℕ, ◌+◌, ◌<◌, ◌≤◌, IsTrue, Bool, true, false, if◌then◌else◌, List, [], ◌∷◌, length}
 use Rattle.raft_voter_messages.specs.declared.reply.Reply.{Reply}
 use Rattle.raft_voter_messages.specs.declared.reply.Reply.TheVariants.{Refused}
@@ -76,7 +76,7 @@ FindsVoters v f files store =
     f.without_chance files files
     → (cut : CutRound) → f.leaves files cut → (W : World) × MayFollow cut W × IsOpenAt v store W
 
--- A crash, or an open that failed, made the files `left` from `files`. If the files `read` have no CRC collision,
+-- A crash of `files`, or an open of them that failed, left the files `left`. If the files `read` have no CRC collision,
 -- `left` leave every cut-off round that `files` leave.
 abbrev pub LeavesStanding : {S F : Type 0} → Files S F → F → F → F → Type 0
 LeavesStanding f read files left =
@@ -93,13 +93,13 @@ abbrev pub is_refused : Reply → Bool
 is_refused Refused = true
 is_refused reply = false
 
--- the positions of these replies, counted from `place`, that have `Refused`
+-- the positions of the replies `Refused` in this list; positions count from `place`
 abbrev pub refused_from : ℕ → List Reply → List ℕ
 refused_from place [] = []
 refused_from place (reply ∷ replies) =
     if is_refused reply then place ∷ refused_from (place + 1) replies else refused_from (place + 1) replies
 
--- the positions of these requests, counted from `place`, whose request is out of range
+-- the positions of the requests out of range in this list; positions count from `place`
 abbrev pub out_of_range : ℕ → List (ℕ × Request) → List ℕ
 out_of_range place [] = []
 out_of_range place (q ∷ qs) =
@@ -121,8 +121,8 @@ AnswersRound v requests told old new =
 
 -- Rounds that are cut off: they end without replies.
 
--- A file system call failed in the round. The voters took its requests before some position, without those in
--- `refused`, which the service may refuse. Service `new` leaves the voters so to the next open.
+-- A file system call failed in the round, which changed service `old` into `new`. A later open finds voters that took
+-- the requests before some position, without those at the positions `refused`. The service may refuse these positions.
 pub record TookSome {S : Type 0} (v : Service S) (refused : List ℕ) (requests : List (ℕ × Request))
     (old new : S) : Type 0 where
   pub rising : IsTrue (are_rising 0 (length requests) refused)
@@ -156,7 +156,7 @@ IsFromOutside Memory = Unit {0}
 IsFromOutside _ = ⊥
 
 -- A round of `count` requests can be cut off for this cause. `before` is whether the service had failed before the
--- round, and `now` whether it has failed after it. Only `FileSystem` makes it fail.
+-- round, and `now` whether it has failed after it. Only `FileSystem` makes the service fail.
 abbrev pub FailsAs : Cause → ℕ → Bool → Bool → Type 0
 FailsAs TooLong count before now = (4096 < count) × (now ≡ before)
 FailsAs Failed count before now = (count ≤ 4096) × (before ≡ true) × (now ≡ true)

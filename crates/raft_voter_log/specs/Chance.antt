@@ -51,8 +51,8 @@ abbrev pub ZerosBeginNoRecord : Type 0
 ZerosBeginNoRecord = (queue : LogQueue) (directories : List (List ℕ)) (files : PipeFiles) (room : ℕ)
     → Refuses (IsOwnFrame (log_format queue directories) files) (zeros room)
 
--- if the pipe's active file is on both disks, what `image` has of it is as `IsTorn` or `IsWhole` says: the crash only
--- lost writes
+-- The crash that left `image` of disk `d` only lost writes to the pipe's active file. If both disks have the file, its
+-- bytes in the image are as `IsTorn` or `IsWhole` says.
 abbrev pub LosesOwn : Format LogRecord → PipeFiles → Disk → Disk → Type 0
 LosesOwn F files d image = (file after : File) → d.files files.writer.handle.file ≡ Some file
     → image.files files.writer.handle.file ≡ Some after
@@ -76,7 +76,8 @@ LossesAreFound {F} disk tells = (home : LogDirectories) (e : EngineState) (W : W
     → ForAllNaming home (λ config. FindsVoters disk tells config old W (λ X. X ≡ W))
 
 -- A store crashed during a round, between two requests, and the crash only lost writes. Then an open of the image finds
--- the voters after a prefix of the requests served so far. All settings that name the directories give the same voters.
+-- the voters after a prefix of the requests that have a reply so far. All settings that name the directories give the
+-- same voters.
 abbrev pub LossesInRoundsAreFound : {F : Type 0} → (F → Disk) → (F → List ℕ → ℕ → Type 0) → Type 0
 LossesInRoundsAreFound {F} disk tells = (home : LogDirectories) (V : World) (requests : List (ℕ × Request)) (told : List Reply)
     (wrote : Bool) (s t : EngineState) (os us : ℕ → State) → Keeps home s V → AreOutlines os V
@@ -87,8 +88,9 @@ LossesInRoundsAreFound {F} disk tells = (home : LogDirectories) (V : World) (req
 
 -- Chosen bytes.
 
--- `bytes` are all that the pipe wrote to its active file, which are whole records, then another record of the file, and
--- perhaps more. No unsynced write was asked to write that record there.
+-- `bytes` are the header of the active file and then whole records, which are all that the pipe wrote after the header.
+-- Another record of this file follows, and maybe more bytes. No unsynced write was asked to write that other record
+-- there.
 pub record HasForeign (F : Format LogRecord) (files : PipeFiles) (file : File) (bytes : List ℕ) : Type 0 where
   pub own : List (Written LogRecord)
   pub frames : AreFrames (IsOwnFrame F files) own
@@ -99,7 +101,7 @@ pub record HasForeign (F : Format LogRecord) (files : PipeFiles) (file : File) (
   pub are : bytes ≡ active_header files ++ (spelled own ++ (foreign.bytes ++ behind))
   pub unhanded : IsHandedIn file.changes (length (active_header files) + length (spelled own)) foreign.bytes → ⊥
 
--- what the image has of the pipe's active file has another record after the pipe's own, as `HasForeign` says
+-- in the image, another record follows those that the pipe wrote to its active file, as `HasForeign` says
 pub record LeavesForeign (F : Format LogRecord) (files : PipeFiles) (d image : Disk) : Type 0 where
   pub file : File
   pub after : File
@@ -107,7 +109,8 @@ pub record LeavesForeign (F : Format LogRecord) (files : PipeFiles) (d image : D
   pub left : image.files files.writer.handle.file ≡ Some after
   pub has : HasForeign F files file after.content
 
--- If a crash image of a running engine has such a record in either queue, it has a CRC collision.
+-- If a crash image of a running engine has another record after those of either queue's active file, as `LeavesForeign`
+-- says, it has a CRC collision.
 abbrev pub ForeignRecordsAreChance : Type 0
 ForeignRecordsAreChance = (home : LogDirectories) (e : EngineState) (m : LogMap) (pending : List LogRecordValue) → Represents home e m pending
     → (image : Disk)

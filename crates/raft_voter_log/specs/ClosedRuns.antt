@@ -1,5 +1,5 @@
--- Runs in which stores are closed and opened again, and closed logs are copied. A close in which no file call fails asks
--- nothing of chance, nor does a crash of a running store that only loses writes.
+-- Runs in which stores are closed and opened again, and closed logs are copied. Two events need no premise on CRC
+-- collisions: a close in which no file call fails, and a crash of a running store that only loses writes.
 use Rattle.std.specs.Prelude.{◌≡◌, false, List, [], ◌∷◌, ◌++◌}
 use Rattle.raft_log_fs.specs.Causes.{Fails}
 use Rattle.raft_log_fs.specs.Disk.{Disk as OnDisk}
@@ -28,9 +28,9 @@ pub record ClosesUndisturbed (s : EngineState) (d : OnDisk) : Type 0 where
   pub calm : Fails s.pipes.disk d → ⊥
 
 -- In these moments stores are opened, serve rounds, are purged, have faults armed under them, are closed, and crash.
--- Each close is undisturbed; only one that is the last moment may be any. A crash under a store is one of a running
--- store, and only loses writes. While no store is open, rounds are idle, faults are armed, files are copied, and there
--- are any crashes.
+-- Each close is undisturbed, except that a close at the very end may be any. A crash under a store is one of a running
+-- store, and only loses writes. While no store is open, rounds are idle, faults are armed, files are copied, and any
+-- crash may happen.
 abbrev pub ClosesOrLoses : {S : Type 0} → (S → Config) → (S → EngineState) → Storage S LogFiles
     → List (Moment S LogFiles) → Type 0
 ClosesOrLoses config shows storage [] = Unit {0}
@@ -55,8 +55,9 @@ ClosesOrLoses config shows (Closed files) (kept (copies target) (Closed now) ∷
 ClosesOrLoses config shows (Closed files) (idle round now ∷ ms) = ClosesOrLoses config shows (Closed now) ms
 ClosesOrLoses config shows storage ms = ⊥
 
--- Suppose a run has only such moments, and starts from files without a log. Then each store that it opens serves voters
--- of some world, and no open loses voters. Voters that never fail give exactly the replies in its transcript.
+-- Suppose a run has only moments as in `ClosesOrLoses`, and starts from files without a log. Then each store that it
+-- opens serves voters of some world, and no open loses voters. Voters that never fail give exactly the replies in its
+-- transcript.
 abbrev pub ClosedRunsAskNothing : {S : Type 0} → Service S → Upkeep S → Disk S LogFiles → (S → Config) → (S → EngineState) → Type 0
 ClosedRunsAskNothing {S} v u d config shows = (first : LogFiles) (events : List Event) (report : WorldReport LogFiles)
     → (run : IsRun v u d first events report) → IsBare first.config (disk_of first.files)

@@ -1,4 +1,4 @@
--- A store whose log was closed properly: its files ask nothing of chance, whatever reads them.
+-- A store whose log was closed properly. Its files have no CRC collision, neither as they are nor after a crash.
 use Rattle.std.specs.Prelude.{◌≡◌, ℕ, List}
 use Rattle.raft_log_fs.specs.Disk.{Disk}
 use Rattle.raft_log_fs.specs.Image.{IsSound}
@@ -19,12 +19,13 @@ use Rattle.raft_voter_log.specs.Opens.{FindsVoters}
 abbrev pub AskNothing : Config → Disk → CutRound → Type 0
 AskNothing config d cut = (known : FilesLeave config d cut) × ((read : Disk) → SparesFiles config d cut known read)
 
--- A log at rest, whose contents store voters that are possible after the round `cut`, asks nothing of chance.
+-- If a log at rest stores voters that are possible after the round `cut`, its files are as `AskNothing` says.
 abbrev pub RestingVotersAskNothing : Type 0
 RestingVotersAskNothing = (config : Config) (d : Disk) (cut : CutRound) (m : LogMap) (W : World) → IsSound d
     → IsDurableAs (log_in (home_of config)) d m → Means m W → MayFollow cut W → AskNothing config d cut
 
--- If the log of a running store is closed properly, its files have the store's voters and ask nothing of chance.
+-- If the log of a running store is closed properly, its files have the store's voters, and no CRC collision, as
+-- `AskNothing` says.
 abbrev pub ClosedStoresMeetThePremise : Type 0
 ClosedStoresMeetThePremise = (config : Config) (s : EngineState) (W : World) (d : Disk) → IsSound s.pipes.disk
     → Keeps (home_of config) s W → ClosesProperly s.pipes d → AskNothing config d (uncut W)

@@ -19,7 +19,8 @@ use Rattle.raft_voter_records.specs.Voters.{Means}
 use Rattle.raft_voter_durability_laws.specs.Standing.{IsLeftAmong, IsLeftWith}
 use Rattle.raft_voter_log.specs.Opens.{FindsVoters}
 
--- An open of the copy finds the voters of `W`. So does an open of the source, before the copy was made and after it.
+-- The log of `config` on disk `old` was copied, with disk `now` after it; `to` are the copy's settings. An open of the
+-- copy finds the voters of `W`. So does an open of the source, before the copy was made and after it.
 pub record FindAlike {F : Type 0} (disk : F → Disk) (tells : F → List ℕ → ℕ → Type 0) (config to : Config)
     (old now : F) (W : World) : Type 0 where
   pub fork : FindsVoters disk tells to now W (λ X. X ≡ W)
@@ -34,8 +35,8 @@ ForkedVotersAreFound {F} disk tells = (config to : Config) (target : List ℕ) (
     → Forks (settings_of config) target copied (disk old) (disk now)
     → FindAlike disk tells config to old now W
 
--- An open of any copy of the log of settings `config` finds the voters of `W`. The copy's settings name only its
--- directory.
+-- An open of any copy of the log that `config` names finds the voters of `W`. The log is on disk `old`, and the copy is
+-- made in `target`. The settings `to` of the copy name only that directory.
 abbrev pub CopiesVoters : {F : Type 0} → (F → Disk) → (F → List ℕ → ℕ → Type 0) → F → World → Config → Type 0
 CopiesVoters {F} disk tells old W config = (to : Config) (target : List ℕ) (copied : List (List ℕ)) (after : F)
     → IsSound (disk after) → NamesOnly to target → IsClear target (disk old)
@@ -71,8 +72,8 @@ abbrev pub ForksLeaveVoters : Type 0
 ForksLeaveVoters = (config : Config) (target : List ℕ) (old new : Disk) → IsSound old
     → EndsFork config target old new → LeavesVoters config old new
 
--- A copy into one of the log's own directories fails, and nothing changes. The directory for spilled files is one of
--- them.
+-- A copy into one of the log's own directories, or into a path in one of them, fails, and nothing changes. The
+-- directory for spilled files is one of the log's own.
 abbrev pub OwnDirectoriesGetNoCopy : Type 0
 OwnDirectoriesGetNoCopy = (config : Config) (target : List ℕ) (old new : Disk)
     → LiesInOne (directories_of (settings_of config)) target → EndsFork config target old new

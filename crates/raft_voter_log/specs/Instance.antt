@@ -56,7 +56,7 @@ abbrev pub RefusesLogPurge : Purge → Cause → EngineState → EngineState →
 RefusesLogPurge purge cause s t =
     (error : Error) × (cause ≡ purge_cause (has_failed s) error) × StopsPurgeAs purge s t error
 
--- file system `new` has the armed faults of `old`, and `fault` after them
+-- the armed faults of file system `new` are those of `old` with `fault` armed too
 abbrev pub IsArmed : Fault → MemoryFileSystem → MemoryFileSystem → Type 0
 IsArmed fault old new = armed new ≡ armed_with (fault_of fault) (armed old)
 
@@ -65,6 +65,7 @@ abbrev pub ArmsStore : Fault → MemoryFileSystem → MemoryFileSystem → Engin
 ArmsStore fault old new s t = (ArmsEngine (fault_of fault) s t × IsArmed fault old new)
     ⊎ ((s.pipes.disk.stopped ≡ true) × (t ≡ s))
 
+-- what purges and armed faults do to a simulated store on a log
 abbrev pub log_upkeep :
     {S P : Type 0}
     → (S → MemoryFileSystem) → (LogPipes → Option ℕ → Type 0) → (S → LogEngine P) → (S → EngineState) → Upkeep S
@@ -116,7 +117,8 @@ pub record ClosesStore (s : EngineState) (d : OnDisk) : Type 0 where
   pub held : has_failed s ≡ false → ClosesLog s.pipes d
   pub failed : has_failed s ≡ true → d ≡ s.pipes.disk
 
--- if the store's engine hasn't failed, these are the calls of its close, in order, with what they result in
+-- if the store's engine hasn't failed, its close makes the calls of `ClosesAs` in their order, and leaves disk `d`; the
+-- close may succeed or fail
 abbrev pub ClosesByCalls : EngineState → OnDisk → Type 0
 ClosesByCalls s d = has_failed s ≡ false → (result : Result (Unit {0}) Error) × ClosesAs s.pipes result d
 
@@ -125,6 +127,8 @@ abbrev pub CrashesUnder : OnDisk → Left → OnDisk → Type 0
 CrashesUnder d gone left = (system : MemoryFileSystem) × (after : MemoryFileSystem) × (disk_of system ≡ d)
     × IsLeftOf (remainder_of gone) system after × (disk_of after ≡ left)
 
+-- the files of a log as the simulated disk: which voters they leave, and what opens, closes, crashes, copies and armed
+-- faults do to them
 abbrev pub log_disk :
     {S : Type 0}
     → (MemoryFileSystem → List ℕ → ℕ → Type 0) → (S → Config) → (S → EngineState) → (S → ℕ → State) → Disk S LogFiles

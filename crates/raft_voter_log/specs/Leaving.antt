@@ -20,9 +20,9 @@ use Rattle.raft_voter_store.specs.Service.{LeavesAt}
 use Rattle.raft_voter_store.specs.Service.LeavesAt.{left as is_left, running}
 
 -- The files have voters that are possible after the round `cut`:
--- - `bare`: there is no log yet, so all voters are fresh.
--- - `rests`: after a crash, the log is at rest and stores such voters.
--- - `left`: the log's files can be opened, and whatever a crash keeps of them has such voters.
+-- - `bare`: there is no log yet, and no round was cut off, so all voters are fresh.
+-- - `rests`: after a crash, the log is at rest and stores possible voters.
+-- - `left`: the log's files can be opened, and whatever a crash keeps of them has possible voters.
 pub data FilesLeave (config : Config) (d : Disk) (cut : CutRound) : Type 0 where
   bare : IsBare config d → cut ≡ uncut fresh_world → FilesLeave config d cut
   rests : (before : Disk) → IsImage before d → (m : LogMap) → IsDurableAs (log_in (home_of config)) d m → (W : World)
@@ -44,8 +44,8 @@ SparesFiles config d cut (bare is none) read = Unit {0}
 SparesFiles config d cut (rests before image m is W means follows) read = Unit {0}
 SparesFiles config d cut (left l) read = SparesLeft (home_of config) d cut l read
 
--- The premise on CRC collisions in a crash image under an open store. If the store runs, the active files have only
--- records that its engine wrote. If it has failed, there is no collision in the image of the files that it left.
+-- The premise on CRC collisions in a crash image under an open store. If the store runs, there is none in the image's
+-- active files. If it has failed, there is none in the image of the files that it left.
 abbrev pub SparesStore : (home : LogDirectories) (s : EngineState) (cut : CutRound) → LeavesAt home s cut → Disk → Type 0
 SparesStore home s cut (running W none keeps) read = LeavesNoChance home s.pipes read
 SparesStore home s cut (is_left failed l) read = IsCrashOf home l.left.1.lies.state s.pipes.disk read

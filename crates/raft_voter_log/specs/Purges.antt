@@ -42,8 +42,9 @@ RefusedPurgesHaveReasons {S} u shows = (home : LogDirectories) (V : World) (purg
     → Keeps home (shows old) V → u.refuses purge cause old new
     → (error : Error) × (cause ≡ cause_of error) × VotersHaveReason home V error (shows old) (shows new)
 
--- A purge of an open store failed with `cause`. Either the store had failed before, and the cause is `Failed`. Or it
--- served voters, and the cause is that of an error with one of the reasons in `VotersHaveReason`.
+-- A purge of an open store, `at` before it and `now` after it, failed with `cause`. Either the store had failed before,
+-- and the cause is `Failed`. Or it served voters, and the cause is that of an error with one of the reasons in
+-- `VotersHaveReason`.
 pub record WasRefusedFor {S F : Type 0} (v : Service S) (config : S → Config) (shows : S → EngineState) (cause : Cause)
     (at now : Storage S F) : Type 0 where
   pub old : S

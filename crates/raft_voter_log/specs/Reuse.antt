@@ -16,8 +16,8 @@ use Rattle.raft_voter_durability_laws.specs.raft_log_engine_laws.specs.Holding.{
 use Rattle.raft_voter_durability_laws.specs.raft_log_engine_laws.specs.EngineState.{LogDirectories, LogMap, EngineState, log_in}
 use Rattle.raft_voter_log.specs.Chance.{LosesOwn}
 
--- Suppose that no record begins after what the pipe wrote to its active file. Then a crash that leaves the file's
--- content unchanged only loses writes. The log's contents and pending batches may be any.
+-- Suppose that no record begins after what the pipe wrote to its active file. Then a crash that leaves this file's
+-- content unchanged only loses writes to it. The log's contents and pending batches may be any.
 abbrev pub StandingFilesOnlyLose : Type 0
 StandingFilesOnlyLose = (which : Which) (home : LogDirectories) (e : EngineState) (m : LogMap) (pending : List LogRecordValue)
     → Represents home e m pending
@@ -31,7 +31,8 @@ pub data NextIsKnown (F : Format LogRecord) (format : LogFileFormat) (files : Pi
   made : files.recycled.items ≡ [] → NextIsKnown F format files d
   used : NextIsUsed F format files d → NextIsKnown F format files d
 
--- Right after such a rotation, every crash only loses writes, whatever the recycled file held before.
+-- Right after a rotation that `NextIsKnown` allows, every crash only loses writes to the queue's active file. This is
+-- so whatever a recycled file held before.
 abbrev pub RotatedFilesOnlyLose : Type 0
 RotatedFilesOnlyLose = (which : Which) (home : LogDirectories) (e : EngineState) (m : LogMap) (pending : List LogRecordValue)
     → Represents home e m pending

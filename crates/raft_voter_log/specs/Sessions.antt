@@ -47,8 +47,9 @@ CrashesOnlyLose config shows (Open store) (crashed gone left ∷ ms) =
 CrashesOnlyLose config shows (Closed files) (idle round now ∷ ms) = CrashesOnlyLose config shows (Closed now) ms
 CrashesOnlyLose config shows storage ms = ⊥
 
--- Suppose a run has only such moments, and starts from files without a log. Then each store that it opens serves voters
--- of some world, and no open loses voters. Voters that never fail give exactly the replies in its transcript.
+-- Suppose a run has only moments as in `CrashesOnlyLose`, and starts from files without a log. Then each store that it
+-- opens serves voters of some world, and no open loses voters. Voters that never fail give exactly the replies in its
+-- transcript.
 abbrev pub RunsAskNothing : {S : Type 0} → Service S → Upkeep S → Disk S LogFiles → (S → Config) → (S → EngineState) → Type 0
 RunsAskNothing {S} v u d config shows = (first : LogFiles) (events : List Event) (report : WorldReport LogFiles)
     → (run : IsRun v u d first events report) → IsBare first.config (disk_of first.files)
@@ -56,8 +57,8 @@ RunsAskNothing {S} v u d config shows = (first : LogFiles) (events : List Event)
     → ServeSome v (moments_of run.turns) × NoneLost (moments_of run.turns ++ run.closing)
     × Explains report.transcript.rounds report.cuts
 
--- A crash of a running store leaves a record after all that was written to either queue, and nobody wrote that record.
--- Then the premise on CRC collisions is false, whatever the store leaves.
+-- A crash of a running store leaves another record right after all that was written to either queue's active file. No
+-- unsynced write was asked to write that record there. Then the premise on CRC collisions is false.
 abbrev pub ForeignRecordsBreakPremise : Type 0
 ForeignRecordsBreakPremise = (config : Config) (s : EngineState) (cut : CutRound) → has_failed s ≡ false
     → (under : LeavesAt (home_of config) s cut) → (d : OnDisk)

@@ -41,7 +41,7 @@ HasVotersReason home m error s t = HasReason home m error s t
 abbrev pub VotersHaveReason : LogDirectories → World → Error → EngineState → EngineState → Type 0
 VotersHaveReason home V error s t = (m : LogMap) × Means m V × HasVotersReason home m error s t
 
--- If a purge of a store fails whose log stores voters, its error has one of these reasons.
+-- If a purge fails of a store whose log stores voters, the error has one of the reasons in `HasVotersReason`.
 abbrev pub PurgesTellCauses : Type 0
 PurgesTellCauses = (home : LogDirectories) (V : World) (s t : EngineState) (error : Error) → Keeps home s V → StopsPurge s t error
     → VotersHaveReason home V error s t

@@ -21,9 +21,9 @@ use Rattle.raft_voter_store.specs.Opening.{OpensVoters}
 -- What the files of a store may be, without a CRC collision in them:
 -- - `bare`: there is no log yet.
 -- - `rests`: the log is at rest.
--- - `of_running`: a crash left them of a running store, between calls.
--- - `of_left`: a crash left them of files that a store had left.
--- - `left`: a close, a failure or a failed open left them.
+-- - `of_running`: they are a crash image of a running store, between calls.
+-- - `of_left`: they are a crash image of files that a close, a failure or a failed open had left.
+-- - `left`: a close, a failure or a failed open left them, without a crash.
 pub data AreAStores (home : LogDirectories) (d : Disk) : Type 0 where
   bare : (config : Config) → home_of config ≡ home → IsBare config d → AreAStores home d
   rests : (m : LogMap) (W : World) → IsDurableAs (log_in home) d m → Means m W → AreAStores home d

@@ -11,8 +11,9 @@ use Rattle.raft_voter_log.specs.Instance.{OpensFiles}
 use Rattle.raft_voter_log.specs.Leaving.{FilesLeave, SparesFiles}
 use Rattle.raft_voter_log.specs.StoreWorkers.{AreAlike}
 
--- Suppose it is known which voters the files have, and there is no CRC collision in them. Then two opens that succeed,
--- with `workers` and with `others` recovery threads, give stores with the same voters, outlines and lists of voters.
+-- Suppose that `FilesLeave` says which voters the files have, and there is no CRC collision in them. Then two opens
+-- that succeed, with `workers` and with `others` recovery threads, give stores with the same voters, outlines and lists
+-- of voters.
 abbrev pub AnyWorkersOpenAlike : (MemoryFileSystem → List ℕ → ℕ → Type 0) → Type 0
 AnyWorkersOpenAlike tells = (files : LogFiles) (cut : CutRound)
     (known : FilesLeave files.config (disk_of files.files) cut)

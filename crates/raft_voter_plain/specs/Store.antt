@@ -33,20 +33,21 @@ pub record StandsBehind (bytes : List ℕ) (cut : CutRound) : Type 0 where
   pub alone : (X : World) → StandsFor bytes X → X ≡ world
   pub follows : MayFollow cut world
 
--- the synced bytes of this file, and also all its bytes, store voters that are possible after the cut-off round `cut`
+-- The synced bytes of this file store voters that are possible after the cut-off round `cut`. So do all its bytes
+-- together.
 pub record FileStandsBehind (file : PlainContent) (cut : CutRound) : Type 0 where
   pub synced : StandsBehind file.synced cut
   pub read : StandsBehind (whole file) cut
 
--- the positions of a round that the store refuses: none if it failed in the round, otherwise those of the requests out
--- of range
+-- The positions of a round that the store refuses. If it has failed by the end of the round, there are none. Otherwise
+-- they are those of the requests out of range.
 abbrev pub refused_by : Bool → List (ℕ × Request) → List ℕ
 refused_by false requests = out_of_range 0 requests
 refused_by true requests = []
 
 -- The plain store as a service. A close or a crash leaves voters that its file stores. It refuses exactly the requests
--- out of range, or none in a round in which it failed. A file system call counts as failed if the store has failed
--- since.
+-- out of range, or none if it has failed by the end of the round. A file system call counts as failed between two
+-- states if only the second of them has failed.
 abbrev pub plain_voters : Service PlainVoters
 plain_voters = record {
   serves = ServesVoters;
@@ -56,16 +57,16 @@ plain_voters = record {
   fails = λ old new. (old.failed ≡ false) × (new.failed ≡ true);
 }
 
--- An open of this file may fail for this cause: `Memory` if the file isn't empty, and `FileSystem` if its bytes aren't
--- records.
+-- An open of this file may fail for this cause. It may be `Memory` unless the file is empty. It is `FileSystem` only if
+-- the bytes aren't a sequence of records that can be stored.
 abbrev pub FileIsRefusedFor : PlainContent → Cause → Type 0
 FileIsRefusedFor file Memory = 0 < length (whole file)
 FileIsRefusedFor file FileSystem = StandsForNothing (whole file)
 FileIsRefusedFor file cause = ⊥
 
 -- The plain store's file while it isn't open. An open syncs it, or fails and leaves it unchanged. A close leaves it
--- unchanged. A crash leaves its synced bytes, and they can always be taken. There is no condition on CRC collisions,
--- as records have no checksum.
+-- unchanged. A crash leaves its synced bytes, and taking these never fails. There is no condition on CRC collisions, as
+-- records have no checksum.
 abbrev pub plain_files : Files PlainVoters PlainContent
 plain_files = record {
   leaves = FileStandsBehind;
@@ -81,8 +82,9 @@ plain_files = record {
 abbrev pub LeadsFrom : World → PlainVoters → Type 0
 LeadsFrom W store = LeadTo W store.file.unsynced (world_of store)
 
--- One request was taken in memory, and `told` is the reply of its voter. If it changed the voter, a record was
--- written. The synced bytes are the same.
+-- One request was taken in memory, and `told` is the reply of its voter. The synced bytes are the same. A change of the
+-- voter was written, if all voters were in range: records that led from a world to the voters before now lead to those
+-- after.
 pub record Takes (old : PlainVoters) (asked : ℕ × Request) (told : Reply) (new : PlainVoters) : Type 0 where
   pub told_is : told ≡ reply (world_of old asked.0) asked.1
   pub taken : world_of new ≡ after_one (world_of old) asked
@@ -100,8 +102,8 @@ abbrev pub replies_in_turn : World → List (ℕ × Request) → List Reply
 replies_in_turn W [] = []
 replies_in_turn W (q ∷ qs) = reply (W q.0) q.1 ∷ replies_in_turn (after_one W q) qs
 
--- These requests were all taken in memory, in order, and `told` are the replies. The changes were written as records.
--- The synced bytes are the same.
+-- These requests were all taken in memory, in order, and `told` are the replies. The synced bytes are the same. If all
+-- voters were in range and no unsynced record changed them, the changes were written as records.
 pub record TakesAll (old : PlainVoters) (asked : List (ℕ × Request)) (told : List Reply) (new : PlainVoters)
     : Type 0 where
   pub told_is : told ≡ replies_in_turn (world_of old) asked
@@ -121,16 +123,17 @@ pub record WroteSome (W : World) (asked : List (ℕ × Request)) (unsynced : Lis
   pub taken : Stopped W asked world
   pub written : LeadTo W unsynced world
 
--- These requests get no replies. A prefix was taken in memory, and the changes of a prefix were written as records; the
--- two prefixes may differ. The synced bytes are the same.
+-- These requests get no replies. A prefix was taken in memory. The changes of a prefix were written as records, if all
+-- voters were in range and no unsynced record changed them before. The two prefixes may differ. The synced bytes are
+-- the same.
 pub record AnswersNone (old : PlainVoters) (asked : List (ℕ × Request)) (new : PlainVoters) : Type 0 where
   pub taken : Stopped (world_of old) asked (world_of new)
   pub synced : new.file.synced ≡ old.file.synced
   pub written : AllInRange (world_of old) → LeadsFrom (world_of old) old
       → WroteSome (world_of old) asked new.file.unsynced
 
--- Of the requests `asked`, the first were taken in memory with the replies `told`, and `left` remain. The changes so
--- far were written as records. The synced bytes are the same.
+-- Of the requests `asked`, the first were taken in memory with the replies `told`, and `left` remain. The synced bytes
+-- are the same. If all voters were in range, they still are, and the changes so far were written as records.
 pub record IsAmidst (old : PlainVoters) (asked left : List (ℕ × Request)) (told : List Reply)
     (now : PlainVoters) : Type 0 where
   pub told_is : told ++ replies_in_turn (world_of now) left ≡ replies_in_turn (world_of old) asked

@@ -27,8 +27,8 @@ pub record AreKept (log : LogFiles) (kept : List StoredFile) : Type 0 where
   pub second : AreSpilled (disk_of log.files) (option_map string_bytes log.config.spill_dir) spilled
   pub whole : kept ≡ main ++ spilled
 
--- The exit status is that of the session. It may be 3 instead if there were files to keep, which says that keeping them
--- failed.
+-- `status` is the exit status of a program whose session had the status `told`. The two are the same if there were no
+-- files to keep. If there were, the exit status may be 3 instead, which says that keeping them failed.
 abbrev pub IsToldOrUnkept : Option LogFiles → ℕ → ℕ → Type 0
 IsToldOrUnkept None told status = status ≡ told
 IsToldOrUnkept (Some files) told status = (status ≡ told) ⊎ (status ≡ 3)

@@ -14,15 +14,16 @@ use Rattle.raft_voter_program.specs.Lines.{voters_text}
 abbrev pub AreRising : List (ℕ × State) → Type 0
 AreRising voters = AllAdjacentBelow (λ one next. one.0 < next.0) voters (length voters)
 
--- `text` has a line for each voter that the store serves, in ascending order of their groups.
+-- `text` has a line for each voter of a list, in ascending order of their groups. If the store serves voters, they are
+-- those of the list, and each group that isn't in it has a fresh voter.
 pub record TellsLines {S : Type 0} (v : Service S) (store : S) (text : List ℕ) : Type 0 where
   pub voters : List (ℕ × State)
   pub tells : TellsVoters v store voters
   pub rising : AreRising voters
   pub written : text ≡ voters_text voters
 
--- A store was opened from `files` with `workers` recovery threads. It serves voters that are possible for these files,
--- and `text` has their lines.
+-- A store was opened from `files` with `workers` recovery threads. If `files` have no CRC collision, it serves voters
+-- that are possible for them. `text` has the lines for its voters.
 pub record OpensAndTells {S F : Type 0} (v : Service S) (d : Disk S F) (files : F) (workers : ℕ) (text : List ℕ) : Type 0 where
   pub store : S
   pub opens : d.opens files workers store

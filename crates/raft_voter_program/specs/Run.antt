@@ -66,18 +66,17 @@ TellsLines Writes (Err line) text status = (text ≡ unreadable_text line) × (s
 abbrev pub MayWrite : (SessionContent → List ℕ → ℕ → Type 0) → List ℕ → List ℕ → ℕ → Type 0
 MayWrite Writes input text status = TellsLines Writes (session_of input) text status
 
--- the text for a program that was given arguments
+-- the text of a program that rejects its arguments
 abbrev pub refused_text : List ℕ
 refused_text = codes "arguments refused\n"
 
--- What the program may write, and the status. If it was given arguments, this says that they are rejected, with status
--- 2, whatever the input is. Otherwise it is what its session may write.
+-- What the program may write, and the status. If it was given arguments (`true`), it rejects them with status 2,
+-- whatever the input is. Otherwise it writes what its session may write.
 abbrev pub ProgramMayWrite : (SessionContent → List ℕ → ℕ → Type 0) → Bool → List ℕ → List ℕ → ℕ → Type 0
 ProgramMayWrite Writes true input text status = (text ≡ refused_text) × (status ≡ 2)
 ProgramMayWrite Writes false input text status = MayWrite Writes input text status
 
--- The program ended early, with no verdict. The writer got nothing, or a prefix of what the program may write, but not
--- all of it.
+-- The program ended early. The writer got nothing, or a prefix of a text that the program may write, but not all of it.
 abbrev pub EndsEarly :
     (SessionContent → List ℕ → ℕ → Type 0)
     → Bool → List ℕ → Option (List ℕ) → Option (List ℕ) → Type 0
@@ -87,14 +86,15 @@ EndsEarly Writes given input old new =
 
 -- A session wasn't written in full:
 -- - either the writer got nothing, and the error is that memory ran out
--- - or the writer got a prefix of what may be written, but not all of it; then any error is possible
+-- - or the writer got a prefix of a text that may be written for the session, but not all of it; then any error is
+--   possible
 abbrev pub IsUntoldFor :
     (SessionContent → List ℕ → ℕ → Type 0) → List ℕ → Option (List ℕ) → Option (List ℕ) → ErrorKind → Type 0
 IsUntoldFor Writes input old new kind =
     (Keeps old new × (kind ≡ OutOfMemory))
     ⊎ ((text : List ℕ) × (status : ℕ) × MayWrite Writes input text status × StopsWithin old new text)
 
--- The program ended, and the writer got all of what it may write.
+-- the program ended, and the writer got all of a text that the program may write
 abbrev pub Ends :
     (SessionContent → List ℕ → ℕ → Type 0)
     → Bool → List ℕ → Option (List ℕ) → Option (List ℕ) → ℕ → Type 0

@@ -43,10 +43,12 @@ abbrev pub SettingsRefused : Option (List ℕ) → Type 0
 SettingsRefused settings = TellsNone settings
     ⊎ ((s : Settings) × TellsSettings settings s × ((fault : ConfigFault) × HasFault s fault))
 
--- `files` are those of a log with these settings, completed. They are in an empty file system in memory.
+-- `files` are those of a log that doesn't exist yet. Its settings are those that the text gives, which have no fault,
+-- with defaults filled in. The files are in an empty file system in memory.
 abbrev pub MakesFiles : Option (List ℕ) → LogFiles → Type 0
 MakesFiles settings files = ((s : Settings) × TellsSettings settings s × HasNoFault s
     × (settings_of files.config ≡ sanitized s)) × (disk_of files.files ≡ empty_disk)
 
+-- the settings that a log accepts and rejects, and the files that it makes of them
 abbrev pub log_setup : Setup LogFiles
 log_setup = record { makes = MakesFiles; refuses = SettingsRefused }

@@ -3,7 +3,8 @@ use Rattle.std.specs.Prelude.{ℕ, List, Option}
 use Rattle.raft_voter_program.specs.declared.store_setup.NoFiles.{NoFiles}
 use Rattle.raft_voter_program.specs.declared.store_setup.NoFiles.TheVariants.{Settings, Memory}
 
--- `makes` says which files a settings text, or none, makes; `refuses` says which text is rejected
+-- `makes` says which files a settings text makes, and `refuses` which settings texts are rejected; `None` is for a
+-- session without settings
 pub record Setup (F : Type 0) : Type 1 where
   pub makes : Option (List ℕ) → F → Type 0
   pub refuses : Option (List ℕ) → Type 0

@@ -1,5 +1,5 @@
 -- The journal of a shared store: a record for each round, with its requests, its refused positions and its outcome. It
--- is legal if the replies in it are those of voters that take the rounds in this order.
+-- is legal if its replies are those of voters that take the rounds with replies, in this order.
 use Rattle.std.specs.Prelude.{◌≡◌, Bool, true, List, [], ◌∷◌, length, map, Option, None, Some}
 use Rattle.raft_voter_messages.specs.declared.reply.Reply.{Reply}
 use Rattle.raft_voter_messages.specs.declared.round.Outcome.{Outcome}
@@ -16,14 +16,14 @@ replies_in Cut = None
 abbrev pub said : Round → Bool × Option (List Reply)
 said r = (are_rising 0 (length r.requests) r.refused, replies_in r.outcome)
 
--- what a record of the round `r` must claim in world `W`: that its positions are right, and the voters' replies if it
--- has any
+-- What a record of round `r` must claim in world `W`: refused positions that rise and are within the round. If it has
+-- replies, it must also claim those that the voters give.
 abbrev pub owed_by : Outcome → World → Round → Bool × Option (List Reply)
 owed_by (Answered replies) W r = (true, Some (replies_of W r))
 owed_by Cut W r = (true, None)
 
--- The world after a record. If it has replies, the voters took its requests, except those at refused positions. If it
--- was cut off, the world is unchanged.
+-- The world after a record of round `r`. If the record has replies, the voters took its requests, except those at
+-- refused positions. If the round was cut off, the world is unchanged.
 abbrev pub behind_outcome : Outcome → World → Round → World
 behind_outcome (Answered replies) W r = after W (taken_below r (length r.requests))
 behind_outcome Cut W r = W

@@ -1,5 +1,5 @@
--- What a shared store does: it serves rounds of several callers together, as one round, appends a record of each to the
--- journal, and answers each caller with its own record.
+-- What a shared store does with rounds of several callers. It serves them together, as one round, and appends a record
+-- of each to the journal. Each caller gets the answer to its own round.
 use Rattle.std.specs.Prelude.{◌≡◌, ◌≤◌, ◌<◌, ℕ, ◌+◌, ◌-◌, ◌++◌, ◌==◌, ◌||◌, ◌&&◌, nat_le, nat_lt, Bool, true, if◌then◌else◌, List, [], ◌∷◌, length, map, take, drop, Result, Ok, Err}
 use Rattle.std.specs.List.{AllZip}
 use Rattle.raft_voter_messages.specs.declared.reply.Reply.{Reply}
@@ -35,8 +35,8 @@ answered_each [] requests replies = []
 answered_each (n ∷ counts) requests replies =
     answered (take n requests) (take n replies) ∷ answered_each counts (drop n requests) (drop n replies)
 
--- those of these positions that are in a round of `count` requests, whose first one has position `start`; they count
--- from the first request of the round
+-- the positions in the list that are in a round of `count` requests whose first one has position `start`; each is
+-- counted anew from the round's first request
 abbrev pub places_within : ℕ → ℕ → List ℕ → List ℕ
 places_within start count [] = []
 places_within start count (p ∷ ps) =
@@ -52,14 +52,15 @@ cut_each start (n ∷ counts) requests refused =
 
 -- Answers.
 
--- the answers to the callers of rounds that were served together: each gets the place of its own record, the first of
--- which is at `place`, and the replies to its own requests
+-- The answers to the callers of rounds that were served together. Each has the place of the caller's own record, and
+-- the replies to its own requests. The first record is at `place`.
 abbrev pub told_each : ℕ → List ℕ → List Reply → List (Result Told SharedFault)
 told_each place [] replies = []
 told_each place (n ∷ counts) replies =
     Ok (record { place = place; replies = take n replies }) ∷ told_each (place + 1) counts (drop n replies)
 
--- the answers to the callers of rounds that were cut off together for this cause: each gets the place of its own record
+-- The answers to the callers of rounds that were cut off together for this cause. Each has the place of the caller's
+-- own record. The first record is at `place`.
 abbrev pub cut_told : ℕ → Cause → List ℕ → List (Result Told SharedFault)
 cut_told place cause [] = []
 cut_told place cause (n ∷ counts) = Err (faults.Cut place cause) ∷ cut_told (place + 1) cause counts
@@ -67,8 +68,8 @@ cut_told place cause (n ∷ counts) = Err (faults.Cut place cause) ∷ cut_told 
 -- Steps.
 
 -- The store replied with `told` to the rounds, as one round, and the callers get `replies`. These may have `Refused`
--- for Reads whose entries couldn't be copied. The records were appended to the journal, and each caller gets the answer
--- of its own.
+-- for Reads whose entries couldn't be copied. The records were appended to the journal `rounds`, and each caller gets
+-- the answer to its own round.
 pub record NotesAnswered {S : Type 0} (v : Service S) (counts : List ℕ) (requests : List (ℕ × Request))
     (old : S) (rounds : List Round) (new : S) (rounds' : List Round) (answers : List (Result Told SharedFault))
     : Type 0 where
@@ -82,8 +83,8 @@ pub record NotesAnswered {S : Type 0} (v : Service S) (counts : List ℕ) (reque
   pub short : length requests ≤ 4096
   pub alive : IsAlive (v.is_failed old) (v.is_failed new)
 
--- The store cut the rounds off, as one round, for this cause. Their records were appended to the journal, and each
--- caller gets the answer of its own.
+-- The store cut the rounds off, as one round, for this cause. Their records were appended to the journal `rounds`, and
+-- each caller gets the answer to its own round.
 pub record NotesCut {S : Type 0} (v : Service S) (cause : Cause) (counts : List ℕ) (requests : List (ℕ × Request))
     (old : S) (rounds : List Round) (new : S) (rounds' : List Round) (answers : List (Result Told SharedFault))
     : Type 0 where
@@ -93,8 +94,8 @@ pub record NotesCut {S : Type 0} (v : Service S) (cause : Cause) (counts : List 
   pub cuts : CutsOff v cause refused requests old new
   pub fails : FailsAs cause (length requests) (v.is_failed old) (v.is_failed new)
 
--- Why no round of these has replies. They were cut off, and the first record is at `place`. Or memory for their records
--- ran out before they were served: nothing changed, and each caller gets `Memory`.
+-- Why none of these rounds has replies. They were cut off, and the first record is at `place`. Or memory for their
+-- records ran out before they were served: nothing changed, and each caller gets `Memory`.
 abbrev pub GivesNoReplies : {S : Type 0} → Service S → SharedFault → List ℕ → List (ℕ × Request)
     → S → List Round → S → List Round → List (Result Told SharedFault) → Type 0
 GivesNoReplies v (faults.Cut place cause) counts requests old rounds new rounds' answers =
@@ -114,15 +115,15 @@ abbrev pub records_in : Result Told SharedFault → ℕ
 records_in (Ok told) = 1
 records_in (Err fault) = records_of fault
 
--- the fault is `TooLong` only for a round of more than 4,096 requests; for such a round, it can only be `Memory`
--- otherwise
+-- A round of `count` requests may get this fault, by its length. `TooLong` needs a round that is too long, and `Memory`
+-- is always possible. Any other fault needs a round that isn't too long.
 abbrev pub ToldOfLength : SharedFault → ℕ → Type 0
 ToldOfLength (faults.Cut place TooLong) count = 4096 < count
 ToldOfLength faults.Memory count = Unit {0}
 ToldOfLength fault count = count ≤ 4096
 
--- a round of `count` requests may be cut off for this cause, by its length: `TooLong` if it is too long, any other
--- cause if it isn't
+-- A round of `count` requests may be cut off for this cause, by its length. `TooLong` needs a round that is too long,
+-- and any other cause one that isn't.
 abbrev pub may_cut : Cause → ℕ → Bool
 may_cut TooLong count = nat_lt 4096 count
 may_cut cause count = nat_le count 4096
@@ -133,7 +134,8 @@ may_tell (Ok told) count = nat_le count 4096
 may_tell (Err (faults.Cut place cause)) count = may_cut cause count
 may_tell (Err faults.Memory) count = true
 
--- A round of `count` requests may be served together with rounds of `requests` requests in all: there are none of
--- these, or all have at most 4,096 requests. So a round that is too long goes to the store alone.
+-- A round of `count` requests may be served together with `rounds` other rounds, which have `requests` requests in all.
+-- There are no others, or all together have at most 4,096 requests. So a round that is too long goes to the store
+-- alone.
 abbrev pub may_join : ℕ → ℕ → ℕ → Bool
 may_join rounds requests count = (rounds == 0) || nat_le (requests + count) 4096

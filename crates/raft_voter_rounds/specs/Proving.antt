@@ -10,8 +10,8 @@ use Rattle.raft_voter_rounds.specs.declared.done.Told.{Told}
 use Rattle.raft_voter_rounds.specs.declared.receipt.Statement.{Statement}
 use Rattle.raft_voter_rounds.specs.declared.receipt.SharedFault.{SharedFault}
 
--- what comes with an answer to a round of these requests: if there are replies, the claim that the history has the
--- round's record at its place; otherwise no claim
+-- What comes with an answer to a round of these requests. If there are replies, it is the claim that the history has
+-- the round's record at its place. Otherwise there is no claim.
 abbrev pub claim_of : List (ℕ × Request) → Result Told SharedFault → Option (ℕ × List Round)
 claim_of requests (Ok told) = Some (told.place, answered requests told.replies ∷ [])
 claim_of requests (Err fault) = None

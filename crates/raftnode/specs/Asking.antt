@@ -12,11 +12,11 @@ is_option word = starts_with nat_eq word (codes "-")
 abbrev pub help_words : List (List ℕ)
 help_words = codes "--help" ∷ []
 
--- the arguments `words` are one path, of a directory
+-- the arguments `words` are one path, of a directory; it doesn't begin with a dash
 abbrev pub AreDirectory : List (List ℕ) → List ℕ → Type 0
 AreDirectory words directory = (words ≡ directory ∷ []) × (is_option directory ≡ false)
 
--- the arguments `words` are two paths: of a directory, and of a file with settings
+-- the arguments `words` are two paths, of a directory and of a file with settings; neither begins with a dash
 abbrev pub AreBoth : List (List ℕ) → List ℕ → List ℕ → Type 0
 AreBoth words directory settings =
     (words ≡ directory ∷ settings ∷ []) × (is_option directory ≡ false) × (is_option settings ≡ false)

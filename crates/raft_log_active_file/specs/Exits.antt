@@ -1,4 +1,4 @@
--- What each call on the last file of a queue leaves, whether it succeeds or fails.
+-- What is on disk after each call on the last file of a queue, whether it succeeds or fails.
 use Rattle.std.specs.Prelude.{◌≡◌, ℕ, ◌⊎◌, true, List, [], ◌∷◌, length}
 use Rattle.raft_log_fs.specs.Disk.{Disk}
 use Rattle.raft_log_fs.specs.Causes.{Fails}
@@ -122,7 +122,7 @@ FailsToFinish {R} F own before old new = (base : Disk) (q : LogFiles R) (path : 
     → IsOpen F own base before q path N old → Fails old new × IsHeld F own base before q path N new
 
 -- The queue's files are on the disk. Its last file has its number but not its header: its content is still what it held
--- before. The handle may write it.
+-- when it got its number. The handle may write the file.
 abbrev pub IsGiven : {R : Type 0} → Format R → (List ℕ → Type 0) → Disk → Handle → LogFiles R → List ℕ
     → Names → Disk → Type 0
 IsGiven F own base handle q path N d = (handle.permission ≡ ReadWrite)

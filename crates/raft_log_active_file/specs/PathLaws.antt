@@ -22,7 +22,8 @@ use Rattle.raft_log_active_file.specs.Paths.{IsPathWith, reserved_suffix_of, dir
 
 -- The name after the last slash.
 
--- If two paths are equal, no directory is longer than the other: its slash would be in the name after the shorter one.
+-- If `d/x` and `e/y` are the same path and `x` has no slash, `e` isn't longer than `d`. Otherwise the slash after `e`
+-- would be in `x`.
 no_longer : (d e x y : List ℕ) → IsPlain x → d ++ 47 ∷ x ≡ e ++ 47 ∷ y → length d < length e → ⊥
 no_longer d e x y plain same longer =
     let k = length e - suc (length d) in
@@ -49,7 +50,7 @@ one_name d e x y plain also same = elim (cases_lt (length d) (length e)) [
   ]
 ]
 
--- a path has one number
+-- a path with this suffix has only one number
 pub one_number : (suffix : List ℕ) (directories : List (List ℕ)) (m n : ℕ) (path : List ℕ)
     → IsPathWith suffix directories m path → IsPathWith suffix directories n path → m ≡ n
 one_number suffix directories m n path a b =
@@ -175,7 +176,7 @@ directory_first directories place inside =
     (plain_first (length directories) place inside)
     ∙ get_or_default directories place (get_or directories 0 []) [] inside
 
--- the path of a number in a directory is in that directory
+-- the path that is built for a place below the number of directories is in the directory at this position
 pub numbered_lies : (queue : LogQueue) (directories : List (List ℕ)) (place n : ℕ) → 0 < length directories
     → place < length directories → n < 10 ^ 16
     → IsPathIn (get_or directories place []) (numbered_path queue directories place n)
@@ -224,7 +225,7 @@ reserved_is Rewrite directories place n some = reserved_written Rewrite director
 
 -- The suffix of a name gives the queue, and whether the name is reserved.
 
--- a byte of the suffix, counted from the end
+-- a name with a suffix has the suffix's byte at the same distance from the end
 from_behind : (suffix name : List ℕ) (i j : ℕ) → EndsWith suffix name → i + suc j ≡ length suffix
     → get_or name (length name - suc j) 0 ≡ get_or suffix i 0
 from_behind suffix name i j (front, is) all =

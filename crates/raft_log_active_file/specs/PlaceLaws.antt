@@ -4,14 +4,14 @@ use Rattle.std.proofs.Common.{◌≡◌, ℕ, ◌+◌, ◌-◌, ◌<◌, Bool, t
 use Rattle.std.proofs.lemmas.Bool.{lt-leb, le-leb}
 use Rattle.raft_log_active_file.specs.Layout.{has_sign, plain_place}
 
--- names in the first one have no sign
+-- at the first place of a directory, names have no sign
 pub no_sign : (count place : ℕ) → place < count → has_sign count place ≡ false
 no_sign count place less = lt-leb count place less
 
 pub plain_first : (count place : ℕ) → place < count → plain_place count place ≡ place
 plain_first count place less = ap (λ (b : Bool). cond b (place - count) place) (no_sign count place less)
 
--- those in the second one have
+-- at the second place of a directory, names have a sign
 pub some_sign : (count place : ℕ) → has_sign count (count + place) ≡ true
 some_sign count place = le-leb count (count + place) (omega arith)
 

@@ -242,7 +242,7 @@ header_filled : (header : List ℕ) (format : LogFileFormat) → IsFileHeader he
 header_filled header format (x, front, back, is_magic, more, joined) none =
     (let long = length-append front back in omega (arith, none, ap length joined, long, ap length is_magic, magic_filled))
 
--- a queue's headers, records and paths are a format of files
+-- the format of a queue's files satisfies `IsFormat`
 log_is_format : (queue : LogQueue) (directories : List (List ℕ)) → IsFormat (log_format queue directories)
 log_is_format queue directories = record {
   free = self_delimiting;
@@ -317,7 +317,7 @@ queues_are_apart append rewrite path (m, inr a) (n, inr b) =
 pub reserved_names : ReservedNamesAreTheLogs
 reserved_names = refl
 
--- proves when a queue may begin
+-- a queue may begin if its directories exist, and no file and no directory is at a path of one of its numbers
 pub places_are_fresh : PlacesAreFresh
 places_are_fresh queue directories base d there none others = record {
   none = λ m less path at. (none m path at).0;

@@ -1,4 +1,4 @@
--- What a rotation and the deletion of a file leave, whether the call succeeds or fails.
+-- What is on disk after a rotation, and after the deletion of a file, whether the call succeeds or fails.
 use Rattle.std.specs.Prelude.{◌≡◌, ℕ, ◌<◌, ◌≤◌, ◌⊎◌, Some, None, List, [], suc}
 use Rattle.std.specs.Map.{update}
 use Rattle.std.specs.Str.{bytes_eq}
@@ -24,8 +24,8 @@ pub record CanRotate {R : Type 0} (F : Format R) (q : LogFiles R) (header to : L
   pub header_is : F.IsHeader header
   pub path : F.IsPath (suc q.last) to
 
--- `from` is the path of a file that the queue keeps for recycling; it is none of the last number or a higher one. The
--- handle may write the file, which holds `stale`, and no record of the next number.
+-- `from` is the path of a file that the queue keeps for recycling. It isn't a path of the last number or of a higher
+-- one. The handle may write the file. The file's content is `stale`, without a record of the next number.
 pub record IsSpare {R : Type 0} (F : Format R) (own : List ℕ → Type 0) (q : LogFiles R)
     (header stale : List ℕ) (handle : Handle)
     (from : List ℕ) (N : Names) (d : Disk) : Type 0 where
@@ -143,8 +143,8 @@ Drops {R} F own gone old new = (base : Disk) (writer : LogFileWriter) (q : LogFi
     → CanDrop F own q gone N → IsOpen F own base writer q path N old
     → IsOpen F own base writer q path (update bytes_eq N gone None) new × GapsStay F q old new
 
--- Deleting the file at `gone` failed. If the queue is open to the writer, a file call failed or the file system
--- stopped, and the queue still holds its records.
+-- Deleting the file at `gone` failed. If the queue is open to the writer, a file call failed, and the queue's last file
+-- still holds its records.
 abbrev pub FailsToDrop : {R : Type 0} → Format R → (List ℕ → Type 0) → List ℕ → Disk → Disk → Type 0
 FailsToDrop {R} F own gone old new = (base : Disk) (writer : LogFileWriter) (q : LogFiles R)
     (path : List ℕ) (N : Names)

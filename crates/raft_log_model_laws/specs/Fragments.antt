@@ -64,7 +64,8 @@ unfinished_after us (r ∷ rs) = unfinished_after (next_unfinished us r) rs
 abbrev pub unfinished : {E V : Type 0} → List (Record E V) → List (Unfinished E V)
 unfinished rs = unfinished_after [] rs
 
--- the items that count if the next segment does this with an unfinished group, whose items so far are `xs`
+-- the items of an unfinished group that count in the next segment, which does this with the group; its items so far are
+-- `xs`
 abbrev pub finish : {E V : Type 0} → List (Tagged E V) → Head E V → List (Tagged E V)
 finish xs (GoesOn ys) = []
 finish xs (Ends ys) = xs ++ ys
@@ -97,8 +98,8 @@ pub record Segment (E V : Type 0) : Type 0 where
 abbrev pub segment : {E V : Type 0} → List (Record E V) → Segment E V
 segment rs = record { counted = settled rs; heads = λ n. head n [] rs; left_open = unfinished rs }
 
--- The summary of two consecutive segments. First come the items of the earlier one, then those of groups that the
--- later one ends, then the later one's own.
+-- The summary of two consecutive segments, `a` and then `b`. First the items of `a` count, then those of groups that
+-- `a` leaves unfinished and `b` ends, then those of `b`.
 abbrev pub merge : {E V : Type 0} → Segment E V → Segment E V → Segment E V
 merge a b = record {
   counted = a.counted ++ (completed a.left_open b.heads ++ b.counted);
@@ -106,8 +107,8 @@ merge a b = record {
   left_open = carried_on a.left_open b.heads ++ b.left_open;
 }
 
--- The two summaries have the same items for each raft group, do the same with each open atomic group, and leave the
--- same ones unfinished.
+-- In the two summaries the same items count for each raft group. They do the same with each atomic group that is open
+-- before, and leave the same atomic groups unfinished.
 pub record IsSameSegment {E V : Type 0} (a b : Segment E V) : Type 0 where
   pub counted : (g : ℕ) → of_group g a.counted ≡ of_group g b.counted
   pub heads : (n : ℕ) → a.heads n ≡ b.heads n

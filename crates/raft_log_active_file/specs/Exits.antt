@@ -36,8 +36,8 @@ pub record IsFinished {R : Type 0} (F : Format R) (own : List ℕ → Type 0) (b
   pub written : writer.written ≡ length (whole q)
   pub stands : Stands F own base q path writer.handle.file (IsPastTo F writer.capacity q) N d
 
--- The queue's files are on the disk, and its last file holds its records (`HoldsLast`): it is known what a stop leaves
--- of it. What follows the records isn't known.
+-- The queue's files are on the disk. A stop without a CRC collision leaves all durable records of the last file and a
+-- prefix of the pending ones (`HoldsLast`). What the file has besides its records isn't known.
 abbrev pub IsHeld : {R : Type 0} → Format R → (List ℕ → Type 0) → Disk → LogFileWriter → LogFiles R
     → List ℕ → Names → Disk → Type 0
 IsHeld F own base writer q path N d = Stands F own base q path writer.handle.file (HoldsLast F q) N d
@@ -101,8 +101,8 @@ abbrev pub SyncsAll : {R : Type 0} → Format R → (List ℕ → Type 0) → Lo
 SyncsAll {R} F own writer old new = (base : Disk) (q : LogFiles R) (path : List ℕ) (N : Names)
     → IsOpen F own base writer q path N old → IsOpen F own base writer (synced q) path N new
 
--- A sync of the file failed. If a queue is open to the writer, a file call failed, and the queue's last file holds its
--- records.
+-- A sync of the file failed. If a queue is open to the writer, a file call failed, and the queue's last file still
+-- holds its records (`IsHeld`).
 abbrev pub FailsToSyncAll : {R : Type 0} → Format R → (List ℕ → Type 0) → LogFileWriter → Disk → Disk
     → Type 0
 FailsToSyncAll {R} F own writer old new = (base : Disk) (q : LogFiles R) (path : List ℕ) (N : Names)
@@ -114,8 +114,8 @@ abbrev pub Finishes : {R : Type 0} → Format R → (List ℕ → Type 0) → Lo
 Finishes {R} F own before after old new = (base : Disk) (q : LogFiles R) (path : List ℕ) (N : Names)
     → IsOpen F own base before q path N old → IsFinished F own base after q path N new
 
--- The file wasn't finished. If a queue is open to the writer, a file call failed, and the queue's last file holds its
--- records.
+-- The file wasn't finished. If a queue is open to the writer, a file call failed, and the queue's last file still holds
+-- its records (`IsHeld`).
 abbrev pub FailsToFinish : {R : Type 0} → Format R → (List ℕ → Type 0) → LogFileWriter → Disk → Disk
     → Type 0
 FailsToFinish {R} F own before old new = (base : Disk) (q : LogFiles R) (path : List ℕ) (N : Names)

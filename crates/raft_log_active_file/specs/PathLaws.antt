@@ -66,6 +66,7 @@ has_no_slash : List ℕ → Bool
 has_no_slash [] = true
 has_no_slash (b ∷ bs) = cond (nat_eq b 47) false (has_no_slash bs)
 
+-- bytes that `has_no_slash` accepts have no slash
 no_slash : (bytes : List ℕ) → has_no_slash bytes ≡ true → IsPlain bytes
 unfolding has_no_slash
 no_slash [] none k less is = omega (arith, less)
@@ -109,21 +110,23 @@ either_plain : (b : Bool) (n : ℕ) → n < 10 ^ 16 → IsPlain (cond b (signed_
 either_plain true n fit = signed_plain n fit
 either_plain false n fit = digits_plain n fit
 
+-- the text of a file's number in a name has no slash
 pub text_plain : (signed : Bool) (n : ℕ) → n < 10 ^ 16 → IsPlain (number_text signed n)
 text_plain true n fit = either_plain (nat_lt n (10 ^ 15)) n fit
 text_plain false n fit = digits_plain n fit
 
--- the suffixes of names have no slash
+-- the suffix of the names of a queue's files has no slash
 pub suffix_plain : (queue : LogQueue) → IsPlain (suffix_of queue)
 unfolding has_no_slash
 suffix_plain Append = no_slash (codes ".raftlog") refl
 suffix_plain Rewrite = no_slash (codes ".rewrite") refl
 
+-- the suffix of Append's reserved names has no slash
 pub reserved_plain : IsPlain reserved_suffix
 unfolding has_no_slash
 reserved_plain = no_slash (codes ".raftlog.reserved") refl
 
--- a name without a sign begins with a digit
+-- a name without a sign doesn't begin with a plus sign
 pub no_plus : (suffix : List ℕ) (n : ℕ) → n < 10 ^ 16 → get_or (sixteen_digits n ++ suffix) 0 0 ≡ 43 → ⊥
 no_plus suffix n fit plus =
     let k : ℕ = 16 - length (decimal n) in

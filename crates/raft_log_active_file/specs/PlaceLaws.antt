@@ -8,6 +8,7 @@ use Rattle.raft_log_active_file.specs.Layout.{has_sign, plain_place}
 pub no_sign : (count place : ℕ) → place < count → has_sign count place ≡ false
 no_sign count place less = lt-leb count place less
 
+-- the first place of a directory is the directory's position
 pub plain_first : (count place : ℕ) → place < count → plain_place count place ≡ place
 plain_first count place less = ap (λ (b : Bool). cond b (place - count) place) (no_sign count place less)
 
@@ -15,6 +16,7 @@ plain_first count place less = ap (λ (b : Bool). cond b (place - count) place) 
 pub some_sign : (count place : ℕ) → has_sign count (count + place) ≡ true
 some_sign count place = le-leb count (count + place) (omega arith)
 
+-- the second place of a directory is the directory's position plus the number of directories
 pub plain_second : (count place : ℕ) → plain_place count (count + place) ≡ place
 plain_second count place =
     ap (λ (b : Bool). cond b (count + place - count) (count + place)) (some_sign count place) ∙ (let same : count + place - count ≡ place = omega arith in same)

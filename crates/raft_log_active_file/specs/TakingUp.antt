@@ -72,8 +72,8 @@ IsHalfOpen F own base handle end header q old new = (front stale : List ℕ)
     × GoesOnBehind F handle end header old front × IsWhatItHeld handle stale old
     × StandsWithRecords F own base (reread front stale q) new
 
--- if the queue was as a stop left it, its last file was truncated after its records, or to nothing if it had no header,
--- and synced (`IsTrimmed`)
+-- If the queue was as a stop left it, its last file was truncated and synced as `IsTrimmed` says: after its records, or
+-- to nothing if it had no header.
 abbrev pub TrimsLeftover : {R : Type 0} → Format R → (List ℕ → Type 0) → Handle → Option ℕ → Disk → Disk
     → Type 0
 TrimsLeftover {R} F own handle end old new = (base : Disk) (q : LogFiles R) (path : List ℕ) (N : Names)

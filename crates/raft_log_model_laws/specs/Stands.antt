@@ -6,8 +6,8 @@ use Rattle.raft_log_model_laws.specs.Meaning.{Slot, Content}
 use Rattle.raft_log_model_laws.specs.Meaning.Slot.{Index, Key}
 use Rattle.raft_log_model_laws.specs.Meaning.Content.{Entry, Value}
 
--- The item touches the slot. A run with entries touches each index from its first on, a Compact each index below its
--- own, and a Clean all slots of the group. A Put and a Del touch their key.
+-- The item touches the slot. A run with entries touches each index from its first on. A Compact touches each index
+-- below its own, and a Clean all slots of the group. A Put and a Del touch their key.
 abbrev pub Speaks : {E V : Type 0} → Slot → Item E V → Type 0
 Speaks (Index i) (Run f []) = ⊥
 Speaks (Index i) (Run f (e ∷ es)) = f ≤ i

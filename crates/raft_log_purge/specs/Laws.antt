@@ -19,8 +19,8 @@ use Rattle.raft_log_purge_copy.specs.Rewriting.{OweNothing}
 use Rattle.raft_log_purge.specs.Lengths.{AreKnown, AreModest, AreShortRuns, HasLog, pairs_bound, puts_of}
 use Rattle.raft_log_purge.specs.Marks.{CameOf}
 
--- A write of a batch whose record has fewer than 2 ^ 56 bytes by its bound never fails with `Full`, if the engine has a
--- log (`HasLog`).
+-- If the record of a batch has fewer than 2 ^ 56 bytes by its bound, a write of the batch never fails with `Full`. The
+-- engine must have a log (`HasLog`).
 abbrev pub BoundedBatchesAreNotFull : Type 0
 BoundedBatchesAreNotFull = (b : Batch) (error : Error) (s t : EngineState) → HasLog s → batch_bound b < 2 ^ 56
     → NotWritten b error s t → error ≢ errors.Full

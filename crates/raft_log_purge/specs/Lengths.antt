@@ -45,8 +45,8 @@ puts_of [] = []
 puts_of (Put k value ∷ xs) = (k, value) ∷ puts_of xs
 puts_of (_ ∷ xs) = puts_of xs
 
--- If the item is a run of entries, the index after its last entry is at most 2 ^ 52, and no entry has more bytes than a
--- batch may have.
+-- If the item is a run of entries, the index after its last entry is at most 2 ^ 52. No entry of it has more bytes than
+-- a batch may have.
 abbrev pub IsShortRun : Item (List ℕ) (List ℕ) → Type 0
 IsShortRun (Run f es) = (f + length es ≤ 2 ^ 52)
     × ((i : ℕ) (bytes : List ℕ) → slice_get es i ≡ Some bytes → length bytes ≤ max_entries_len)

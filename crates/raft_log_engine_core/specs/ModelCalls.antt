@@ -94,15 +94,16 @@ pub record FetchesMessages {M : Type 0} (reading : List ℕ → Option M) (group
 abbrev pub ArePairsOf : ℕ → Option (List ℕ) → Option (List ℕ) → Contents → Vec (List ℕ × List ℕ) → Type 0
 ArePairsOf group start end m pairs = Scans m group start end pairs.items
 
--- a scan called back with the keys of a group from `start` on, below `end`, and their values, in order or backwards,
--- until the callback returned false
+-- A scan called back with the keys of a group from `start` on, below `end`, and with their values. The calls were in
+-- the order of the keys, or backwards, and ended when the callback returned false.
 abbrev pub ScansInModel : {F : Type 0} → (F → List ℕ → List ℕ → Bool → F → Type 0) → F → ℕ → Option (List ℕ)
     → Option (List ℕ) → Bool → Contents → Unit {0} → Type 0
 ScansInModel called callback group start end backwards m done = (pairs : List (List ℕ × List ℕ))
     × Scans m group start end pairs × Visits called callback (in_direction backwards pairs)
 
--- A scan called back with the keys of a group from `start` on, below `end`, and with their values as messages, in order
--- or backwards, until the callback returned false. It skipped each key whose value is no message.
+-- A scan called back with the keys of a group from `start` on, below `end`, and with their values as messages. It
+-- skipped each key whose value is no message. The calls were in the order of the keys, or backwards, and ended when the
+-- callback returned false.
 abbrev pub ScansMessagesInModel : {F M : Type 0} → (List ℕ → Option M) → (F → List ℕ → M → Bool → F → Type 0) → F → ℕ
     → Option (List ℕ) → Option (List ℕ) → Bool → Contents → Unit {0} → Type 0
 ScansMessagesInModel reading called callback group start end backwards m done = (pairs : List (List ℕ × List ℕ))

@@ -4,8 +4,8 @@ use Rattle.std.specs.Prelude.{◌≡◌, ◌≢◌, ℕ, ◌-◌, ◌<◌, ◌�
 use Rattle.raft_voter_rounds.specs.declared.receipt.Statement.{Statement}
 use Rattle.raft_voter_shared.specs.Receipts.{clashes}
 
--- The receipts whose index in the list is below `end` have different places, from place `first` on. The seat and turn of
--- each of them are noted at its place.
+-- Of the receipts whose index in the list is below `end`, those with places from `first` on have different places.
+-- `turns` has the seat and the turn of each of them, at its place.
 pub record AreNoted (first : ℕ) (receipts : List Statement) (end : ℕ) (turns : List (Option (ℕ × ℕ))) : Type 0 where
   pub noted : (index : ℕ) (r : Statement) → index < end → slice_get receipts index ≡ Some r → first ≤ r.place
       → slice_get turns (r.place - first) ≡ Some (Some (r.seat, r.turn))

@@ -42,8 +42,8 @@ abbrev pub TookUpTo : CutRound → World → ℕ → Type 0
 TookUpTo cut X place =
     (place ≤ length cut.requests) × (X ≡ after cut.before (taken_from 0 place cut.refused cut.requests))
 
--- One opening of a store: the journal, how the store failed, and where the rounds in which it failed were cut off, as a
--- position in the list of all their requests.
+-- One opening of a store: its journal, and how the store failed. If it failed in rounds, `place` is the position in the
+-- list of all their requests at which they were cut off.
 pub record Session : Type 0 where
   pub journal : List Round
   pub failure : Option Failure
@@ -66,7 +66,7 @@ all_rounds ss = flat_map (λ s. s.journal) ss
 abbrev pub all_cuts : List Session → List ℕ
 all_cuts ss = flat_map (λ s. cuts_at s.journal s.failure s.place) ss
 
--- If openings lead from world `W` to `X`, voters that start in `W` and never fail give exactly the replies in the
+-- Let openings lead from world `W` to `X`. Then voters that start in `W` and never fail give exactly the replies in the
 -- openings' rounds, with their cuts. Afterwards these voters are those of `X`.
 abbrev pub OpeningsLead : Type 0
 OpeningsLead = (W X : World) (ss : List Session) → Openings W ss X → Leads W (all_rounds ss) (all_cuts ss) X

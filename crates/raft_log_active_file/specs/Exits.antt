@@ -37,7 +37,7 @@ pub record IsFinished {R : Type 0} (F : Format R) (own : List ℕ → Type 0) (b
   pub stands : Stands F own base q path writer.handle.file (IsPastTo F writer.capacity q) N d
 
 -- The queue's files are on the disk. A stop without a CRC collision leaves all durable records of the last file and a
--- prefix of the pending ones (`HoldsLast`). What the file has besides its records isn't known.
+-- prefix of the pending ones (`HoldsLast`). What else the file has isn't known.
 abbrev pub IsHeld : {R : Type 0} → Format R → (List ℕ → Type 0) → Disk → LogFileWriter → LogFiles R
     → List ℕ → Names → Disk → Type 0
 IsHeld F own base writer q path N d = Stands F own base q path writer.handle.file (HoldsLast F q) N d

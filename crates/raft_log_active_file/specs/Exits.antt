@@ -42,8 +42,8 @@ abbrev pub IsHeld : {R : Type 0} → Format R → (List ℕ → Type 0) → Disk
     → List ℕ → Names → Disk → Type 0
 IsHeld F own base writer q path N d = Stands F own base q path writer.handle.file (HoldsLast F q) N d
 
--- If a queue is open to the writer, a record with these bytes was appended to it: it is the last pending one. Zeros may
--- have been allocated after it.
+-- If a queue was open to the writer, a record with these bytes was appended to it: it is the last pending one. Zeros
+-- may have been allocated after it.
 abbrev pub AppendsRecord : {R : Type 0} → Format R → (List ℕ → Type 0) → List ℕ → LogFileWriter → LogFileWriter
     → Disk → Disk → Type 0
 AppendsRecord {R} F own bytes before after old new = (base : Disk) (q : LogFiles R) (w : Written R)
@@ -62,7 +62,7 @@ AppendLeaves F own (CutBack kind) base w q before after path N new = IsOpen F ow
 AppendLeaves F own (Failed kind) base w q before after path N new = (room : ℕ) × IsHeld F own base before
     (with_more (w ∷ []) (with_room room q)) path N new
 
--- A record with these bytes wasn't appended. If a queue is open to the writer, a file call failed, and `AppendLeaves`
+-- A record with these bytes wasn't appended. If a queue was open to the writer, a file call failed, and `AppendLeaves`
 -- says what is left of the queue.
 abbrev pub FailsToAppend : {R : Type 0} → Format R → (List ℕ → Type 0) → List ℕ → WriteFault
     → LogFileWriter → LogFileWriter → Disk → Disk → Type 0
@@ -96,26 +96,26 @@ pub record BeginsBy (handle : Handle) (header : List ℕ) (writer : LogFileWrite
   pub takes : TakesUp handle header true writer old between
   pub syncs : Syncs writer.handle between new
 
--- if a queue is open to the writer, all its records were synced
+-- if a queue was open to the writer, all its records were synced, and it still is open
 abbrev pub SyncsAll : {R : Type 0} → Format R → (List ℕ → Type 0) → LogFileWriter → Disk → Disk → Type 0
 SyncsAll {R} F own writer old new = (base : Disk) (q : LogFiles R) (path : List ℕ) (N : Names)
     → IsOpen F own base writer q path N old → IsOpen F own base writer (synced q) path N new
 
--- A sync of the file failed. If a queue is open to the writer, a file call failed, and the queue's last file still
+-- A sync of the file failed. If a queue was open to the writer, a file call failed, and the queue's last file still
 -- holds its records (`IsHeld`).
 abbrev pub FailsToSyncAll : {R : Type 0} → Format R → (List ℕ → Type 0) → LogFileWriter → Disk → Disk
     → Type 0
 FailsToSyncAll {R} F own writer old new = (base : Disk) (q : LogFiles R) (path : List ℕ) (N : Names)
     → IsOpen F own base writer q path N old → Fails old new × IsHeld F own base writer q path N new
 
--- if a queue is open to the writer, its last file was finished
+-- if a queue was open to the writer, its last file was finished
 abbrev pub Finishes : {R : Type 0} → Format R → (List ℕ → Type 0) → LogFileWriter → LogFileWriter → Disk
     → Disk → Type 0
 Finishes {R} F own before after old new = (base : Disk) (q : LogFiles R) (path : List ℕ) (N : Names)
     → IsOpen F own base before q path N old → IsFinished F own base after q path N new
 
--- The file wasn't finished. If a queue is open to the writer, a file call failed, and the queue's last file still holds
--- its records (`IsHeld`).
+-- The file wasn't finished. If a queue was open to the writer, a file call failed, and the queue's last file still
+-- holds its records (`IsHeld`).
 abbrev pub FailsToFinish : {R : Type 0} → Format R → (List ℕ → Type 0) → LogFileWriter → Disk → Disk
     → Type 0
 FailsToFinish {R} F own before old new = (base : Disk) (q : LogFiles R) (path : List ℕ) (N : Names)
@@ -128,7 +128,7 @@ abbrev pub IsGiven : {R : Type 0} → Format R → (List ℕ → Type 0) → Dis
 IsGiven F own base handle q path N d = (handle.permission ≡ ReadWrite)
     × Stands F own base q path handle.file (IsNew F q) N d
 
--- if the queue's last file has no header yet, it got `header`, and the queue is now open to the writer
+-- if the queue's last file had no header yet, it got `header`, and the queue is now open to the writer
 abbrev pub Begins : {R : Type 0} → Format R → (List ℕ → Type 0) → Handle → List ℕ → LogFileWriter → Disk
     → Disk → Type 0
 Begins {R} F own handle header writer old new = (base : Disk) (q : LogFiles R) (stale : List ℕ)
@@ -136,7 +136,7 @@ Begins {R} F own handle header writer old new = (base : Disk) (q : LogFiles R) (
     → IsGiven F own base handle (begun header stale q) path N old
     → (room : ℕ) × IsOpen F own base writer (with_room room (begun header stale q)) path N new
 
--- Writing `header` failed. If the queue's last file has no header yet, a file call failed. Any part of the header may
+-- Writing `header` failed. If the queue's last file had no header yet, a file call failed. Any part of the header may
 -- be on disk, but no record.
 abbrev pub FailsToBegin : {R : Type 0} → Format R → (List ℕ → Type 0) → Handle → List ℕ → Disk → Disk
     → Type 0

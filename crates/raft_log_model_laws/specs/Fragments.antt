@@ -64,14 +64,14 @@ unfinished_after us (r ∷ rs) = unfinished_after (next_unfinished us r) rs
 abbrev pub unfinished : {E V : Type 0} → List (Record E V) → List (Unfinished E V)
 unfinished rs = unfinished_after [] rs
 
--- the items of an unfinished group that count in the next segment, which does this with the group; its items so far are
--- `xs`
+-- which items of an unfinished group begin to count in the next segment; `xs` are the group's items so far, and the
+-- `Head` says what the segment does with the group
 abbrev pub finish : {E V : Type 0} → List (Tagged E V) → Head E V → List (Tagged E V)
 finish xs (GoesOn ys) = []
 finish xs (Ends ys) = xs ++ ys
 finish xs BeginsAnew = []
 
--- unfinished group `n` after the next segment, with its items so far; none if it isn't unfinished any more
+-- unfinished group `n` after the next segment, with its items so far; none if the segment ends it or begins it anew
 abbrev pub go_on : {E V : Type 0} → ℕ → List (Tagged E V) → Head E V → List (Unfinished E V)
 go_on n xs (GoesOn ys) = record { number = n; items = xs ++ ys } ∷ []
 go_on n xs (Ends ys) = []

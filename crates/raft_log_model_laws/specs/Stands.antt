@@ -21,7 +21,8 @@ Speaks (Key k) (Compact c) = ⊥
 Speaks (Key k) (Put l v) = l ≡ k
 Speaks (Key k) (Del l) = l ≡ k
 
--- the item puts this content into the slot: a run an entry at one of its indexes, or a Put the value of its key
+-- the item puts this content into the slot: it is a run that has the entry at this index, or a Put of the value under
+-- this key
 abbrev pub Gives : {E V : Type 0} → Slot → Content E V → Item E V → Type 0
 Gives (Index i) (Entry e) (Run f es) = (f ≤ i) × (slice_get es (i - f) ≡ Some e)
 Gives (Index i) (Entry e) x = ⊥

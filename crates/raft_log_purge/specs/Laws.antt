@@ -53,11 +53,11 @@ abbrev pub MarksTakeNoMore : Type 0
 MarksTakeNoMore = (items : List LogItem) (v : ℕ → Shown) (b : Batch) → CameOf items v → SaysMarks v b
     → batch_bound b ≤ record_bound items []
 
--- Items from which the owed tombstones came:
--- - none, if no tombstone is owed
--- - a batch that is written adds its own items
--- - a batch that isn't written adds none, unless the engine fails
--- - a call after which no more tombstones are owed, such as a purge, adds none
+-- From which items the owed tombstones came:
+-- - If no tombstone is owed, there are no such items.
+-- - A batch that is written adds its items.
+-- - A batch that isn't written adds none, unless the engine fails.
+-- - A call that makes no further tombstone owed, such as a purge, adds none.
 pub record MarksComeOfBatches : Type 0 where
   pub none : (v : ℕ → Shown) → OweNothing v → CameOf [] v
   pub written : (items : List LogItem) (b : Batch) (sync : Bool) (s t : EngineState) → CameOf items s.tables

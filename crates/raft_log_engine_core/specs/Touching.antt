@@ -40,7 +40,8 @@ PipeRefuses signed error v w = ((SaysTryAgain error → ⊥) × PipeFailsToAppen
     ⊎ ((mid : LogPipes) × FindsNoSpace signed v mid × PipeFailsToAppend InAppend signed error mid w)
 
 -- The record of batch `b` was written to the queue Append, at the first try or the second. The pipe may have rotated
--- before either try. Nothing else was done to the files.
+-- before either try. If the first try found no space, its bytes were truncated away. Nothing else was done to the
+-- files.
 abbrev pub WritesRecord : Batch → LogPipes → LogPipes → Type 0
 WritesRecord b v w =
     (block : FileBlockHandle) × WritesAt (signed_for b) block v w × PipeTakes (signed_for b) block v w

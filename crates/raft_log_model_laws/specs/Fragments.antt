@@ -108,7 +108,7 @@ merge a b = record {
 }
 
 -- In the two summaries the same items count for each raft group. They do the same with each atomic group that is open
--- before, and leave the same atomic groups unfinished.
+-- before the segment, and leave the same atomic groups unfinished.
 pub record IsSameSegment {E V : Type 0} (a b : Segment E V) : Type 0 where
   pub counted : (g : ℕ) → of_group g a.counted ≡ of_group g b.counted
   pub heads : (n : ℕ) → a.heads n ≡ b.heads n

@@ -85,7 +85,7 @@ beginning gate least v = max (first_at InAppend v) (max (suc gate) least)
 
 -- Files left Append's live range. `least` is the lowest file in which a group has an entry or value, or the active file
 -- if that is lower. If nothing was pending:
--- - `begins`: the live range begins at the latest of three files: the one after the gate, `least`, and its old first.
+-- - `begins`: the live range begins at the latest of three files: the one after the gate, `least`, and where it began.
 -- - `keeps`: the log keeps its contents, if no group has anything in files up to the gate and no tombstone is owed.
 pub record LosesTo (gate : ℕ) (m : MemTables) (s t : EngineState) : Type 0 where
   pub least : ℕ

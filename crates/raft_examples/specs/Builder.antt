@@ -8,7 +8,8 @@ use Rattle.raft_log_recovery.specs.Recovering.{RecoversLog}
 use Rattle.raft_log_recovery.specs.Scanning.{ScansLog}
 use Rattle.raft_log_recovery.specs.declared.builder.DualPipesBuilder.{DualPipesBuilder}
 
--- the log of these settings was found, and the batches of its two queues were read into `append` and `rewrite`
+-- the files of the log with these settings were found, and the batches of its two queues were read into `append` and
+-- `rewrite`
 pub record ReadsInto {M : Type 0} (reads : LogQueue → List Batch → M → Type 0) (config : Config)
     (append rewrite : M) (old new : Disk) : Type 0 where
   pub begun : DualPipesBuilder

@@ -27,7 +27,7 @@ abbrev pub logged : {R E V : Type 0} → (R → Record E V) → Found R → LogF
 logged says found = record { number = found.number; records = said says found.records }
 
 -- `files` are the numbered files of the queue `q`, whose live range begins at `first`.
--- - `gone`, `full`: the files from `low` up to the live range, and those of the live range before the last.
+-- - `gone`, `full`: the files from `low` on that are below the live range, and the live range without its last file.
 -- - `last`, `synced`, `pending`: the last file's number, synced records and unsynced records.
 -- - `gap`, `behind`: the number just below `low` has no file, and all other files have lower numbers.
 pub record IsFileQueue {R E V : Type 0} (says : R → Record E V) (F : Format R) (q : LogFiles R)

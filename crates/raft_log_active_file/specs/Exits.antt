@@ -1,4 +1,4 @@
--- What each call on the last file of a queue leaves, whether it succeeds or fails.
+-- What is on disk after each call on the last file of a queue, whether it succeeds or fails.
 use Rattle.std.specs.Prelude.{◌≡◌, ℕ, ◌⊎◌, true, List, [], ◌∷◌, length}
 use Rattle.raft_log_fs.specs.Disk.{Disk}
 use Rattle.raft_log_fs.specs.Causes.{Fails}
@@ -36,14 +36,14 @@ pub record IsFinished {R : Type 0} (F : Format R) (own : List ℕ → Type 0) (b
   pub written : writer.written ≡ length (whole q)
   pub stands : Stands F own base q path writer.handle.file (IsPastTo F writer.capacity q) N d
 
--- The queue's files are on the disk, and its last file holds its records (`HoldsLast`): it is known what a stop leaves
--- of it. What follows the records isn't known.
+-- The queue's files are on the disk. A stop without a CRC collision leaves all durable records of the last file and a
+-- prefix of the pending ones (`HoldsLast`). What else the file has isn't known.
 abbrev pub IsHeld : {R : Type 0} → Format R → (List ℕ → Type 0) → Disk → LogFileWriter → LogFiles R
     → List ℕ → Names → Disk → Type 0
 IsHeld F own base writer q path N d = Stands F own base q path writer.handle.file (HoldsLast F q) N d
 
--- If a queue is open to the writer, a record with these bytes was appended to it: it is the last pending one. Zeros may
--- have been allocated after it.
+-- If a queue was open to the writer, a record with these bytes was appended to it: it is the last pending one. Zeros
+-- may have been allocated after it.
 abbrev pub AppendsRecord : {R : Type 0} → Format R → (List ℕ → Type 0) → List ℕ → LogFileWriter → LogFileWriter
     → Disk → Disk → Type 0
 AppendsRecord {R} F own bytes before after old new = (base : Disk) (q : LogFiles R) (w : Written R)
@@ -62,7 +62,7 @@ AppendLeaves F own (CutBack kind) base w q before after path N new = IsOpen F ow
 AppendLeaves F own (Failed kind) base w q before after path N new = (room : ℕ) × IsHeld F own base before
     (with_more (w ∷ []) (with_room room q)) path N new
 
--- A record with these bytes wasn't appended. If a queue is open to the writer, a file call failed, and `AppendLeaves`
+-- A record with these bytes wasn't appended. If a queue was open to the writer, a file call failed, and `AppendLeaves`
 -- says what is left of the queue.
 abbrev pub FailsToAppend : {R : Type 0} → Format R → (List ℕ → Type 0) → List ℕ → WriteFault
     → LogFileWriter → LogFileWriter → Disk → Disk → Type 0
@@ -96,39 +96,39 @@ pub record BeginsBy (handle : Handle) (header : List ℕ) (writer : LogFileWrite
   pub takes : TakesUp handle header true writer old between
   pub syncs : Syncs writer.handle between new
 
--- if a queue is open to the writer, all its records were synced
+-- if a queue was open to the writer, all its records were synced, and it still is open
 abbrev pub SyncsAll : {R : Type 0} → Format R → (List ℕ → Type 0) → LogFileWriter → Disk → Disk → Type 0
 SyncsAll {R} F own writer old new = (base : Disk) (q : LogFiles R) (path : List ℕ) (N : Names)
     → IsOpen F own base writer q path N old → IsOpen F own base writer (synced q) path N new
 
--- A sync of the file failed. If a queue is open to the writer, a file call failed, and the queue's last file holds its
--- records.
+-- A sync of the file failed. If a queue was open to the writer, a file call failed, and the queue's last file still
+-- holds its records (`IsHeld`).
 abbrev pub FailsToSyncAll : {R : Type 0} → Format R → (List ℕ → Type 0) → LogFileWriter → Disk → Disk
     → Type 0
 FailsToSyncAll {R} F own writer old new = (base : Disk) (q : LogFiles R) (path : List ℕ) (N : Names)
     → IsOpen F own base writer q path N old → Fails old new × IsHeld F own base writer q path N new
 
--- if a queue is open to the writer, its last file was finished
+-- if a queue was open to the writer, its last file was finished
 abbrev pub Finishes : {R : Type 0} → Format R → (List ℕ → Type 0) → LogFileWriter → LogFileWriter → Disk
     → Disk → Type 0
 Finishes {R} F own before after old new = (base : Disk) (q : LogFiles R) (path : List ℕ) (N : Names)
     → IsOpen F own base before q path N old → IsFinished F own base after q path N new
 
--- The file wasn't finished. If a queue is open to the writer, a file call failed, and the queue's last file holds its
--- records.
+-- The file wasn't finished. If a queue was open to the writer, a file call failed, and the queue's last file still
+-- holds its records (`IsHeld`).
 abbrev pub FailsToFinish : {R : Type 0} → Format R → (List ℕ → Type 0) → LogFileWriter → Disk → Disk
     → Type 0
 FailsToFinish {R} F own before old new = (base : Disk) (q : LogFiles R) (path : List ℕ) (N : Names)
     → IsOpen F own base before q path N old → Fails old new × IsHeld F own base before q path N new
 
 -- The queue's files are on the disk. Its last file has its number but not its header: its content is still what it held
--- before. The handle may write it.
+-- when it got its number. The handle may write the file.
 abbrev pub IsGiven : {R : Type 0} → Format R → (List ℕ → Type 0) → Disk → Handle → LogFiles R → List ℕ
     → Names → Disk → Type 0
 IsGiven F own base handle q path N d = (handle.permission ≡ ReadWrite)
     × Stands F own base q path handle.file (IsNew F q) N d
 
--- if the queue's last file has no header yet, it got `header`, and the queue is now open to the writer
+-- if the queue's last file had no header yet, it got `header`, and the queue is now open to the writer
 abbrev pub Begins : {R : Type 0} → Format R → (List ℕ → Type 0) → Handle → List ℕ → LogFileWriter → Disk
     → Disk → Type 0
 Begins {R} F own handle header writer old new = (base : Disk) (q : LogFiles R) (stale : List ℕ)
@@ -136,7 +136,7 @@ Begins {R} F own handle header writer old new = (base : Disk) (q : LogFiles R) (
     → IsGiven F own base handle (begun header stale q) path N old
     → (room : ℕ) × IsOpen F own base writer (with_room room (begun header stale q)) path N new
 
--- Writing `header` failed. If the queue's last file has no header yet, a file call failed. Any part of the header may
+-- Writing `header` failed. If the queue's last file had no header yet, a file call failed. Any part of the header may
 -- be on disk, but no record.
 abbrev pub FailsToBegin : {R : Type 0} → Format R → (List ℕ → Type 0) → Handle → List ℕ → Disk → Disk
     → Type 0

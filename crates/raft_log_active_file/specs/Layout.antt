@@ -39,9 +39,9 @@ abbrev pub IsUnaligned : LogFileFormat → Type 0
 IsUnaligned format = format.alignment ≡ 0
 
 -- The paths fit the format of a queue's files.
--- - `owns`, `numbered`: the paths of all numbers are the queue's own. In each directory each number below the limit has
--- one.
--- - `kept`, `apart`: the paths of reserved names are the queue's own, and no number's.
+-- - `owns`: the queue owns all paths of numbers below the limit.
+-- - `numbered`, `lies`: the ordinary path of a number is a path of this number, in the directory of its place.
+-- - `kept`, `apart`: the queue owns the paths of reserved names, and none of them is a path of a number.
 -- - `headed`: the header of each format without an alignment is a header of the queue's files.
 pub record IsLayout {R : Type 0} (F : Format R) (own : List ℕ → Type 0) (paths : FilePaths) : Type 0 where
   pub format : IsFormat F

@@ -1,4 +1,4 @@
--- What an attempt to begin a queue leaves.
+-- What is on disk after an attempt to begin a queue.
 use Rattle.std.specs.Prelude.{◌≡◌, ℕ, ◌⊎◌, Some, List}
 use Rattle.std.specs.Map.{update}
 use Rattle.std.specs.Str.{bytes_eq}
@@ -44,8 +44,8 @@ BeginsQueue {R} F own header path handle writer old new = (base : Disk) (older :
 abbrev pub IsHalfBegun : {R : Type 0} → Format R → (List ℕ → Type 0) → Disk → LogFiles R → Disk → Type 0
 IsHalfBegun F own base q d = IsFresh F own base d ⊎ ((room : ℕ) × StandsWithRecords F own base (with_room room q) d)
 
--- The queue hasn't begun. If it could, a file call failed. It may still begin, or its file 1 exists without a record.
--- There is no file 0.
+-- The call to begin the queue failed. If the queue could begin before it, a file call failed, and there is no file 0.
+-- Either the queue may still begin, or its file 1 exists without a record.
 abbrev pub FailsToBeginQueue : {R : Type 0} → Format R → (List ℕ → Type 0) → List ℕ → List ℕ → Disk → Disk
     → Type 0
 FailsToBeginQueue {R} F own header path old new = (base : Disk) (older : ℕ → Past R)

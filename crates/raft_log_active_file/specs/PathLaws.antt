@@ -22,7 +22,8 @@ use Rattle.raft_log_active_file.specs.Paths.{IsPathWith, reserved_suffix_of, dir
 
 -- The name after the last slash.
 
--- If two paths are equal, no directory is longer than the other: its slash would be in the name after the shorter one.
+-- If `d/x` and `e/y` are the same path and `x` has no slash, `e` isn't longer than `d`. Otherwise the slash after `e`
+-- would be in `x`.
 no_longer : (d e x y : List ℕ) → IsPlain x → d ++ 47 ∷ x ≡ e ++ 47 ∷ y → length d < length e → ⊥
 no_longer d e x y plain same longer =
     let k = length e - suc (length d) in
@@ -49,7 +50,7 @@ one_name d e x y plain also same = elim (cases_lt (length d) (length e)) [
   ]
 ]
 
--- a path has one number
+-- a path with this suffix has only one number
 pub one_number : (suffix : List ℕ) (directories : List (List ℕ)) (m n : ℕ) (path : List ℕ)
     → IsPathWith suffix directories m path → IsPathWith suffix directories n path → m ≡ n
 one_number suffix directories m n path a b =
@@ -65,6 +66,7 @@ has_no_slash : List ℕ → Bool
 has_no_slash [] = true
 has_no_slash (b ∷ bs) = cond (nat_eq b 47) false (has_no_slash bs)
 
+-- bytes that `has_no_slash` accepts have no slash
 no_slash : (bytes : List ℕ) → has_no_slash bytes ≡ true → IsPlain bytes
 unfolding has_no_slash
 no_slash [] none k less is = omega (arith, less)
@@ -108,21 +110,23 @@ either_plain : (b : Bool) (n : ℕ) → n < 10 ^ 16 → IsPlain (cond b (signed_
 either_plain true n fit = signed_plain n fit
 either_plain false n fit = digits_plain n fit
 
+-- the text of a file's number in a name has no slash
 pub text_plain : (signed : Bool) (n : ℕ) → n < 10 ^ 16 → IsPlain (number_text signed n)
 text_plain true n fit = either_plain (nat_lt n (10 ^ 15)) n fit
 text_plain false n fit = digits_plain n fit
 
--- the suffixes of names have no slash
+-- the suffix of the names of a queue's files has no slash
 pub suffix_plain : (queue : LogQueue) → IsPlain (suffix_of queue)
 unfolding has_no_slash
 suffix_plain Append = no_slash (codes ".raftlog") refl
 suffix_plain Rewrite = no_slash (codes ".rewrite") refl
 
+-- the suffix of Append's reserved names has no slash
 pub reserved_plain : IsPlain reserved_suffix
 unfolding has_no_slash
 reserved_plain = no_slash (codes ".raftlog.reserved") refl
 
--- a name without a sign begins with a digit
+-- a name without a sign doesn't begin with a plus sign
 pub no_plus : (suffix : List ℕ) (n : ℕ) → n < 10 ^ 16 → get_or (sixteen_digits n ++ suffix) 0 0 ≡ 43 → ⊥
 no_plus suffix n fit plus =
     let k : ℕ = 16 - length (decimal n) in
@@ -175,7 +179,7 @@ directory_first directories place inside =
     (plain_first (length directories) place inside)
     ∙ get_or_default directories place (get_or directories 0 []) [] inside
 
--- the path of a number in a directory is in that directory
+-- the path that is built for a place below the number of directories is in the directory at this position
 pub numbered_lies : (queue : LogQueue) (directories : List (List ℕ)) (place n : ℕ) → 0 < length directories
     → place < length directories → n < 10 ^ 16
     → IsPathIn (get_or directories place []) (numbered_path queue directories place n)
@@ -224,7 +228,7 @@ reserved_is Rewrite directories place n some = reserved_written Rewrite director
 
 -- The suffix of a name gives the queue, and whether the name is reserved.
 
--- a byte of the suffix, counted from the end
+-- a name with a suffix has the suffix's byte at the same distance from the end
 from_behind : (suffix name : List ℕ) (i j : ℕ) → EndsWith suffix name → i + suc j ≡ length suffix
     → get_or name (length name - suc j) 0 ≡ get_or suffix i 0
 from_behind suffix name i j (front, is) all =

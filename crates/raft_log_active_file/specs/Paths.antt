@@ -1,11 +1,11 @@
--- The paths of a queue's files: which a file may have, and which ones the code builds.
+-- The paths of a queue's files: which paths a file may have, and which of these the code builds.
 use Rattle.std.specs.Prelude.{◌≡◌, ℕ, ◌-◌, ◌^◌, ◌⊎◌, List, [], ◌∷◌, ◌++◌, codes, min, length, slice_index_or, Contains}
 use Rattle.raft_log_record_base.specs.declared.pipe_log.LogQueue.{LogQueue}
 use Rattle.raft_log_fs.specs.Disk.{IsPlain}
 use Rattle.raft_log_file_format.specs.Name.{IsNamed, number_text, suffix_of}
 use Rattle.raft_log_active_file.specs.Layout.{has_sign, plain_place}
 
--- `path` is one of these directories, a slash, and a name with this number and this suffix
+-- `path` is one of these directories, a slash, and a name without a slash that has this number and this suffix
 pub record IsPathWith (suffix : List ℕ) (directories : List (List ℕ)) (n : ℕ) (path : List ℕ) : Type 0 where
   pub directory : List ℕ
   pub listed : Contains directories directory
@@ -23,17 +23,19 @@ abbrev pub IsOwnPath : LogQueue → List (List ℕ) → List ℕ → Type 0
 IsOwnPath queue directories path = (n : ℕ) × (IsPathWith (suffix_of queue) directories n path
     ⊎ IsPathWith (reserved_suffix_of queue) directories n path)
 
--- the directory that a place is in, or the main one if there is no such place
+-- The directory of a place (`plain_place`). If the list has no such directory, it is the main one, the first of the
+-- list.
 abbrev pub directory_at : List (List ℕ) → ℕ → List ℕ
 directory_at directories place =
     slice_index_or directories (plain_place (length directories) place) (slice_index_or directories 0 [])
 
--- the path of the queue's file with number `n` at a place
+-- the path that the code builds for the queue's file with number `n` in the directory of this place
 abbrev pub numbered_path : LogQueue → List (List ℕ) → ℕ → ℕ → List ℕ
 numbered_path queue directories place n = directory_at directories place
     ++ 47 ∷ (number_text (has_sign (length directories) place) n ++ suffix_of queue)
 
--- the path of a file that a queue keeps for recycling; a number above the greatest one has the path of the greatest one
+-- The path that the code builds for a file that a queue keeps for recycling under a reserved name. A number of more
+-- than sixteen digits gets the path of the greatest number with sixteen digits.
 abbrev pub reserved_path : LogQueue → List (List ℕ) → ℕ → ℕ → List ℕ
 reserved_path queue directories place n =
     numbered_path queue directories place (min n (10 ^ 16 - 1)) ++ codes ".reserved"

@@ -25,7 +25,7 @@ with_more ws q = record q { pending = q.pending ++ ws }
 abbrev pub synced : {R : Type 0} → LogFiles R → LogFiles R
 synced q = record q { durable = recent q; pending = [] }
 
--- the queue after all records were synced and the last file ends after them: it has no stale bytes
+-- the queue after its last file was truncated after its records and synced, so that no stale bytes follow them
 abbrev pub settled : {R : Type 0} → LogFiles R → LogFiles R
 settled q = record q { stale = []; durable = recent q; pending = [] }
 
@@ -33,6 +33,7 @@ settled q = record q { stale = []; durable = recent q; pending = [] }
 abbrev pub with_room : {R : Type 0} → ℕ → LogFiles R → LogFiles R
 with_room size q = record q { stale = grown size q.stale }
 
--- the queue whose last file has no record yet, has or will have this header, and held `stale` when it got its number
+-- The queue `q` with a last file that has no record yet. This file has the header, or will get it, and it held `stale`
+-- when it got its number.
 abbrev pub begun : {R : Type 0} → List ℕ → List ℕ → LogFiles R → LogFiles R
 begun header stale q = record q { header = header; stale = stale; durable = []; pending = [] }

@@ -18,13 +18,13 @@ pub record IsRecordIn (n : ℕ) (header bytes : List ℕ) (said : LogRecord) : T
   pub says : IsFileHeader header format
   pub is : IsRecord (signature format.version n) bytes said.items said.entries
 
--- `bytes` are the header of a format without an alignment. Pipes write no other header. A torn header of version 2 may
--- have last eight bytes that aren't zeros; it doesn't count as a header.
+-- `bytes` are the header of a format without an alignment; pipes write no other header. In version 2 the last eight
+-- bytes are the alignment. If a torn write leaves them nonzero, the bytes don't count as a header.
 abbrev pub IsAHeader : List ℕ → Type 0
 IsAHeader bytes = (format : LogFileFormat) × IsFileHeader bytes format × IsUnaligned format
 
--- `bytes` begin with the header of a format with an alignment, and contain a record of the file with number `n`. An
--- open assumes that another program wrote such a file, with padding between records.
+-- `bytes` begin with the header of a format with an alignment, and contain, at any offset, a record of the file with
+-- number `n`. An open assumes that another program wrote such a file, with padding between records.
 pub record IsAlignedFile (n : ℕ) (bytes : List ℕ) : Type 0 where
   pub header : List ℕ
   pub rest : List ℕ

@@ -26,11 +26,11 @@ use Rattle.raft_log_active_file.specs.LayoutLaws.{LogFilesAreTold, QueuesAreApar
 use Rattle.raft_log_active_file.specs.declared.record.LogRecord.{LogRecord}
 use Rattle.raft_log_active_file.specs.PathLaws.{one_name, one_number, numbered_is, numbered_lies, reserved_is, other_end}
 
--- dropping the first of two joined lists
+-- dropping the first of two joined lists leaves the second
 drop_front : (a b : List ℕ) → drop (length a) (a ++ b) ≡ b
 drop_front a b = drop_at a b (length a) refl
 
--- a prefix of the first of two joined lists
+-- a prefix of two joined lists that isn't longer than the first list is a prefix of it
 take_front : (k : ℕ) (a b : List ℕ) → k ≤ length a → take k (a ++ b) ≡ take k a
 take_front k a b fits = take-append-le k a b fits
 
@@ -47,7 +47,7 @@ one_header : (a b x y : List ℕ) (f g : LogFileFormat) → IsFileHeader a f →
     → (a ≡ b) × (f ≡ g)
 one_header = prefix_free is_header
 
--- the header of version 2
+-- the bytes that are written for version 2 without an alignment are its header
 second_header : IsFileHeader (header_bytes (record { version = V2; alignment = 0 }))
     (record { version = V2; alignment = 0 })
 unfolding header_bytes u64_bytes
@@ -67,7 +67,7 @@ second_header = (
   refl,
 )
 
--- the header of version 1
+-- the bytes that are written for version 1 are its header
 first_header : IsFileHeader (header_bytes (record { version = V1; alignment = 0 }))
     (record { version = V1; alignment = 0 })
 unfolding header_bytes u64_bytes
@@ -153,7 +153,7 @@ self_delimiting n header = record {
       omega (arith, long));
 }
 
--- a record of a file whose header has this format is one by this format
+-- a record of a file is signed, or not, by the format that the file's header has
 in_format : (n : ℕ) (header bytes : List ℕ) (format : LogFileFormat) (said : LogRecord)
     → IsFileHeader header format → IsRecordIn n header bytes said
     → IsRecord (signature format.version n) bytes said.items said.entries
@@ -233,16 +233,17 @@ zeros_hold_none n size header ahead inside behind said splits is =
 
 -- The layout.
 
--- a header isn't empty
+-- there are 53 magic bytes
 magic_filled : length magic ≡ 53
 unfolding magic
 magic_filled = refl
 
+-- a header isn't empty
 header_filled : (header : List ℕ) (format : LogFileFormat) → IsFileHeader header format → length header ≡ 0 → ⊥
 header_filled header format (x, front, back, is_magic, more, joined) none =
     (let long = length-append front back in omega (arith, none, ap length joined, long, ap length is_magic, magic_filled))
 
--- a queue's headers, records and paths are a format of files
+-- the format of a queue's files satisfies `IsFormat`
 log_is_format : (queue : LogQueue) (directories : List (List ℕ)) → IsFormat (log_format queue directories)
 log_is_format queue directories = record {
   free = self_delimiting;
@@ -313,11 +314,11 @@ queues_are_apart append rewrite path (m, inr a) (n, inr b) =
     ends_apart (reserved_suffix_of Append) (reserved_suffix_of Rewrite) append rewrite 7 7 9 m n path refl
     refl (λ e. omega (arith, e)) a b
 
--- the suffix of files that are kept for recycling
+-- the names of files that Append keeps for recycling have the suffix `reserved_suffix`
 pub reserved_names : ReservedNamesAreTheLogs
 reserved_names = refl
 
--- proves when a queue may begin
+-- a queue may begin if its directories exist, and no file and no directory is at a path of one of its numbers
 pub places_are_fresh : PlacesAreFresh
 places_are_fresh queue directories base d there none others = record {
   none = λ m less path at. (none m path at).0;

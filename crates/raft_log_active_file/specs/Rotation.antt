@@ -1,4 +1,4 @@
--- What a rotation and the deletion of a file leave, whether the call succeeds or fails.
+-- What is on disk after a rotation, and after the deletion of a file, whether the call succeeds or fails.
 use Rattle.std.specs.Prelude.{◌≡◌, ℕ, ◌<◌, ◌≤◌, ◌⊎◌, Some, None, List, [], suc}
 use Rattle.std.specs.Map.{update}
 use Rattle.std.specs.Str.{bytes_eq}
@@ -24,8 +24,8 @@ pub record CanRotate {R : Type 0} (F : Format R) (q : LogFiles R) (header to : L
   pub header_is : F.IsHeader header
   pub path : F.IsPath (suc q.last) to
 
--- `from` is the path of a file that the queue keeps for recycling; it is none of the last number or a higher one. The
--- handle may write the file, which holds `stale`, and no record of the next number.
+-- `from` is the path of a file that the queue keeps for recycling. It isn't a path of the last number or of a higher
+-- one. The handle may write the file. The file's content is `stale`, without a record of the next number.
 pub record IsSpare {R : Type 0} (F : Format R) (own : List ℕ → Type 0) (q : LogFiles R)
     (header stale : List ℕ) (handle : Handle)
     (from : List ℕ) (N : Names) (d : Disk) : Type 0 where
@@ -43,8 +43,9 @@ pub record StandsWithRecords {R : Type 0} (F : Format R) (own : List ℕ → Typ
   pub N : Names
   pub stands : Stands F own base q path id (HoldsLast F q) N d
 
--- On disk `d` the queue is `q` as before, or `q` after a rotation: a new active file with `header`, no records, and the
--- bytes `stale` after its header. In both cases the active file has all records that the queue has there.
+-- On disk `d` the queue is `q` as before, or `q` after a rotation. After a rotation the new active file has no records.
+-- It held `stale` when it got its number, and any part of `header` may be on disk. In both cases the last file holds
+-- its records (`HoldsLast`).
 abbrev pub IsLeftTurned : {R : Type 0} → Format R → (List ℕ → Type 0) → Disk → LogFiles R → List ℕ
     → List ℕ → Disk → Type 0
 IsLeftTurned F own base q header stale d = StandsWithRecords F own base q d ⊎
@@ -64,7 +65,7 @@ abbrev pub StaysBehind : {R : Type 0} → Format R → (List ℕ → Type 0) →
 StaysBehind F own base q header stale old new = Fails old new
     × IsLeftTurned F own base q header stale new × GapsStay F q old new
 
--- if the queue is open to the writer `before`, it has rotated into a new file, which has this handle
+-- if the queue was open to the writer `before`, it has rotated into a new file, which has this handle
 abbrev pub RotatesToNew : {R : Type 0} → Format R → (List ℕ → Type 0) → List ℕ → List ℕ → LogFileWriter
     → LogFileWriter → Handle → Disk → Disk → Type 0
 RotatesToNew {R} F own header to before after handle old new = (base : Disk) (q : LogFiles R)
@@ -72,7 +73,7 @@ RotatesToNew {R} F own header to before after handle old new = (base : Disk) (q 
     → CanRotate F q header to → IsOpen F own base before q path N old
     → QueueGoesOnInNext F own base after q header [] to (update bytes_eq N to (Some handle.file)) old new
 
--- if the queue is open to the writer, rotating into a new file failed
+-- Rotating into a new file failed. If the queue was open to the writer, `StaysBehind` says what is left of it.
 abbrev pub FailsToRotateToNew : {R : Type 0} → Format R → (List ℕ → Type 0) → List ℕ → List ℕ
     → LogFileWriter → Disk → Disk → Type 0
 FailsToRotateToNew {R} F own header to before old new = (base : Disk) (q : LogFiles R) (path : List ℕ)
@@ -80,7 +81,7 @@ FailsToRotateToNew {R} F own header to before old new = (base : Disk) (q : LogFi
     → CanRotate F q header to → IsOpen F own base before q path N old
     → StaysBehind F own base q header [] old new
 
--- if the queue is open to the writer `before`, it has rotated into a file kept for recycling, which was renamed from
+-- if the queue was open to the writer `before`, it has rotated into a file kept for recycling, which was renamed from
 -- `from` to `to`
 abbrev pub RotatesOver : {R : Type 0} → Format R → (List ℕ → Type 0) → List ℕ → Handle → List ℕ → List ℕ
     → LogFileWriter → LogFileWriter → Disk → Disk → Type 0
@@ -91,7 +92,8 @@ RotatesOver {R} F own header handle from to before after old new = (base : Disk)
     → QueueGoesOnInNext F own base after q header stale to
     (update bytes_eq (update bytes_eq N from None) to (Some handle.file)) old new
 
--- if the queue is open to the writer, rotating into a file kept for recycling failed
+-- Rotating into a file kept for recycling failed. If the queue was open to the writer, `StaysBehind` says what is left
+-- of it.
 abbrev pub FailsToRotateOver : {R : Type 0} → Format R → (List ℕ → Type 0) → List ℕ → Handle → List ℕ
     → List ℕ → LogFileWriter → Disk → Disk → Type 0
 FailsToRotateOver {R} F own header handle from to before old new = (base : Disk) (q : LogFiles R)
@@ -136,15 +138,15 @@ pub record CanDrop {R : Type 0} (F : Format R) (own : List ℕ → Type 0) (q : 
   pub id : ℕ
   pub named : N gone ≡ Some id
 
--- if the queue is open to the writer, its file at `gone` was deleted, and the rest of the queue is unchanged
+-- if the queue was open to the writer, its file at `gone` was deleted, and the rest of the queue is unchanged
 abbrev pub Drops : {R : Type 0} → Format R → (List ℕ → Type 0) → List ℕ → Disk → Disk → Type 0
 Drops {R} F own gone old new = (base : Disk) (writer : LogFileWriter) (q : LogFiles R) (path : List ℕ)
     (N : Names)
     → CanDrop F own q gone N → IsOpen F own base writer q path N old
     → IsOpen F own base writer q path (update bytes_eq N gone None) new × GapsStay F q old new
 
--- Deleting the file at `gone` failed. If the queue is open to the writer, a file call failed or the file system
--- stopped, and the queue still holds its records.
+-- Deleting the file at `gone` failed. If the queue was open to the writer, a file call failed, and the queue's last
+-- file still holds its records.
 abbrev pub FailsToDrop : {R : Type 0} → Format R → (List ℕ → Type 0) → List ℕ → Disk → Disk → Type 0
 FailsToDrop {R} F own gone old new = (base : Disk) (writer : LogFileWriter) (q : LogFiles R)
     (path : List ℕ) (N : Names)

@@ -14,7 +14,7 @@ Names = List ℕ → Option ℕ
 abbrev pub HaveOneName : Names → Type 0
 HaveOneName N = (a b : List ℕ) (id : ℕ) → N a ≡ Some id → N b ≡ Some id → a ≡ b
 
--- the files at all paths of a number below `end` are one and the same
+-- for each number below `end`, at most one file is at the paths of this number
 abbrev pub HaveOneFile : {R : Type 0} → Format R → ℕ → Names → Type 0
 HaveOneFile F end N = (m i j : ℕ) (a b : List ℕ) → m < end → F.IsPath m a → F.IsPath m b
     → N a ≡ Some i → N b ≡ Some j → i ≡ j

@@ -8,13 +8,13 @@ use Rattle.raft_log_file_writer.specs.LogFormat.{Format}
 use Rattle.raft_log_file_writer.specs.LogQueue.{LogFiles, HeaderStands}
 use Rattle.raft_log_active_file.specs.Queue.{whole}
 
--- the last file holds its records, where `more` count as pending too: they may be partly or wholly on disk
+-- the last file holds its records (`HoldsChain`); `more` count as pending ones, as any part of them may be on disk
 abbrev pub HoldsMore : {R : Type 0} → Format R → LogFiles R → List (Written R) → File → Type 0
 HoldsMore F q more file = HoldsChain (F.IsFrame q.last q.header) (length q.header) q.stale q.durable
     (q.pending ++ more) file
 
--- The file is active: it has its header and its records, then the stale bytes from there on. It holds its records, and
--- the header is durable.
+-- The file is active: its content is its header, its records, and the stale bytes that these haven't overwritten. The
+-- header is durable, and what is synced and unsynced of the records is as `HoldsChain` says.
 pub record IsActive {R : Type 0} (F : Format R) (q : LogFiles R) (file : File) : Type 0 where
   pub chain : HoldsChain (F.IsFrame q.last q.header) (length q.header) q.stale q.durable q.pending file
   pub headed : HeaderStands q.header file
@@ -41,8 +41,8 @@ pub record IsNew {R : Type 0} (F : Format R) (q : LogFiles R) (file : File) : Ty
   pub chain : HoldsChain (F.IsFrame q.last q.header) (length q.header) q.stale [] [] file
   pub is : file.content ≡ q.stale
 
--- the file has its number and its header, followed by the stale bytes from there on; it holds no record, and the header
--- may not be synced yet
+-- The file has its number and its header, followed by the stale bytes that the header hasn't overwritten. It holds no
+-- record, and the header may not be synced yet.
 pub record IsHeaded {R : Type 0} (F : Format R) (q : LogFiles R) (file : File) : Type 0 where
   pub chain : HoldsChain (F.IsFrame q.last q.header) (length q.header) q.stale [] [] file
   pub is : file.content ≡ q.header ++ drop (length q.header) q.stale

@@ -1,5 +1,5 @@
--- What an attempt to reopen the last file of a queue leaves. The file is truncated after its last whole record, synced,
--- and continued there.
+-- What is on disk after an attempt to reopen the last file of a queue. The call truncates the file after its last whole
+-- record and syncs it; the writer continues there.
 use Rattle.std.specs.Prelude.{◌≡◌, ℕ, ◌⊎◌, false, Option, Some, None, List, [], unwrap_or}
 use Rattle.std.specs.declared.io.ErrorKind.{ErrorKind}
 use Rattle.raft_log_fs.specs.Disk.{Disk, at_rest, grown}
@@ -18,8 +18,8 @@ use Rattle.raft_log_active_file.specs.Reopening.{IsReadTo, reread}
 use Rattle.raft_log_active_file.specs.Exits.{BeginMakes, BeginsBy, IsOpen}
 use Rattle.raft_log_active_file.specs.Rotation.{StandsWithRecords}
 
--- The queue's files are on the disk as a stop left them. Its last file was read up to `end`, and the handle may write
--- it.
+-- The queue's files are on the disk `d` as a stop left them. Its last file was read up to `end`, and the handle may
+-- write this file.
 pub record IsLeftBehind {R : Type 0} (F : Format R) (own : List ℕ → Type 0) (base : Disk) (handle : Handle)
     (end : Option ℕ) (q : LogFiles R) (path : List ℕ) (N : Names) (d : Disk) : Type 0 where
   pub permitted : handle.permission ≡ ReadWrite
@@ -64,15 +64,16 @@ abbrev pub IsWhatItHeld : Handle → List ℕ → Disk → Type 0
 IsWhatItHeld handle stale d = HasFile handle.file (λ file. stale ≡ file.content) d
     ⊎ ((room : ℕ) × (stale ≡ grown room []))
 
--- The queue's files are on the disk. Its last file has all records that were read of it, and they are durable. The
--- file's header is its own, or, if it has none, the one that it gets.
+-- The queue's files are on the disk `new`. Its last file has all records that were read of it, and they are durable.
+-- The file's header is the one that it had on the disk `old`, or `header` if it had none.
 abbrev pub IsHalfOpen : {R : Type 0} → Format R → (List ℕ → Type 0) → Disk → Handle → Option ℕ → List ℕ
     → LogFiles R → Disk → Disk → Type 0
 IsHalfOpen F own base handle end header q old new = (front stale : List ℕ)
     × GoesOnBehind F handle end header old front × IsWhatItHeld handle stale old
     × StandsWithRecords F own base (reread front stale q) new
 
--- if the queue was as a stop left it, its last file was truncated after its records, or to nothing if it had no header
+-- If the queue was as a stop left it, its last file was truncated and synced as `IsTrimmed` says: after its records, or
+-- to nothing if it had no header.
 abbrev pub TrimsLeftover : {R : Type 0} → Format R → (List ℕ → Type 0) → Handle → Option ℕ → Disk → Disk
     → Type 0
 TrimsLeftover {R} F own handle end old new = (base : Disk) (q : LogFiles R) (path : List ℕ) (N : Names)

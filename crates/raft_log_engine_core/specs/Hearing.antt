@@ -50,14 +50,14 @@ HearsRefused b sync hears error v w old new =
     × ((mid : LogPipes) × HearsTaken b hears v mid old new × FailsToSyncQueue InAppend mid w))
 
 -- What listeners hear when a call deletes the entries of group `g` below `index`: the events of the record that deletes
--- them. If the group has no entries, they hear nothing.
+-- these entries. If the group has no entries, the listeners hear nothing.
 abbrev pub HearsCompact : {L : Type 0} → ℕ → ℕ → (Told → L → L → Type 0) → EngineState → EngineState → L → L → Type 0
 HearsCompact g index hears s t old new = ((entries_below (s.tables g) index ≡ None) × (new ≡ old))
     ⊎ ((entries_below (s.tables g) index ≡ None → ⊥)
     × ((b : Batch) × SaysCompact g index b × HearsRecord b hears s.pipes t.pipes old new))
 
--- After the events of a batch, the purge hook pins the same first file of each queue as before. The first file that it
--- couldn't list is also the same.
+-- After the events of a batch, the first file of each queue that the purge hook (`hook_of`) pins is the same as before.
+-- The premise is that the first file that the hook couldn't list (`missing`) is the same as before too.
 abbrev pub BatchesHoldNothingBack : {L : Type 0} → (Told → L → L → Type 0) → (L → ActiveFiles) → Type 0
 BatchesHoldNothingBack {L} hears hook_of = (b : Batch) (v w : LogPipes) (old new : L)
     → HearsTaken b hears v w old new → (hook_of new).missing ≡ (hook_of old).missing

@@ -50,30 +50,31 @@ ModelSyncs (Ok done) m pending next = next ≡ running (taken m pending) []
 ModelSyncs (Err errors.Failed) m pending next = next ≡ failed m pending
 ModelSyncs (Err error) m pending next = ⊥
 
--- A compaction writes its record, as a write without a sync does. If the group has no entry below the index, nothing
--- may be written.
+-- A compaction adds its record, and fails, as a write without a sync does. If the group has no entry below the index,
+-- the compaction may also add nothing.
 abbrev pub ModelCompacts : ℕ → ℕ → Result ℕ Error → Contents → List BatchRecord → ModelLog → Type 0
 ModelCompacts group index (Ok count) m pending next = Compacts m pending group index next
 ModelCompacts group index (Err errors.Failed) m pending next = FailsAt m pending (compacts group index) next
 ModelCompacts group index (Err error) m pending next = RunsOn m pending next
 
--- A purge makes all batches durable, and changes no contents. If it fails with `Failed`, the engine has failed, and
--- they may be durable or not.
+-- A purge makes all batches durable and changes no contents, also if it fails with another error than `Failed`. With
+-- `Failed`, the engine has failed, and the batches that were pending are all durable or all still pending.
 abbrev pub ModelPurges : {A : Type 0} → Result A Error → Contents → List BatchRecord → ModelLog → Type 0
 ModelPurges (Err errors.Failed) m pending next = (next ≡ failed m pending) ⊎ (next ≡ failed (taken m pending) [])
 ModelPurges result m pending next = next ≡ running (taken m pending) []
 
--- A read returns what the contents have after all batches; `is` says what that is. The log stays as it is.
+-- A read returns what the contents have after all batches; `is` says what that is. The log is unchanged, also if the
+-- read fails.
 abbrev pub ModelReads :
     {A : Type 0} → (Contents → A → Type 0) → Result A Error → Contents → List BatchRecord → ModelLog → Type 0
 ModelReads is (Ok value) m pending next = is (taken m pending) value × (next ≡ running m pending)
 ModelReads is (Err error) m pending next = next ≡ running m pending
 
--- the value of a group's key, or none
+-- `value` is the value of the group's key in the contents `m`, or none
 abbrev pub IsValueOf : ℕ → List ℕ → Contents → Option (Vec ℕ) → Type 0
 IsValueOf group key m value = m group (Key key) ≡ option_map Value (bytes_of value)
 
--- the value of a group's key, as a message, or none if the key has no value
+-- `message` is what the value of the group's key in the contents `m` encodes, or none if the key has no value
 abbrev pub IsMessageIn : {M : Type 0} → (List ℕ → Option M) → ℕ → List ℕ → Contents → Option M → Type 0
 IsMessageIn reading group key m message = (value : Option (List ℕ))
     × (m group (Key key) ≡ option_map Value value) × IsMessageOf reading value message
@@ -89,19 +90,20 @@ pub record FetchesMessages {M : Type 0} (reading : List ℕ → Option M) (group
   pub adds : new ≡ old ++ messages
   pub counts : count ≡ length messages
 
--- the keys of a group from `start` on, below `end`, and their values
+-- `pairs` are the keys of a group from `start` on, below `end`, and their values, in the contents `m`
 abbrev pub ArePairsOf : ℕ → Option (List ℕ) → Option (List ℕ) → Contents → Vec (List ℕ × List ℕ) → Type 0
 ArePairsOf group start end m pairs = Scans m group start end pairs.items
 
--- a scan called back with the keys of a group from `start` on, below `end`, and their values, in order or backwards,
--- until the callback returned false
+-- A scan called back with the keys of a group from `start` on, below `end`, and with their values. The calls were in
+-- the order of the keys, or backwards, and ended when the callback returned false.
 abbrev pub ScansInModel : {F : Type 0} → (F → List ℕ → List ℕ → Bool → F → Type 0) → F → ℕ → Option (List ℕ)
     → Option (List ℕ) → Bool → Contents → Unit {0} → Type 0
 ScansInModel called callback group start end backwards m done = (pairs : List (List ℕ × List ℕ))
     × Scans m group start end pairs × Visits called callback (in_direction backwards pairs)
 
--- A scan called back with the keys of a group from `start` on, below `end`, and with their values as messages, in order
--- or backwards, until the callback returned false. It skipped each key whose value is no message.
+-- A scan called back with the keys of a group from `start` on, below `end`, and with their values as messages. It
+-- skipped each key whose value is no message. The calls were in the order of the keys, or backwards, and ended when the
+-- callback returned false.
 abbrev pub ScansMessagesInModel : {F M : Type 0} → (List ℕ → Option M) → (F → List ℕ → M → Bool → F → Type 0) → F → ℕ
     → Option (List ℕ) → Option (List ℕ) → Bool → Contents → Unit {0} → Type 0
 ScansMessagesInModel reading called callback group start end backwards m done = (pairs : List (List ℕ × List ℕ))

@@ -48,13 +48,13 @@ pub record HasFirst (v : Shown) (begin end : ℕ) : Type 0 where
   pub low : v.first ≤ begin
   pub high : begin < v.first + length v.places
 
--- the locations of at most `count` entries of a table, from `index` on
+-- the locations of at most `count` entries of the table `v`, from `index` on
 abbrev pub entries_on : Shown → ℕ → ℕ → List EntryIndex
 entries_on v index count =
     entries_from v (index - v.first) (take count (drop (index - v.first) v.places))
 
--- `block` and `bounds` locate consecutive entries of a table, from `index` on. They are at least one and at most `left`
--- entries, all in that block.
+-- `block` and `bounds` locate consecutive entries of the table `v`, from `index` on. These are at least one and at most
+-- `left` entries, all in that block.
 pub record LieNext (v : Shown) (index left : ℕ) (block : FileBlockHandle) (bounds : Bounds) : Type 0 where
   pub count : ℕ
   pub len : length (bounds_of bounds) ≡ count + 1
@@ -69,7 +69,7 @@ abbrev pub AreNext : Shown → ℕ → ℕ → Option (FileBlockHandle × Bounds
 AreNext v index left None = left ≡ 0
 AreNext v index left (Some (block, bounds)) = LieNext v index left block bounds
 
--- `counts` is false for every group: no item of it came after its last `Clean`
+-- `counts` is false for every group: no item of any group came after the group's last `Clean`
 abbrev pub NoneCounts : (ℕ → Bool) → Type 0
 NoneCounts counts = (g : ℕ) → counts g ≡ false
 

@@ -1,4 +1,4 @@
--- The memory that is needed before a batch is written.
+-- The memory that a write of a batch needs before it begins, why a write fails, and what becomes of the batch.
 use Rattle.std.specs.Prelude.{◌≡◌, ◌⊎◌, ◌≤◌, ◌+◌, [], length, vec_capacity, vec_len}
 use Rattle.raft_log_record_base.specs.declared.errors.Error.{Error}
 use Rattle.raft_log_record_base.specs.declared.errors.Error.TheVariants as errors

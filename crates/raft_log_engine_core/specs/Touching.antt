@@ -1,4 +1,5 @@
--- What a write does to the files of a log; and calls that leave the purge's thresholds and counts unchanged.
+-- What a write does to the files of a log. Also what it means that a call leaves the purge's thresholds and counts
+-- unchanged.
 use Rattle.std.specs.Prelude.{◌≡◌, ◌⊎◌, ℕ, Bool, true, false, List, []}
 use Rattle.raft_log_record_base.specs.declared.errors.Error.{Error}
 use Rattle.raft_log_record_base.specs.declared.errors.Error.TheVariants as errors
@@ -32,14 +33,15 @@ PipeTakes signed block v w = PipeAppends InAppend signed block v w
 
 -- Append's pipe failed to append a record. Either the first try failed with an error other than `TryAgain`; or the
 -- first try found no space, and the second try failed. After `Io` or `TryAgain`, the bytes of the failed write were
--- truncated away, and the truncation was synced. `Io` has the kind of the failed file system call, which isn't lack of
--- space. `TryAgain` is lack of space, and the pipe has rotated.
+-- truncated away, and the truncation was synced. `Io` has the kind of the failed write, and the pipe hasn't rotated
+-- after it. `TryAgain` is lack of space, and the pipe has rotated.
 abbrev pub PipeRefuses : (LogFileContext → List ℕ) → Error → LogPipes → LogPipes → Type 0
 PipeRefuses signed error v w = ((SaysTryAgain error → ⊥) × PipeFailsToAppend InAppend signed error v w)
     ⊎ ((mid : LogPipes) × FindsNoSpace signed v mid × PipeFailsToAppend InAppend signed error mid w)
 
 -- The record of batch `b` was written to the queue Append, at the first try or the second. The pipe may have rotated
--- before either try. Nothing else was done to the files.
+-- before either try. If the first try found no space, its bytes were truncated away. Nothing else was done to the
+-- files.
 abbrev pub WritesRecord : Batch → LogPipes → LogPipes → Type 0
 WritesRecord b v w =
     (block : FileBlockHandle) × WritesAt (signed_for b) block v w × PipeTakes (signed_for b) block v w
@@ -48,7 +50,7 @@ WritesRecord b v w =
 abbrev pub RefusesBatch : Batch → Error → LogPipes → LogPipes → Type 0
 RefusesBatch b error v w = RefusesAt (signed_for b) error v w × PipeRefuses (signed_for b) error v w
 
--- the error is neither `Io` nor `TryAgain`, which say that a file system call failed
+-- the error is neither `Io` nor `TryAgain`, which say that a write was tried and failed
 abbrev pub TellsNoWrite : Error → Type 0
 TellsNoWrite (errors.Io kind) = ⊥
 TellsNoWrite (errors.TryAgain text) = ⊥

@@ -23,17 +23,17 @@ pub record TellsSpan (queue : LogQueue) (v : LogPipes) (first last : ℕ) : Type
   pub last_is : last ≡ (pipe_at (which_of queue) (files_of v)).active.seq
   pub exact : IsSpanOf (which_of queue) v first last
 
--- the sum of the intended sizes of both queues' files, but at most 2^64 - 1
+-- the size of both queues' files, if each has the target size, but at most 2^64 - 1
 abbrev pub used_size : LogPipes → ℕ
 used_size v = min (size_at InAppend v + size_at InRewrite v) (2 ^ 64 - 1)
 
--- both are none; or both are some, and the bytes parse as the message
+-- there is neither a value nor a message; or there are both, and the value's bytes parse as the message
 abbrev pub IsMessageOf : {M : Type 0} → (List ℕ → Option M) → Option (List ℕ) → Option M → Type 0
 IsMessageOf reading None None = Unit {0}
 IsMessageOf reading (Some bytes) (Some message) = reading bytes ≡ Some message
 IsMessageOf reading _ _ = ⊥
 
--- what a read of `key` of group `g` returns: the message as which its value parses, or none if the key has no value
+-- what a read of `key` of group `g` returns: the message that the key's value encodes, or none if the key has no value
 abbrev pub TellsMessage : {M : Type 0} → (List ℕ → Option M) → EngineState → ℕ → List ℕ → Option M → Type 0
 TellsMessage reading s g key message =
     (value : Option (List ℕ)) × ReadsValue s g key value × IsMessageOf reading value message

@@ -9,17 +9,17 @@ follows p q =
     (((p.file == q.file) && (p.offset == q.offset)) && (p.len == q.len))
     && (p.entry_offset + p.entry_len == q.entry_offset)
 
--- in the list of `p` and then `ps`, how many places don't begin where the place before them ends, in the same block
+-- how many of the places `ps` don't follow the place before them; the place before the first is `p`
 abbrev pub gaps : Place → List Place → ℕ
 gaps p [] = 0
 gaps p (q ∷ ps) = if follows p q then gaps q ps else suc (gaps q ps)
 
--- how many pieces the list splits into: each is as long as possible, and adjacent in one block
+-- how many pieces the list splits into, if each piece is as long as possible
 abbrev pub pieces : List Place → ℕ
 pieces [] = 0
 pieces (p ∷ ps) = suc (gaps p ps)
 
--- each place begins where the one before it ends, in the same block
+-- the list is one piece: each place follows the place before it (`follows`)
 abbrev pub AreOnePiece : List Place → Type 0
 AreOnePiece [] = Unit {0}
 AreOnePiece (p ∷ []) = Unit {0}
@@ -46,7 +46,7 @@ abbrev pub rising : ℕ → ℕ → ℕ → List ℕ
 rising x s zero = []
 rising x s (suc n) = x ∷ rising (x + s) s n
 
--- the adjacent places in the block of `b` that these bounds separate
+-- the adjacent places in the block of `b`, of which each begins at one of these offsets and ends at the next
 abbrev pub between : Place → List ℕ → List Place
 between b [] = []
 between b (x ∷ []) = []

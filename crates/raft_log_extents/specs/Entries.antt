@@ -10,8 +10,8 @@ use Rattle.raft_log_model_laws.specs.Item.Item.{Run}
 use Rattle.raft_log_extents.specs.declared.place.Place.{Place}
 use Rattle.raft_log_extents.specs.Blocks.{between}
 
--- The places of a table's entries. `runs` is the number of runs, and `starts` that of the starts, that store them.
--- `wanted` is how many more places, and `moves` how many replacements, are reserved in advance.
+-- The places of a table's entries. `runs` and `starts` are the numbers of runs and of starts that store them. `wanted`
+-- is for how many more places memory is reserved in advance, and `moves` for how many replacements.
 pub record PlaceList : Type 0 where
   pub items : List Place
   pub runs : ℕ
@@ -73,6 +73,7 @@ place_at block = record {
   entry_len = 0;
 }
 
--- the adjacent entries in `block` that these bounds separate; their indexes rise by one from `index`
+-- The adjacent entries in `block`, of which each begins at one of the offsets `bounds` and ends at the next. Their
+-- indexes rise by one from `index`.
 abbrev pub entries_between : FileBlockHandle → ℕ → List ℕ → List EntryIndex
 entries_between block index bounds = entries_of block.id.queue index (between (place_at block) bounds)

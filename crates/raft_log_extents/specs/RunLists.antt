@@ -9,10 +9,11 @@ use Rattle.raft_log_extents.specs.Runs.{expand}
 abbrev pub places : Runs → List Place
 places r = expand r.runs.items r.starts.items
 
--- the number of runs, and that of starts
+-- the number of runs
 abbrev pub run_total : Runs → ℕ
 run_total r = deque_len r.runs
 
+-- the number of starts
 abbrev pub start_total : Runs → ℕ
 start_total r = deque_len r.starts
 

@@ -1,7 +1,7 @@
--- Lists of runs, which encode the locations of entries. A run has consecutive entries of a group that are adjacent in
--- one block. If all these have one length, the run is even, and stores only the offset of its first entry. Otherwise a
--- second list, of starts, has the offset of each entry. Then a run has entries that are alone in their blocks: the list
--- of starts has the place of each of them, as eight numbers.
+-- Lists of runs, which encode the locations of a group's consecutive entries. The first entries of a run are adjacent
+-- in one block. If they have one length, the run is even, and stores only the offset of its first entry. Otherwise a
+-- second list, of starts, has the offset of each. The other entries of a run are each alone in a block: the list of
+-- starts has each one's place, as eight numbers.
 use Rattle.std.specs.Prelude.{◌≡◌, ℕ, ◌+◌, ◌-◌, ◌*◌, ◌<◌, ◌≤◌, ◌^◌, Bool, true, false, List, [], ◌∷◌, ◌++◌, if◌then◌else◌, nat_le, nat_lt, length, map, take, drop, slice_index_or}
 use Rattle.std.specs.Coded.{Unit-prop, le_prop, Coded-set, coded_ℕ}
 use Rattle.raft_log_record_items.specs.declared.entry.EntryIndex.{EntryIndex}
@@ -32,8 +32,8 @@ abbrev pub span : Run → ℕ → ℕ
 span r count =
     if nat_lt count r.count then width_of r.even count else width_of r.even r.count + (count - r.count) * 8
 
--- The places of the entries in the block of run `r`. If these have one length, their places follow from that;
--- otherwise `starts` begins with their offsets.
+-- The places of the entries in the block of run `r`. If these have one length, as the flag says, their places follow
+-- from it. Otherwise `starts` begins with their offsets.
 abbrev pub laid : Bool → Run → List ℕ → List Place
 laid true r starts = even_places (block r) r.size r.start r.count
 laid false r starts = uneven_places (block r) r.size (take r.count starts)
@@ -108,8 +108,8 @@ pub record IsSound (front base len : ℕ) (rs : List Run) (starts : List ℕ) : 
   pub fits : front + len < 2 ^ 64
   pub starts_fit : base + length starts < 2 ^ 64
 
--- The runs `more` and the starts `kept` were appended. They are numbered from `first` and `at`, and encode `len`
--- entries at the places `ps`.
+-- The runs `more` were appended to the runs `old`, and the starts `kept` to the starts `were`. They are numbered from
+-- `first` and `at`, and encode `len` entries at the places `ps`.
 pub record AreAdded (first at len : ℕ) (ps : List Place) (old new : List Run) (were starts : List ℕ) (more : List Run) (kept : List ℕ) : Type 0 where
   pub runs : new ≡ old ++ more
   pub starts_are : starts ≡ were ++ kept
@@ -131,10 +131,12 @@ abbrev pub starts_for : Bool → List EntryIndex → List ℕ
 starts_for true es = []
 starts_for false es = map start_of_entry es
 
+-- any two proofs of `StartsFit` are equal
 pub StartsFit-prop : (e : Bool) (r : Run) → IsProp (StartsFit e r)
 StartsFit-prop true r = Prim.hlevel le_prop
 StartsFit-prop false r = Unit-prop
 
+-- any two proofs of `IsNumbered` are equal
 pub IsNumbered-prop : (first at : ℕ) (rs : List Run) → IsProp (IsNumbered first at rs)
 IsNumbered-prop first at [] = Unit-prop
 IsNumbered-prop first at (r ∷ rs) =
@@ -145,6 +147,7 @@ IsNumbered-prop first at (r ∷ rs) =
     let two = numbers r.at at in
     Prim.hlevel (one, two, le_prop, fits, rest)
 
+-- any two proofs of `IsSound` are equal
 pub IsSound-prop : (front base len : ℕ) (rs : List Run) (starts : List ℕ) → IsProp (IsSound front base len rs starts)
 IsSound-prop front base len rs starts =
     let numbered = IsNumbered-prop front base rs in

@@ -4,8 +4,9 @@ use Rattle.raft_log_extents.specs.declared.run.Run.{Run}
 use Rattle.raft_log_extents.specs.declared.spot.Spot.{Spot}
 use Rattle.raft_log_extents.specs.Runs.{counts, total, width, widths}
 
--- The entry at `position` of runs with these starts is described by `s`: the position of its run among the runs, and
--- the run. It also has the number of starts stored before that run, and the number of entries before it in the run.
+-- `s` says where the entry at `position` is in the runs `rs`, which have these starts: `run` is the run that has the
+-- entry, and `at` is the number of runs before that one. `from` is the number of starts that are stored for these
+-- earlier runs. `within` is the number of entries before this one in its run.
 pub record IsSpot (rs : List Run) (starts : List ℕ) (position : ℕ) (s : Spot) : Type 0 where
   pub there : s.at < length rs
   pub run_is : s.run ≡ slice_index_or rs s.at s.run

@@ -50,16 +50,17 @@ unknown_version n = codes "unrecognized log file version: " ++ decimal n
 abbrev pub missing_payload : List ℕ
 missing_payload = codes "missing header payload"
 
--- reads the magic bytes
+-- reads the magic bytes; any other bytes are a corruption
 unfoldable pub magic_at : Reader (Unit {0}) Fault
 magic_at bytes = if starts_with nat_eq bytes magic then Ok (tt, drop (length magic) bytes)
     else Err (corrupt magic_mismatch)
 
--- the version with this number
+-- the version with this number, or a fault if there is none
 abbrev pub version_of : ℕ → Result Version Fault
 version_of n = if n == 1 then Ok V1 else (if n == 2 then Ok V2 else Err (corrupt (unknown_version n)))
 
--- reads a version: a number that is cut off fails like any cut-off number, and one that is no version's is a corruption
+-- Reads a version. If there are fewer than eight bytes, it fails as the reading of any number does. A number of no
+-- version is a corruption.
 unfoldable pub version_at : Reader Version Fault
 version_at bytes = do
   number ← lifted (high_first_at w64 bytes)
@@ -84,7 +85,8 @@ abbrev pub payload_bytes : Version → ℕ → List ℕ
 payload_bytes V1 alignment = []
 payload_bytes V2 alignment = u64_bytes alignment
 
--- the bytes of a format's header; a version 1 format with an alignment has none, but this gives bytes for it too
+-- The bytes of a format's header. A format of version 1 with an alignment has no header; for it, these bytes leave out
+-- the alignment.
 unfoldable pub header_bytes : LogFileFormat → List ℕ
 header_bytes format =
     magic ++ (u64_bytes (version_number format.version) ++ payload_bytes format.version format.alignment)
@@ -93,7 +95,7 @@ header_bytes format =
 abbrev pub no_alignment : List ℕ
 no_alignment = codes "a log file of the first version has no alignment"
 
--- the error for a version 1 format that has an alignment, or out of memory
+-- the error says that a version 1 format has an alignment, or that memory ran out
 abbrev pub SaysNoAlignment : Error → Type 0
 SaysNoAlignment (errors.InvalidArgument text) = string_bytes text ≡ no_alignment
 SaysNoAlignment errors.Memory = Unit {0}

@@ -45,7 +45,7 @@ abbrev pub name_limit : Bool → ℕ
 name_limit true = 10 ^ 15
 name_limit false = 10 ^ 16
 
--- the number in a name; with `true` it has a plus sign, if fifteen digits are enough for it
+-- the text of a number in a name: with `true` it has a plus sign, if fifteen digits are enough for the number
 abbrev pub number_text : Bool → ℕ → List ℕ
 number_text true n = cond (nat_lt n (10 ^ 15)) (signed_digits n) (sixteen_digits n)
 number_text false n = sixteen_digits n

@@ -1,4 +1,4 @@
--- Zeros between records.
+-- What a reader takes for padding between records.
 use Rattle.std.specs.Prelude.{◌≡◌, ℕ, ◌-◌, List, length, ◌⊎◌, slice_index}
 
 -- there are no bytes, or the first and the last one are 0; the bytes between them may have any value

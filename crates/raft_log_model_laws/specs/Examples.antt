@@ -96,11 +96,12 @@ append_from_4 = Run 3 (3 ∷ 4 ∷ 5 ∷ []) ∷ Put voter 2 ∷ append_from_5
 abbrev pub four_and_five : List (Option (Content ℕ ℕ))
 four_and_five = None ∷ None ∷ None ∷ None ∷ Some (Entry 4) ∷ Some (Entry 105) ∷ None ∷ []
 
--- Rewrite of a directory whose Append starts past it and comes back later: entry 6
+-- Rewrite of a directory: entry 6. What is left of its Append (`eight_then_seven`) starts past the end of Rewrite, and
+-- then continues right after it.
 abbrev pub six : List (Item ℕ ℕ)
 six = Run 6 (6 ∷ []) ∷ []
 
--- what is left of this directory's Append: entries 8 to 11, then an entry 7 that replaces them
+-- Append of this directory: entries 8 to 11, and then an entry 7 that replaces them
 abbrev pub eight_then_seven : List (Item ℕ ℕ)
 eight_then_seven = Run 8 (upward 8 4) ∷ Run 7 (7 ∷ []) ∷ []
 
@@ -124,11 +125,11 @@ first_part = Part (Begin 1) (of 1 (Run 1 (1 ∷ 2 ∷ [])) ∷ []) ∷ []
 abbrev pub second_part : List (Record ℕ ℕ)
 second_part = Part (End 1) (of 1 (Run 3 (3 ∷ 4 ∷ [])) ∷ []) ∷ []
 
--- a record with entries 1 to 4
+-- a file of Rewrite with one record, which has entries 1 to 4
 abbrev pub old_file : List (Record ℕ ℕ)
 old_file = Plain (of 1 (Run 1 (1 ∷ 2 ∷ 3 ∷ 4 ∷ [])) ∷ []) ∷ []
 
--- a record with entries 1 and 2, written again
+-- a record with entries 1 and 2, written again without an atomic group
 abbrev pub half : List (Record ℕ ℕ)
 half = Plain (of 1 (Run 1 (1 ∷ 2 ∷ [])) ∷ []) ∷ []
 

@@ -64,13 +64,14 @@ unfinished_after us (r ∷ rs) = unfinished_after (next_unfinished us r) rs
 abbrev pub unfinished : {E V : Type 0} → List (Record E V) → List (Unfinished E V)
 unfinished rs = unfinished_after [] rs
 
--- the items that count if the next segment does this with an unfinished group, whose items so far are `xs`
+-- which items of an unfinished group begin to count in the next segment; `xs` are the group's items so far, and the
+-- `Head` says what the segment does with the group
 abbrev pub finish : {E V : Type 0} → List (Tagged E V) → Head E V → List (Tagged E V)
 finish xs (GoesOn ys) = []
 finish xs (Ends ys) = xs ++ ys
 finish xs BeginsAnew = []
 
--- unfinished group `n` after the next segment, with its items so far; none if it isn't unfinished any more
+-- unfinished group `n` after the next segment, with its items so far; none if the segment ends it or begins it anew
 abbrev pub go_on : {E V : Type 0} → ℕ → List (Tagged E V) → Head E V → List (Unfinished E V)
 go_on n xs (GoesOn ys) = record { number = n; items = xs ++ ys } ∷ []
 go_on n xs (Ends ys) = []
@@ -97,8 +98,8 @@ pub record Segment (E V : Type 0) : Type 0 where
 abbrev pub segment : {E V : Type 0} → List (Record E V) → Segment E V
 segment rs = record { counted = settled rs; heads = λ n. head n [] rs; left_open = unfinished rs }
 
--- The summary of two consecutive segments. First come the items of the earlier one, then those of groups that the
--- later one ends, then the later one's own.
+-- The summary of two consecutive segments, `a` and then `b`. First the items of `a` count, then those of groups that
+-- `a` leaves unfinished and `b` ends, then those of `b`.
 abbrev pub merge : {E V : Type 0} → Segment E V → Segment E V → Segment E V
 merge a b = record {
   counted = a.counted ++ (completed a.left_open b.heads ++ b.counted);
@@ -106,8 +107,8 @@ merge a b = record {
   left_open = carried_on a.left_open b.heads ++ b.left_open;
 }
 
--- The two summaries have the same items for each raft group, do the same with each open atomic group, and leave the
--- same ones unfinished.
+-- In the two summaries the same items count for each raft group. They do the same with each atomic group that is open
+-- before the segment, and leave the same atomic groups unfinished.
 pub record IsSameSegment {E V : Type 0} (a b : Segment E V) : Type 0 where
   pub counted : (g : ℕ) → of_group g a.counted ≡ of_group g b.counted
   pub heads : (n : ℕ) → a.heads n ≡ b.heads n

@@ -32,8 +32,8 @@ abbrev pub onto : {E V : Type 0} → Option (List (Tagged E V)) → List (Tagged
 onto None ys = None
 onto (Some xs) ys = Some (xs ++ ys)
 
--- The items that begin to count with this record. The items of a plain record count at once. Those of an atomic group
--- count, all together, at the record that ends it, if the group was open.
+-- The items that begin to count with this record, if the atomic groups `o` are open before it. The items of a plain
+-- record count at once. All items of an open atomic group count at the record that ends it.
 abbrev pub counts : {E V : Type 0} → Open E V → Record E V → List (Tagged E V)
 counts o (Plain xs) = xs
 counts o (Part (Begin n) xs) = []
@@ -47,18 +47,19 @@ opens o (Part (Begin n) xs) = set_open o n (Some xs)
 opens o (Part (Middle n) xs) = set_open o n (onto (o n) xs)
 opens o (Part (End n) xs) = set_open o n None
 
--- the items that count in these records, in the order in which they start to count; `o` is open before them
+-- the items that count in these records, in the order in which they start to count; the atomic groups `o` are open
+-- before the records
 abbrev pub settle : {E V : Type 0} → Open E V → List (Record E V) → List (Tagged E V)
 settle o [] = []
 settle o (r ∷ rs) = counts o r ++ settle (opens o r) rs
 
--- the open atomic groups after these records; `o` is open before them
+-- the open atomic groups after these records, if `o` are open before them
 abbrev pub opened : {E V : Type 0} → Open E V → List (Record E V) → Open E V
 opened o [] = o
 opened o (r ∷ rs) = opened (opens o r) rs
 
--- The items that count in these records of Rewrite. An atomic group counts at its end. It doesn't count without a
--- begin or an end, or if another one of its number begins in between.
+-- The items that count in these records of Rewrite. An atomic group counts at its end. It doesn't count if its begin or
+-- its end is missing, or if another atomic group of its number begins before it ends.
 abbrev pub settled : {E V : Type 0} → List (Record E V) → List (Tagged E V)
 settled rs = settle none_open rs
 

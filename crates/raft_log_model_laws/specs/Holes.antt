@@ -8,8 +8,9 @@ use Rattle.raft_log_model_laws.specs.Meaning.{Slot, Content, write, holds}
 use Rattle.raft_log_model_laws.specs.Meaning.Slot.{Index}
 use Rattle.raft_log_model_laws.specs.Meaning.Content.{Entry}
 
--- The current run of a list of items, which are its consecutive entries: its first index, and the index after its
--- last. It is empty if `end` isn't above `first`.
+-- The current run of a list of items: the consecutive entries that the list leaves, if a run past the end drops all
+-- earlier ones. `first` is the first one's index, and `end` the index after the last one. The run is empty if `end`
+-- isn't above `first`.
 pub record Window : Type 0 where
   pub first : ℕ
   pub end : ℕ
@@ -23,7 +24,7 @@ abbrev pub is_past : Window → ℕ → Bool
 is_past w f = nat_lt w.first w.end && nat_lt w.end f
 
 -- The current run after one more item. A run of entries that starts inside the current run or at its end continues it;
--- any other replaces it.
+-- any other run of entries replaces it. A Clean empties it, and a Compact raises its first index.
 abbrev pub next_window : {E V : Type 0} → Window → Item E V → Window
 next_window w (Run f []) = w
 next_window w (Run f (e ∷ es)) =
@@ -38,8 +39,8 @@ abbrev pub window : {E V : Type 0} → Window → List (Item E V) → Window
 window w [] = w
 window w (x ∷ xs) = window (next_window w x) xs
 
--- What one item does to a slot, if the current run before it is `w`. A run of entries past the end of `w` also empties
--- all lower indexes.
+-- What one item does to a slot, if the current run before it is `w`. A run of entries that starts past the end of `w`
+-- also empties all lower indexes.
 abbrev pub write_past : {E V : Type 0} → Window → Slot → Item E V → Option (Option (Content E V))
 write_past w (Index i) (Run f []) = None
 write_past w (Index i) (Run f (e ∷ es)) =
@@ -56,7 +57,7 @@ says_past w s (x ∷ xs) = option_or (says_past (next_window w x) s xs) (write_p
 abbrev pub holds_past : {E V : Type 0} → Slot → List (Item E V) → Option (Content E V)
 holds_past s xs = unwrap_or (says_past nothing s xs) None
 
--- `m` has an entry at each index from `first` to below `end`, and nothing at any other
+-- `m` has an entry at each index from `first` to below `end`, and nothing at any other index
 pub record Spans {E V : Type 0} (first end : ℕ) (m : ℕ → Option (Content E V)) : Type 0 where
   pub stands : (i : ℕ) → first ≤ i → i < end → (e : E) × (m i ≡ Some (Entry e))
   pub none_below : (i : ℕ) → i < first → m i ≡ None
@@ -110,7 +111,8 @@ is_below i (Some b) = nat_lt i b
 abbrev pub is_silent : {E V : Type 0} → List (Item E V) → ℕ → Bool
 is_silent xs i = not (has_clean xs) && (nat_le (low xs) i && is_below i (high xs))
 
--- Append's items keep some of Rewrite's current run `w`, and what they keep ends below Append's first entry.
+-- Append's items keep some entries of Rewrite's current run `w`, and Append's own current run starts past the end of
+-- what they keep. A Clean among the items isn't considered here.
 abbrev pub has_gap : {E V : Type 0} → Window → List (Item E V) → Bool
 has_gap w append =
     nat_lt (max w.first (low append)) (least w.end (high append))

@@ -16,8 +16,8 @@ pub data Content (E V : Type 0) : Type 0 where
   Value : V → Content E V
 
 -- What one item does to a slot. `None`: it doesn't touch the slot. `Some None`: it empties the slot. `Some (Some x)`:
--- it puts `x` there. A run touches each index from its first on, so it empties those past its last. A run without
--- entries touches nothing.
+-- it puts `x` there. A run with entries touches each index from its first on, so it empties those past its last entry.
+-- A run without entries touches nothing.
 abbrev pub write : {E V : Type 0} → Slot → Item E V → Option (Option (Content E V))
 write (Index i) (Run f []) = None
 write (Index i) (Run f (e ∷ es)) =

@@ -1,4 +1,4 @@
--- What is in a slot, defined by a proof instead of a computation: the last item that touches the slot puts it there.
+-- What is in a slot, as a relation instead of a function: the last item that touches the slot puts it there.
 use Rattle.std.specs.Prelude.{◌-◌, ◌≡◌, ◌<◌, ◌≤◌, List, [], ◌∷◌, ◌++◌, Some, slice_get, ⊤}
 use Rattle.raft_log_model_laws.specs.Item.{Item}
 use Rattle.raft_log_model_laws.specs.Item.Item.{Run, Clean, Compact, Put, Del}
@@ -6,8 +6,8 @@ use Rattle.raft_log_model_laws.specs.Meaning.{Slot, Content}
 use Rattle.raft_log_model_laws.specs.Meaning.Slot.{Index, Key}
 use Rattle.raft_log_model_laws.specs.Meaning.Content.{Entry, Value}
 
--- The item touches the slot. A run touches each index from its first on, a Compact each one below it, and a Clean all
--- slots of the group. A Put and a Del touch their key.
+-- The item touches the slot. A run with entries touches each index from its first on. A Compact touches each index
+-- below its own, and a Clean all slots of the group. A Put and a Del touch their key.
 abbrev pub Speaks : {E V : Type 0} → Slot → Item E V → Type 0
 Speaks (Index i) (Run f []) = ⊥
 Speaks (Index i) (Run f (e ∷ es)) = f ≤ i
@@ -21,7 +21,8 @@ Speaks (Key k) (Compact c) = ⊥
 Speaks (Key k) (Put l v) = l ≡ k
 Speaks (Key k) (Del l) = l ≡ k
 
--- the item puts this content into the slot: a run an entry at one of its indexes, or a Put the value of its key
+-- the item puts this content into the slot: it is a run that has the entry at this index, or a Put of the value under
+-- this key
 abbrev pub Gives : {E V : Type 0} → Slot → Content E V → Item E V → Type 0
 Gives (Index i) (Entry e) (Run f es) = (f ≤ i) × (slice_get es (i - f) ≡ Some e)
 Gives (Index i) (Entry e) x = ⊥

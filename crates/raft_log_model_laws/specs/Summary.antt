@@ -25,7 +25,7 @@ pub record Summary (E V : Type 0) : Type 0 where
 abbrev pub no_summary : {E V : Type 0} → Summary E V
 no_summary = record { table = no_table; cleaned = false; low = 0; high = None; deleted = λ k. false }
 
--- the summary after one more item
+-- the summary after one more item, which must not be a run that starts past the end of the table's entries
 abbrev pub step : {E V : Type 0} → Summary E V → Item E V → Summary E V
 step z (Run f []) = z
 step z (Run f (e ∷ es)) = record z { table = run_onto z.table f (e ∷ es); high = Some (least f z.high) }
@@ -90,7 +90,7 @@ abbrev pub join_all : {E V : Type 0} → Bracketing (Item E V) → Summary E V
 join_all (One xs) = summary xs
 join_all (Both s t) = join (join_all s) (join_all t)
 
--- if the summary's table has entries, the first one's index is at or above the lowest start of a run
+-- if the summary's table has entries, the summary has a `high`, and the first entry's index isn't below it
 abbrev pub IsSummarySound : {E V : Type 0} → Summary E V → Type 0
 IsSummarySound z = 0 < length z.table.entries → is_below z.table.first z.high ≡ false
 
@@ -99,8 +99,8 @@ pub record IsSummary {E V : Type 0} (z : Summary E V) (xs : List (Item E V)) : T
   pub sound : IsSummarySound z
   pub says : (s : Slot) → word z s ≡ says s xs
 
--- A directory's entries, from Rewrite's table and the summary of Append's items. If Append's entries start past the
--- end of what Rewrite keeps, only Append's count.
+-- A directory's entries, from Rewrite's table `t` and the summary `z` of Append's items. If Append's entries start past
+-- the end of what is left of Rewrite's, only Append's count.
 abbrev pub directory_entries : {E V : Type 0} → Table E V → Summary E V → Table E V
 directory_entries t z =
     if z.cleaned then z.table

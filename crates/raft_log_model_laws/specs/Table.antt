@@ -39,7 +39,8 @@ abbrev pub cut_from : {E V : Type 0} → Table E V → Option ℕ → Table E V
 cut_from t None = t
 cut_from t (Some h) = record t { entries = take (h - t.first) t.entries }
 
--- the table after a run `es` that starts at index `f`: it replaces all entries from there on
+-- the table after a run `es` from index `f` on, which replaces all entries from there on; `f` must not be past the end
+-- of the table's entries
 abbrev pub run_onto : {E V : Type 0} → Table E V → ℕ → List E → Table E V
 run_onto t f es = record t {
   first = if nat_lt t.first f && nat_lt 0 (length t.entries) then t.first else f;
@@ -54,7 +55,7 @@ put t k v = record t { values = λ j. if bytes_eq k j then Some v else t.values 
 abbrev pub delete : {E V : Type 0} → Table E V → List ℕ → Table E V
 delete t k = record t { values = λ j. if bytes_eq k j then None else t.values j }
 
--- the table after one more item
+-- the table after one more item, which must not be a run that starts past the end of the table's entries
 abbrev pub table_step : {E V : Type 0} → Table E V → Item E V → Table E V
 table_step t (Run f []) = t
 table_step t (Run f (e ∷ es)) = run_onto t f (e ∷ es)
@@ -63,7 +64,7 @@ table_step t (Compact c) = compacted t c
 table_step t (Put k v) = put t k v
 table_step t (Del k) = delete t k
 
--- the table after more items
+-- the table after more items, none of which leaves a hole
 abbrev pub table_after : {E V : Type 0} → Table E V → List (Item E V) → Table E V
 table_after t [] = t
 table_after t (x ∷ xs) = table_after (table_step t x) xs

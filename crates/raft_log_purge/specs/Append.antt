@@ -1,5 +1,5 @@
--- A rewrite of Append: all that groups have there, up to a file, is copied to Rewrite, and then the files leave
--- Append's live range.
+-- A rewrite of Append: all that groups have in its files up to the gate is copied to Rewrite, and then these files
+-- leave Append's live range.
 use Rattle.std.specs.Prelude.{◌≡◌, ◌⊎◌, ◌↔◌, ◌<◌, ◌==◌, IsTrue, ℕ, suc, min, max, Bool, true, false, List, [], Option, Some, None, MatchBool}
 use Rattle.std.specs.List.{list_any}
 use Rattle.raft_log_model_laws.specs.Groups.{taken}
@@ -50,13 +50,13 @@ pub record PassesGate (watermark : Option ℕ) (gate : ℕ) (v w : LogPipes) : T
 
 -- All groups.
 
--- the tables show nothing in files of Append up to the gate
+-- by the tables, no group has an entry or value in files of Append up to the gate
 abbrev pub AreRewrittenTo : ℕ → EngineState → Type 0
 AreRewrittenTo gate s = (g : ℕ) → IsRewrittenTo gate (s.tables g)
 
--- Each group that passes the test was rewritten up to the gate. Rewrite was synced at the end, and before whenever the
--- count of unsynced bytes over all these groups required it. If no tombstone was owed and no batch pending, the log
--- has the same contents, and nothing is pending in either queue.
+-- Each group that passes the test was rewritten up to the gate. Rewrite was synced at the end. It was also synced
+-- before a record whenever 512 KiB or more had been written since the last sync. If no tombstone was owed and no batch
+-- pending, the log has the same contents, and nothing is pending in either queue.
 pub record RewritesSynced (test : ℕ → Bool) (gate : ℕ) (s t : EngineState) : Type 0 where
   pub copied : EngineState
   pub copies : Rewrites test gate s copied
@@ -85,8 +85,8 @@ beginning gate least v = max (first_at InAppend v) (max (suc gate) least)
 
 -- Files left Append's live range. `least` is the lowest file in which a group has an entry or value, or the active file
 -- if that is lower. If nothing was pending:
--- - `begins`: the live range begins after the gate now, or at `least` or where it began, if that is later.
--- - `keeps`: the log keeps its contents, if the groups have nothing in files up to the gate and no tombstone is owed.
+-- - `begins`: the live range begins at the latest of three files: the one after the gate, `least`, and where it began.
+-- - `keeps`: the log keeps its contents, if no group has anything in files up to the gate and no tombstone is owed.
 pub record LosesTo (gate : ℕ) (m : MemTables) (s t : EngineState) : Type 0 where
   pub least : ℕ
   pub is : IsLeastOf Append (last_of InAppend s.pipes) m least
@@ -116,15 +116,15 @@ abbrev pub RewritesAndLoses : ℕ → MemTables → EngineState → EngineState 
 RewritesAndLoses gate m s t = (mid : EngineState) × RewritesAll gate s mid × LosesTo gate m mid t
 
 -- What is done after the owed tombstones were written:
--- - nothing, if the rewrite is to end after this step 1
--- - else all groups are rewritten
+-- - nothing, if the rewrite is to end after step 1, which is the writing of the tombstones
+-- - else all groups are rewritten, which is step 2
 -- - then files leave Append's live range, unless the rewrite is to end after step 2
 abbrev pub GoesOnBehindMarks : Option ℕ → ℕ → MemTables → EngineState → EngineState → Type 0
 GoesOnBehindMarks exit gate m s t = MatchBool (ends_after 1 exit) (t ≡ s)
     (MatchBool (ends_after 2 exit) (RewritesAll gate s t) (RewritesAndLoses gate m s t))
 
 -- Append was rewritten. It was synced, rotated if its active file was the gate, and the owed tombstones were written.
--- Then all groups were rewritten and files left the live range, as far as the steps were requested. The log has the
+-- Then all groups were rewritten and files left the live range, unless `exit` requested an earlier end. The log has the
 -- same contents, nothing is pending, and no tombstone is owed. If no watermark and no last step was requested, Append
 -- has one file left.
 pub record RewritesAppend (watermark exit : Option ℕ) (m : MemTables) (s t : EngineState) : Type 0 where
@@ -146,15 +146,15 @@ pub record RewritesAppend (watermark exit : Option ℕ) (m : MemTables) (s t : E
 
 -- Failures.
 
--- A step failed. If no tombstone was owed and nothing pending, the log has the same contents. If the engine has
--- failed, its files can be opened with them.
+-- A step failed. Let no tombstone be owed and nothing pending before it. Then the log still has the same contents, or
+-- the engine has failed and its files can be opened with these contents.
 abbrev pub StaysOrIsLeftSettled : Error → EngineState → EngineState → Type 0
 StaysOrIsLeftSettled error s t = OweNothing s.tables → (home : LogDirectories) (m : LogMap) → HoldsSettled home s m
     → Represents home t m [] ⊎ ((error ≡ errors.Failed) × IsRecoverableAs home t.pipes.disk m [])
 
--- Append's files up to the gate failed to leave the live range. If groups had nothing in them, no tombstone was owed
--- and nothing pending, the log has the same contents. If the engine has failed, its files can be opened with them. The
--- reason for the error is known if the gate is before Append's active file.
+-- Taking Append's files up to the gate out of the live range failed.
+-- - `remains`: if no group had anything in these files, the contents are kept as `StaysOrIsLeftSettled` says.
+-- - `cause`: if the gate was before Append's active file and nothing was pending, the error says why.
 pub record FailsToLoseTo (gate : ℕ) (error : Error) (s t : EngineState) : Type 0 where
   pub tells : has_failed s ≡ false → IsTrue (has_failed t) ↔ (error ≡ errors.Failed)
   pub later : IsLater s.pipes.disk t.pipes.disk
@@ -162,9 +162,9 @@ pub record FailsToLoseTo (gate : ℕ) (error : Error) (s t : EngineState) : Type
   pub cause : gate < last_of InAppend s.pipes → (home : LogDirectories) (log : LogMap) → HoldsSettled home s log
       → HasFileReason error s t
 
--- A step after the owed tombstones failed. If no tombstone was owed and nothing pending, the log has the same
--- contents. If the engine has failed, its files can be opened with them. The reason for the error is known if also the
--- gate is before Append's active file.
+-- A step after the owed tombstones were written failed.
+-- - `remains`: the contents are kept as `StaysOrIsLeftSettled` says.
+-- - `cause`: if the gate was before Append's active file, no tombstone owed and nothing pending, the error says why.
 pub record StopsGoingOn (gate : ℕ) (error : Error) (s t : EngineState) : Type 0 where
   pub tells : has_failed s ≡ false → IsTrue (has_failed t) ↔ (error ≡ errors.Failed)
   pub later : IsLater s.pipes.disk t.pipes.disk
@@ -172,10 +172,10 @@ pub record StopsGoingOn (gate : ℕ) (error : Error) (s t : EngineState) : Type 
   pub cause : gate < last_of InAppend s.pipes → OweNothing s.tables → (home : LogDirectories) (log : LogMap)
       → HoldsSettled home s log → HasReason home log error s t
 
--- A rewrite of Append failed, and the error says why:
--- - the log has the same contents, with no batch pending
--- - or the engine has failed, and its files can be opened, with the batches that were pending now durable or still
---   pending
+-- A rewrite of Append failed, and the error says why. One of two is so:
+-- - The log has the same contents, and no batch is pending any more.
+-- - The engine has failed, and its files can be opened with these contents. The batches that were pending are durable
+--   or still pending.
 pub record FailsToRewriteAppend (error : Error) (s t : EngineState) : Type 0 where
   pub tells : has_failed s ≡ false → IsTrue (has_failed t) ↔ (error ≡ errors.Failed)
   pub later : IsLater s.pipes.disk t.pipes.disk

@@ -10,8 +10,8 @@ use Rattle.raft_log_purge.specs.Counting.{CountsIf, CountsStanding}
 use Rattle.raft_log_purge.specs.ExpiredFiles.{KeepsCounts, PurgesExpired, StopsAtRewrite}
 use Rattle.raft_log_purge.specs.declared.expired_files.PurgeCounts.{PurgeCounts}
 
--- Expired files were purged, and `groups` are returned. If a queue was past its threshold, what is live in Rewrite was
--- counted before the purge and after it; else it wasn't. The rules for garbage use the counts from before the purge.
+-- Expired files were purged, and `groups` are returned. If a queue was past its threshold (`past`), what is live in
+-- Rewrite was counted before the purge and after it; else it wasn't. The purge begins with the counts `counted`.
 pub record PurgesAndCounts (hold_back : LogPipes → Option ℕ → Type 0) (thresholds : Thresholds)
     (before after : MemTables) (old new : PurgeCounts) (groups : List ℕ) (s t : EngineState) : Type 0 where
   pub past : Bool

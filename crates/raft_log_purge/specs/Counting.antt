@@ -8,8 +8,8 @@ use Rattle.raft_log_memtables.specs.Walking.{Stand}
 use Rattle.raft_log_memtables.specs.declared.mem_tables.MemTables.{MemTables}
 use Rattle.raft_log_purge.specs.declared.expired_files.PurgeCounts.{PurgeCounts}
 
--- The counts if `n` entries and values are live in Rewrite. If more are live than was counted, the difference was
--- written; if fewer, the difference is garbage.
+-- The counts if `n` entries and values are live in Rewrite. If more are live than were counted as live, the difference
+-- counts as written; if fewer, the difference counts as garbage.
 abbrev pub counted : ℕ → GlobalStats → GlobalStats
 counted n s = deleted Rewrite (live Rewrite s - n) (added Rewrite (n - live Rewrite s) s)
 

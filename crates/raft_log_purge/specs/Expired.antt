@@ -30,7 +30,7 @@ use Rattle.raft_log_purge.specs.Append.{RewritesSynced, StaysOrIsLeftSettled, up
 
 -- The groups.
 
--- each group's count of purges in a row that asked for it was updated by one more purge
+-- each group's count of purges in a row that asked for it was updated for one more purge (`round_behind`)
 abbrev pub CountsRound : Watermarks → MemTables → Rounds → Rounds → Type 0
 CountsRound marks m old new =
     (g : ℕ) → count_of new g ≡ round_behind (asks_at marks m g) (count_of old g)
@@ -50,9 +50,9 @@ pub record PicksGroups (marks : Watermarks) (restated : Bool) (m : MemTables) (o
 
 -- Append's files.
 
--- If nothing was pending, Append's live range begins at `least` now, or where it began if that is later. `least` is
--- the lowest of three: the first pinned file, the active file, and the first file in which a group has an entry or
--- value. The log then keeps its contents, if no tombstone is owed.
+-- Files left Append's live range. `least` is the lowest of three: the first pinned file (`held`), the active file, and
+-- the first file in which a group has an entry or value. If nothing was pending, the live range begins at `least` now,
+-- or where it began if that is later. If also no tombstone is owed, the log keeps its contents.
 pub record LosesBelow (held : Option ℕ) (m : MemTables) (s t : EngineState) : Type 0 where
   pub least : ℕ
   pub is : IsLeastOf Append (up_to held (last_of InAppend s.pipes)) m least
@@ -65,8 +65,8 @@ pub record LosesBelow (held : Option ℕ) (m : MemTables) (s t : EngineState) : 
   pub keeps : OweNothing s.tables → (home : LogDirectories) (log : LogMap) → HoldsSettled home s log
       → HoldsSettled home t log
 
--- Append's files failed to leave the live range, and the error says why. If no tombstone was owed and nothing pending,
--- the log has the same contents. If the engine has failed, its files can be opened with them.
+-- Taking files out of Append's live range failed. If nothing was pending, the error says why. If also no tombstone was
+-- owed, the log has the same contents, or the engine has failed and its files can be opened with them.
 pub record FailsToLoseBelow (error : Error) (s t : EngineState) : Type 0 where
   pub tells : has_failed s ≡ false → IsTrue (has_failed t) ↔ (error ≡ errors.Failed)
   pub later : IsLater s.pipes.disk t.pipes.disk
@@ -120,7 +120,8 @@ pub record PurgesAppend (held : Option ℕ) (restated : Bool) (before after : Me
   pub rewrites : RewritesPicked (rewrites_at (watermarks_of s.pipes) (count_of old) before)
       (watermarks_of s.pipes).rewrite held after freed t
 
--- nothing was done to Append: no group is asked to be compacted, and the counts are unchanged
+-- Nothing was done to Append, and the counts are unchanged. `groups` are those that have more than 32 entries in
+-- Rewrite, if Rewrite was rewritten (`restated`); else there are none.
 pub record LeavesAppend (restated : Bool) (before : MemTables) (old new : Rounds) (groups : List ℕ)
     (s t : EngineState) : Type 0 where
   pub answered : ListsGroups (answers_at None restated before) groups

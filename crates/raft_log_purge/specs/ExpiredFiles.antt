@@ -1,4 +1,5 @@
--- A purge of both queues: each is collected if its files are together larger than its threshold.
+-- A purge of both queues: each is collected if its files are together larger than its threshold, Rewrite only if also
+-- enough of it is garbage.
 use Rattle.std.specs.Prelude.{◌≡◌, ◌⊎◌, ℕ, Bool, true, false, List, [], Option}
 use Rattle.raft_log_model_laws.specs.Groups.{taken}
 use Rattle.raft_log_fs.specs.Causes.{IsLater}
@@ -20,8 +21,8 @@ use Rattle.raft_log_purge.specs.Append.{FailsToRewriteAppend}
 use Rattle.raft_log_purge.specs.Expired.{PurgesIfPast}
 use Rattle.raft_log_purge.specs.Garbage.{CountsRefused}
 
--- Rewrite was rewritten exactly if it is past its threshold, and enough of it is garbage; the flag says whether it
--- was. `before` and `after` are the tables before and after.
+-- Rewrite was rewritten exactly if it is past its threshold and enough of it is garbage; the flag says whether it was.
+-- `old` and `new` are the counts, and `before` and `after` the tables, before and after this.
 abbrev pub RewritesIfPast : Thresholds → GlobalStats → GlobalStats → MemTables → MemTables → Bool → EngineState
     → EngineState → Type 0
 RewritesIfPast thresholds old new before after true s t =
@@ -41,8 +42,8 @@ pub record SyncsAndRewrites (m : MemTables) (s t : EngineState) : Type 0 where
       → HoldsSettled home t (taken log pending)
 
 -- Expired files were purged, and `groups` are returned. Append was synced, Rewrite was rewritten if that was due, and
--- then Append was purged if that was due. Files that were pinned at that time stay. The log has the same contents, and
--- no batch is pending.
+-- then Append was purged if that was due. All files from the first pinned one (`held`) on stay. The log has the same
+-- contents, and no batch is pending.
 pub record PurgesExpired (hold_back : LogPipes → Option ℕ → Type 0) (thresholds : Thresholds)
     (before after : MemTables) (old new : PurgeCounts) (groups : List ℕ) (s t : EngineState) : Type 0 where
   pub synced : LogPipes
@@ -62,17 +63,17 @@ pub record PurgesExpired (hold_back : LogPipes → Option ℕ → Type 0) (thres
   pub holds : (home : LogDirectories) (log : LogMap) (pending : List LogRecordValue) → Represents home s log pending
       → Represents home t (taken log pending) []
 
--- A purge of expired files, or a rewrite of Rewrite, failed, and the error says why:
--- - the log has the same contents, with no batch pending
--- - or the engine has failed, and its files can be opened, with the batches that were pending now durable or still
---   pending
+-- A purge of expired files, or a rewrite of Rewrite, failed, and the error says why. One of two is so:
+-- - The log has the same contents, and no batch is pending any more.
+-- - The engine has failed, and its files can be opened with these contents. The batches that were pending are durable
+--   or still pending.
 abbrev pub FailsToPurgeExpired : Error → EngineState → EngineState → Type 0
 FailsToPurgeExpired error s t = FailsToRewriteAppend error s t
 
 -- What is counted if it failed.
 
--- The counts of Rewrite after the sync of Append failed, or after it succeeded and the rewrite of Rewrite failed.
--- `before` are the tables before the rewrite.
+-- The counts of Rewrite after the sync of Append failed, or after that sync succeeded and the rewrite of Rewrite
+-- failed. `before` are the tables before the rewrite.
 abbrev pub StopsAtRewrite : MemTables → GlobalStats → GlobalStats → EngineState → EngineState → Type 0
 StopsAtRewrite before old new s t = ((t.tables ≡ s.tables) × (new ≡ old))
     ⊎ ((synced : LogPipes) × SyncsQueue InAppend s.pipes synced

@@ -27,21 +27,21 @@ CountsFrom file (Some least) v n = ((file < least) × StandIn v n) ⊎ ((least �
 abbrev pub StandsPast : ℕ → Shown → ℕ → Type 0
 StandsPast file v n = (least : Option ℕ) × IsMinFile Rewrite v least × CountsFrom file least v n
 
--- `n` is the sum of these numbers over all the groups, at most 2 ^ 64 - 1
+-- `n` is the sum of the numbers of `StandsPast` over these groups, at most 2 ^ 64 - 1
 abbrev pub CountsPast : ℕ → (ℕ → Shown) → List ℕ → ℕ → Type 0
 CountsPast file v [] n = n ≡ 0
 CountsPast file v (g ∷ gs) n =
     (one rest : ℕ) × StandsPast file (v g) one × CountsPast file v gs rest × (n ≡ plus one rest)
 
--- what these groups have live in Rewrite after `file` was counted as written once more, and the same number as garbage
+-- `count` live entries and values of these groups count as restated (`CountsPast`). This number was added to what was
+-- written to Rewrite, and to the garbage there.
 pub record CountsGarbage (file : ℕ) (v : ℕ → Shown) (groups : List ℕ) (old new : GlobalStats) : Type 0 where
   pub count : ℕ
   pub past : CountsPast file v groups count
   pub stats : new ≡ deleted Rewrite count (added Rewrite count old)
 
 -- A rewrite of Rewrite got as far as its sync: Rewrite rotated, all groups were restated, and Rewrite was synced. The
--- tables are those after that. The counts were reset (`reset_counts`): garbage is subtracted from what was written, and
--- is 0 from then on.
+-- tables are those after these steps. The counts were reset (`reset_counts`).
 pub record ResetsCounts (old new : GlobalStats) (s t : EngineState) : Type 0 where
   pub turned : LogPipes
   pub turns : RotatesQueue InRewrite s.pipes turned

@@ -19,7 +19,8 @@ use Rattle.raft_log_purge_copy.specs.Rewriting.{OweNothing}
 use Rattle.raft_log_purge.specs.Lengths.{AreKnown, AreModest, AreShortRuns, HasLog, pairs_bound, puts_of}
 use Rattle.raft_log_purge.specs.Marks.{CameOf}
 
--- A write of a batch whose record has less than 2 ^ 56 bytes by its bound never fails with `Full`.
+-- If the record of a batch has fewer than 2 ^ 56 bytes by its bound, a write of the batch never fails with `Full`. The
+-- engine must have a log (`HasLog`).
 abbrev pub BoundedBatchesAreNotFull : Type 0
 BoundedBatchesAreNotFull = (b : Batch) (error : Error) (s t : EngineState) → HasLog s → batch_bound b < 2 ^ 56
     → NotWritten b error s t → error ≢ errors.Full
@@ -29,8 +30,8 @@ BoundedBatchesAreNotFull = (b : Batch) (error : Error) (s t : EngineState) → H
 abbrev pub ModestLogsMakeRecords : Type 0
 ModestLogsMakeRecords = (m : LogMap) → AreModest m → HasLongGroup m → ⊥
 
--- The groups of a log's contents are modest in size, if their keys are known. The known keys and values of each must
--- take less than 2 ^ 54 bytes together.
+-- The groups of a log's contents are modest in size, if all their keys and values are known (`AreKnown`). By their
+-- bound, those known of each group must take less than 2 ^ 54 bytes together.
 abbrev pub KnownLogsAreModest : Type 0
 KnownLogsAreModest = (m : LogMap) (known : ℕ → List (List ℕ × List ℕ)) → AreKnown m known
     → ((g : ℕ) → pairs_bound (known g) < 2 ^ 54) → AreModest m
@@ -52,11 +53,11 @@ abbrev pub MarksTakeNoMore : Type 0
 MarksTakeNoMore = (items : List LogItem) (v : ℕ → Shown) (b : Batch) → CameOf items v → SaysMarks v b
     → batch_bound b ≤ record_bound items []
 
--- Items from which the owed tombstones came:
--- - none, if no tombstone is owed
--- - a batch that is written adds its own items
--- - a batch that isn't written adds none, unless the engine fails
--- - a call after which no more tombstones are owed, such as a purge, adds none
+-- From which items the owed tombstones came:
+-- - If no tombstone is owed, there are no such items.
+-- - A batch that is written adds its items.
+-- - A batch that isn't written adds none, unless the engine fails.
+-- - A call that makes no further tombstone owed, such as a purge, adds none.
 pub record MarksComeOfBatches : Type 0 where
   pub none : (v : ℕ → Shown) → OweNothing v → CameOf [] v
   pub written : (items : List LogItem) (b : Batch) (sync : Bool) (s t : EngineState) → CameOf items s.tables

@@ -24,7 +24,7 @@ abbrev pub pairs_bound : List (List ℕ × List ℕ) → ℕ
 pairs_bound pairs = sum_by (λ e. 32 + length e.0 + length e.1) pairs
 
 -- The groups of the contents `m` are modest in size. No entry has an index of 2 ^ 52 or above, or more bytes than a
--- batch may have. The keys of each group, with their values, take less than 2 ^ 54 bytes together.
+-- batch may have. The keys and values of each group take less than 2 ^ 54 bytes together, by the bound `pairs_bound`.
 pub record AreModest (m : LogMap) : Type 0 where
   pub entries : (g i : ℕ) (bytes : List ℕ) → m g (Index i) ≡ Some (Entry bytes)
       → (i < 2 ^ 52) × (length bytes ≤ max_entries_len)
@@ -45,13 +45,14 @@ puts_of [] = []
 puts_of (Put k value ∷ xs) = (k, value) ∷ puts_of xs
 puts_of (_ ∷ xs) = puts_of xs
 
--- If the item is a run of entries, it ends at index 2 ^ 52 or below. No entry has more bytes than a batch may have.
+-- If the item is a run of entries, the index after its last entry is at most 2 ^ 52. No entry of it has more bytes than
+-- a batch may have.
 abbrev pub IsShortRun : Item (List ℕ) (List ℕ) → Type 0
 IsShortRun (Run f es) = (f + length es ≤ 2 ^ 52)
     × ((i : ℕ) (bytes : List ℕ) → slice_get es i ≡ Some bytes → length bytes ≤ max_entries_len)
 IsShortRun _ = Unit {0}
 
--- each run of entries among the items is short in this sense
+-- each run of entries among the items is short (`IsShortRun`)
 abbrev pub AreShortRuns : List (Item (List ℕ) (List ℕ)) → Type 0
 AreShortRuns [] = Unit {0}
 AreShortRuns (x ∷ xs) = IsShortRun x × AreShortRuns xs

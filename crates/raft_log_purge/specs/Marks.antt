@@ -1,4 +1,5 @@
--- From which items of earlier batches the owed tombstones came. This bounds the length of their record.
+-- From which items of earlier batches the owed tombstones came. The record of the tombstones is no longer than a record
+-- of these items may be.
 use Rattle.std.specs.Prelude.{◌≡◌, ℕ, true, List}
 use Rattle.std.specs.List.{Contains}
 use Rattle.raft_log_model_laws.specs.Item.{Item}
@@ -9,11 +10,11 @@ use Rattle.raft_log_record_items.specs.declared.item.LogItem.{LogItem}
 use Rattle.raft_log_record_frames.specs.Meaning.{tagged_items}
 use Rattle.raft_log_memtable_index.specs.Shown.{Shown}
 
--- what these items say of group `g`
+-- those of the items that are of group `g`
 abbrev pub said_in : List LogItem → ℕ → List (Item EntryIndex (List ℕ))
 said_in items g = of_group g (tagged_items (λ e. e) items)
 
--- The owed tombstones came from these items. Of the group that owes it, the items have:
+-- The owed tombstones came from these items. For the group that owes the tombstone, the items have:
 -- - a Clean for each owed Clean
 -- - a Compact, of some index, for each owed Compact
 -- - a deletion of each key whose deletion is owed

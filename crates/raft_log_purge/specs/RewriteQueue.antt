@@ -44,8 +44,8 @@ first_file s = (pipe_at InRewrite (files_of s.pipes)).first_seq
 -- batch was pending:
 -- - `settles`: the log has the same contents, and nothing is pending in either queue.
 -- - `begins`: the live range begins at the lowest file in use (`loses.least`), or where it began if that is later.
--- - `past`: it begins after the file that was active at the start.
--- - `from`: all that a group has in Rewrite is after that file too.
+-- - `past`: the live range begins after the file that was active at the start.
+-- - `from`: all that a group has in Rewrite is in files after that one too.
 pub record RewritesRewrite (m : MemTables) (s t : EngineState) : Type 0 where
   pub turned : LogPipes
   pub turns : RotatesQueue InRewrite s.pipes turned
@@ -73,8 +73,7 @@ pub record FailsToRewriteRewrite (error : Error) (s t : EngineState) : Type 0 wh
   pub remains : StaysOrIsLeft error s t
   pub cause : GivesReason error s t
 
--- The counts after Rewrite was rewritten: the garbage there is subtracted from what was written, and is 0 from then
--- on.
+-- the counts after Rewrite was rewritten: its garbage is subtracted from what was written there, and then set to 0
 abbrev pub reset_counts : GlobalStats → GlobalStats
 reset_counts s = record s {
   rewrite_entries = s.rewrite_entries - s.deleted_rewrite_entries;

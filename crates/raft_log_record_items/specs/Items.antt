@@ -30,7 +30,7 @@ never_at text bytes = Err (corrupt text)
 abbrev pub Passing : {A : Type 0} → (A → Bool) → (List ℕ → A → Type 0) → List ℕ → A → Type 0
 Passing test P bytes x = P bytes x × IsTrue (test x)
 
--- reads a value with `read`; if the value fails `test`, this is the error text
+-- reads a value with `read`, and fails with this error text if the value fails `test`
 abbrev pub passing_at : {A : Type 0} → (A → Bool) → List ℕ → Reader A Fault → Reader A Fault
 passing_at test text read bytes = read bytes >>= λ r. if test r.0 then Ok r else Err (corrupt text)
 

@@ -3,8 +3,8 @@ use Rattle.std.specs.Prelude.{◌≡◌, ℕ, List, Option, None, Some, Result, 
 use Rattle.raft_log_record_base.specs.declared.errors.Error.{Error}
 use Rattle.raft_log_record_base.specs.declared.errors.Error.TheVariants as errors
 
--- A call returned the message that `reading` finds in the bytes. It fails with `Message` only if `reading` finds
--- none, else only with `Memory`.
+-- The result of a call that parses bytes; `reading` is the message that they encode, or none. The call returns this
+-- message. It fails with `Message` only if there is none, and with no other error but `Memory`.
 abbrev pub Parses : {M : Type 0} → Result M Error → Option M → Type 0
 Parses (Ok m) reading = reading ≡ Some m
 Parses (Err errors.Memory) reading = Unit {0}

@@ -24,7 +24,7 @@ content_len (contents.Kv kv) = 0
 abbrev pub entries_len : List LogItem → ℕ
 entries_len xs = sum_by (λ x. content_len x.content) xs
 
--- the entries with offsets in a block set: one after another without gaps, from `offset` on
+-- the entries with their offsets in a block: they follow one another without gaps, from `offset` on
 abbrev pub laid_run : ℕ → List EntryIndex → List EntryIndex
 laid_run offset [] = []
 laid_run offset (e ∷ es) = record e { entry_offset = offset } ∷ laid_run (offset + e.entry_len) es
@@ -78,9 +78,9 @@ pub record ArePlaced (handle : FileBlockHandle) (plain items : List LogItem) (le
   pub sum : len ≡ min (entries_len plain) (2 ^ 64 - 1)
   pub places : entries_len plain < 2 ^ 32 → items ≡ placed handle plain
 
--- A decoder returned the items that `reading` reads, with their places in the block at `handle` and the length of
--- their entries. It left the bytes that `reading` leaves. It may also fail for lack of memory. If it fails, it
--- consumes nothing.
+-- The result of decoding items; `reading` is what reading the bytes `old` gives. The decoder returned the items of
+-- `reading`, with their places in the block at `handle`, and the length of their entries. `new` are the bytes that are
+-- left. If it fails, it does so as `reading` does, or for lack of memory, and it consumes nothing.
 abbrev pub ReadsPlaced :
     FileBlockHandle → Result (Vec LogItem × ℕ) Error → List ℕ → List ℕ
     → Result (List LogItem × List ℕ) Fault → Type 0

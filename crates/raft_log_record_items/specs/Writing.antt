@@ -66,7 +66,7 @@ item_bytes item = var_u64_bytes item.raft_group_id ++ content_bytes item.content
 unfoldable pub items_bytes : List LogItem → List ℕ
 items_bytes items = var_u64_bytes (length items) ++ flat_map item_bytes items
 
--- What is read back of an item that was written: all but the places where it is stored.
+-- What is read back of an item that was written: all but the places of its entries and the file of its key.
 
 -- a put of `value` under `key`, or a deletion of `key`, without a file
 abbrev pub plain_operation : OpType → List ℕ → List ℕ → KeyValue
@@ -87,20 +87,21 @@ plain_content (contents.Kv kv) = contents.Kv (plain_key_value kv)
 abbrev pub plain_item : LogItem → LogItem
 plain_item item = record { raft_group_id = item.raft_group_id; content = plain_content item.content }
 
--- the bytes that are written for `content`, with the byte for its kind, spell the content without its places
+-- by the grammar, the bytes that the encoder writes for `content`, with the byte for its kind, encode it without its
+-- places
 abbrev pub IsSpelledContent : LogItemContent → Type 0
 IsSpelledContent content =
     Then IsByte (λ kind. IsContentOf kind) (content_bytes content) (plain_content content)
 
--- by the grammar, the bytes that the encoder writes for this operation on a key are the operation
+-- by the grammar, the bytes that the encoder writes for this operation on a key encode it
 abbrev pub IsSpelledOperation : OpType → List ℕ → List ℕ → Type 0
 IsSpelledOperation op key value = IsKeyValue (operation_bytes op key value) (plain_operation op key value)
 
--- the bytes that are written for `kv` spell `kv` without its file
+-- by the grammar, the bytes that the encoder writes for `kv` encode it without its file
 abbrev pub IsSpelledKeyValue : KeyValue → Type 0
 IsSpelledKeyValue kv = IsKeyValue (key_value_bytes kv) (plain_key_value kv)
 
--- the bytes that are written for `items`, one after another, spell the items without their places
+-- by the grammar, the bytes that the encoder writes for `items`, one after another, encode them without their places
 abbrev pub AreSpelled : List LogItem → Type 0
 AreSpelled items = Times IsItem (length items) (flat_map item_bytes items) (map plain_item items)
 

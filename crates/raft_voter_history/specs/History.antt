@@ -1,4 +1,5 @@
--- The history of a store: the records of all rounds that it served, in order. It exists in proofs alone.
+-- The history of a store: the records of all rounds that it served, in order. It exists in proofs alone. A keeper and
+-- its claims are passes of a cell of the standard library. The view of a pass says what the pass knows of the history.
 use Rattle.std.specs.Prelude.{◌≡◌, ℕ, List, [], ◌++◌, length, Bool, true, false}
 use mathlib.Core.Option.{some}
 use lib.ListN.{get_elem?}
@@ -6,7 +7,7 @@ use Rattle.atomic_table.specs.Seated.{TableId}
 use Rattle.raft_voter_messages.specs.declared.round.Round.{Round}
 use Rattle.raft_voter_history.specs.declared.rule.View.{View}
 
--- the name of no history
+-- a placeholder for a history's name
 abbrev pub no_table : TableId
 no_table = record { words = 0; slots = 0; views_name = 0; atom = 0; block = 0; offset = 0; slot_names = [] }
 
@@ -29,7 +30,8 @@ claims_part first part = record { keeps = false; all = []; claims = true; first 
 abbrev pub spent : View
 spent = record { keeps = false; all = []; claims = false; first = 0; part = [] }
 
--- what a view says of the history: the pass at `seat` alone may know it whole, and each claim is true
+-- What the view `v` of the pass at position `by` says is true of the history `log`. Only the pass at position `seat`
+-- may know the whole history, and what it knows is `log`. If the view has a claim, the claim is true.
 abbrev pub IsTrue : ℕ → List Round → ℕ → View → Type 0
 IsTrue seat log by v =
     (v.keeps ≡ true → (by ≡ seat) × (v.all ≡ log)) × (v.claims ≡ true → HasPart log v.first v.part)
@@ -39,18 +41,18 @@ abbrev pub IsOneHistory : List ℕ → List View → Type 0
 IsOneHistory words views =
     (seat : ℕ) × (log : List Round) × ((by : ℕ) (v : View) → get_elem? views by ≡ some v → IsTrue seat log by v)
 
--- these records were added to the history that the pass knows
+-- the records `part` were added to the history that the pass with the view `v` knows
 abbrev pub Notes : List Round → View → List ℕ → List ℕ → View → Type 0
 Notes part v before after w = w ≡ knows (v.all ++ part)
 
--- the pass that knows the history knows it still, and the claim that it took in is true
+-- the pass that knows the history still knows it, and if it took in a claim, the claim is true
 abbrev pub Finds : View → List ℕ → List ℕ → View → Type 0
 Finds v before after w = (w ≡ knows v.all) × (v.claims ≡ true → HasPart v.all v.first v.part)
 
--- the pass that knows the history, with the claim of another
+-- the view `v` with the claim of the view `w`
 abbrev pub with_claim : View → View → View
 with_claim v w = record { keeps = v.keeps; all = v.all; claims = w.claims; first = w.first; part = w.part }
 
--- two claims as one, of the records of both
+-- one claim made of two: of the records of `v`, and then those of `w`
 abbrev pub joined : View → View → View
 joined v w = claims_part v.first (v.part ++ w.part)

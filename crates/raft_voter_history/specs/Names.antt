@@ -2,6 +2,6 @@
 use Rattle.atomic_table.specs.Seated.{TableId}
 use Rattle.raft_voter_history.specs.declared.history.FreshHistory.{FreshHistory}
 
--- the history that a fresh one becomes
+-- the name that a fresh history gets
 abbrev pub id_of : FreshHistory → TableId
 id_of fresh = fresh.cell.table.shared.table_id

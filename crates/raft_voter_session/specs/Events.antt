@@ -37,7 +37,7 @@ crash_at text = do
   left ← left_at text
   Some (alone (Crash left))
 
--- `crash-at N R`: a crash at the `N`-th call that changes files, which leaves `R`
+-- `crash-at N R`: a crash that leaves `R`, at the `N`-th call that changes files
 unfoldable pub stop_at : List ℕ → Option Told
 stop_at text = do
   calls ← count_at text
@@ -58,7 +58,7 @@ fork_at text = do
     name ← text_of word.0
     ends word.1 (copy name)) else None
 
--- the event of a line whose first word is `word`, followed by `text`
+-- the event of a line whose first word is `word`, followed by `text`; `event_of` has the events of a single word
 unfoldable pub event_at : List ℕ → List ℕ → Option Told
 event_at word text =
     if bytes_eq word (codes "open") then open_at text

@@ -1,5 +1,6 @@
 -- How a line of a session encodes a request to a group's voter. Letters: `G` is the group, `T` a term, `I` an index,
--- `U` an entry's term. Each definition reads the text after the first word.
+-- `U` an entry's term. The functions `vote_at` to `append_at` read the text after the line's first word. They return
+-- `None` if they can't read it.
 use Rattle.std.specs.Prelude.{ℕ, nat_lt, Bool, false, not, List, [], ◌∷◌, length, drop, codes, Option, Some, None, if◌then◌else◌}
 use Rattle.std.specs.List.{before_first, after_first, list_any, position_or_len}
 use Rattle.std.specs.Option.{option_map_or}

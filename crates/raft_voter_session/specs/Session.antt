@@ -60,8 +60,8 @@ after_outside line so_far =
     else if bytes_eq line (codes "round") then Some (record { session = so_far; begun = round [] })
     else event_of line >>= adds_event so_far
 
--- The progress after one more line while the settings are open, with their text so far. `end` closes them, and any
--- other line of UTF-8 is added.
+-- The progress after one more line while the settings are open, with their text so far. `end` closes them. Any other
+-- line must be UTF-8, and is added.
 abbrev pub after_setting : List ℕ → SessionContent → List ℕ → Option Progress
 after_setting line so_far told =
     if bytes_eq line (codes "end")
@@ -93,8 +93,8 @@ abbrev pub at_end : ℕ → SessionContent → Part → Result SessionContent �
 at_end number told nothing = Ok told
 at_end number told part = Err number
 
--- The session after the last line feed, which no bytes may follow. `whole` is whether the text was short enough. If
--- something is wrong, the result is this line's number.
+-- The session, if the text was short enough (`whole`), no bytes follow its last line feed, and nothing is open.
+-- Otherwise the result is `number`, that of the line after the last line feed.
 abbrev pub finish : ℕ → Bool → List ℕ → Progress → Result SessionContent ℕ
 finish number whole [] so_far = if whole then at_end number so_far.session so_far.begun else Err number
 finish number whole (b ∷ text) so_far = Err number

@@ -52,13 +52,13 @@ abbrev pub request_line : ℕ × Request → List ℕ
 request_line q =
     request_word q.1 ++ spaced_all (request_numbers q.0 q.1) ++ flat_map sent_text (request_entries q.1)
 
--- the text of what a crash leaves, after a space
+-- a space, and then the text of what a crash leaves
 abbrev pub left_text : Left → List ℕ
 left_text Last = codes " last"
 left_text All = codes " all"
 left_text (First pieces bytes) = codes " first" ++ spaced_all (pieces ∷ bytes ∷ [])
 
--- the lines of an event; a copy has none here, as only the bytes of its directory's name are known
+-- the lines of an event that isn't a copy; those of a copy are in `event_lines`
 abbrev pub alone_lines : Event → List (List ℕ)
 alone_lines (Open workers) = (codes "open" ++ spaced_all (workers ∷ [])) ∷ []
 alone_lines Close = codes "close" ∷ []

@@ -58,7 +58,7 @@ abbrev pub verdict_text : Bool → List ℕ
 verdict_text true = codes "verdict yes\n"
 verdict_text false = codes "verdict no\n"
 
--- the text of a transcript: these rounds, the line of their cuts, and the verdict
+-- the text of a transcript: these rounds, numbered from 0, the line of their cuts, and the verdict
 unfoldable pub transcript_text : List Round → List ℕ → Bool → List ℕ
 transcript_text rounds cuts verdict =
     rounds_text 0 rounds ++ codes "cuts" ++ spaced_all cuts ++ codes "\n" ++ verdict_text verdict

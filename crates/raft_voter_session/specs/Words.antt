@@ -7,7 +7,7 @@ use Rattle.std.specs.Str.{all_ascii_digits, is_utf8}
 use Rattle.std.specs.Str.Parse.{digits_value_after}
 use Rattle.hex.specs.Hex.{decode_of}
 
--- the logic's `?`: the next step gets the value, and `None` stays `None`
+-- as Rust's `?`: the next step gets the value, and `None` stays `None`
 infixl 10 ◌>>=◌
 abbrev pub ◌>>=◌ : {A B : Type 0} → Option A → (A → Option B) → Option B
 None >>= f = None
@@ -26,7 +26,7 @@ value_from n digits =
     then Some (digits_value_after 10 n digits)
     else None
 
--- the value of a word of one to twenty digits; `None` if it isn't one or its value isn't below 2^64
+-- the value of a word of one to twenty digits; `None` for any other word, or if the value isn't below 2^64
 abbrev pub number_of : List ℕ → Option ℕ
 number_of word = if nat_lt 0 (length word) && nat_le (length word) 20 then value_from 0 word else None
 
@@ -34,7 +34,7 @@ number_of word = if nat_lt 0 (length word) && nat_le (length word) 20 then value
 abbrev pub is_lower_hex_digit : ℕ → Bool
 is_lower_hex_digit b = (nat_le 48 b && nat_le b 57) || (nat_le 97 b && nat_le b 102)
 
--- the bytes that a word of hex digits in lower case encodes, two digits each
+-- the bytes that a word of hex digits in lower case encodes, two digits each; `None` for any other word
 abbrev pub data_of : List ℕ → Option (List ℕ)
 data_of word = if list_all is_lower_hex_digit word then result_ok (decode_of word) else None
 
@@ -64,7 +64,7 @@ number_at text = do
   n ← number_of word.0
   Some (n, word.1)
 
--- these pieces without the first, which must be empty
+-- these pieces without the first; `None` if there is none or the first isn't empty
 abbrev pub behind_space : List (List ℕ) → Option (List (List ℕ))
 behind_space [] = None
 behind_space (piece ∷ pieces) = ends piece pieces

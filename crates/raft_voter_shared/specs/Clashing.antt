@@ -1,18 +1,18 @@
--- A quick test that no receipts contradict each other. At the place of each record that is kept, it notes the seat and
--- the turn of the receipt there. Then the turns of each seat must rise with the places.
+-- A quick test that no receipts contradict each other. For each place of a kept record, it notes the seat and the turn
+-- of the receipt of this place. Then the turns of each seat must not fall from one place to a later one.
 use Rattle.std.specs.Prelude.{◌≡◌, ◌≢◌, ℕ, ◌-◌, ◌<◌, ◌≤◌, false, List, slice_get, Option, Some}
 use Rattle.raft_voter_rounds.specs.declared.receipt.Statement.{Statement}
 use Rattle.raft_voter_shared.specs.Receipts.{clashes}
 
--- The receipts whose index in the list is below `end` have different places, from place `first` on. The seat and turn of
--- each of them are noted at its place.
+-- Of the receipts whose index in the list is below `end`, those with places from `first` on have different places.
+-- `turns` has the seat and the turn of each of them, at its place.
 pub record AreNoted (first : ℕ) (receipts : List Statement) (end : ℕ) (turns : List (Option (ℕ × ℕ))) : Type 0 where
   pub noted : (index : ℕ) (r : Statement) → index < end → slice_get receipts index ≡ Some r → first ≤ r.place
       → slice_get turns (r.place - first) ≡ Some (Some (r.seat, r.turn))
   pub apart : (index other : ℕ) (r s : Statement) → index < other → other < end → slice_get receipts index ≡ Some r
       → slice_get receipts other ≡ Some s → first ≤ r.place → r.place ≢ s.place
 
--- of the turns that are noted at places below `end`, a seat's later one isn't lower
+-- at places below `end`, a turn that is noted for a seat isn't lower than one noted for the seat at an earlier place
 abbrev pub RiseBelow : List (Option (ℕ × ℕ)) → ℕ → Type 0
 RiseBelow turns end =
     (place next seat turn later : ℕ) → place < next → next < end → slice_get turns place ≡ Some (Some (seat, turn))

@@ -16,38 +16,42 @@ abbrev pub own_cut : Outcome → ℕ → List ℕ
 own_cut (Answered replies) place = []
 own_cut Cut place = place ∷ []
 
--- a cut for each of these rounds that was cut off, if nothing of it was taken: 0
+-- the cuts of these rounds, if nothing was taken of those that were cut off: 0 for each of them
 abbrev pub untaken : List Round → List ℕ
 untaken [] = []
 untaken (r ∷ rounds) = own_cut r.outcome 0 ++ untaken rounds
 
--- The cuts of these rounds, if they were cut off together at position `place` of all their requests. A round before this
--- position is cut at its length, the one at it there, and each later one at 0.
+-- The cuts of these rounds, if they were cut off together at position `place` in the list of all their requests. A
+-- round that ends there or before is cut at its length. The round that contains `place` is cut there, each later one
+-- at 0.
 abbrev pub spread : ℕ → List Round → List ℕ
 spread place [] = []
 spread place (r ∷ rounds) =
     own_cut r.outcome (min place (length r.requests)) ++ spread (place - length r.requests) rounds
 
--- The cuts of a journal's rounds. If the store failed in rounds that it served together, `place` is their cut. Nothing
--- was taken of any other round that was cut off.
+-- The cuts of a journal's rounds. If the store failed in rounds that it served together, these are cut as `spread`
+-- says. Nothing was taken of any other round that was cut off.
 abbrev pub cuts_at : List Round → Option Failure → ℕ → List ℕ
 cuts_at rounds (Some (InRounds first end)) place =
     untaken (take first rounds) ++ (spread place (between first end rounds) ++ untaken (drop end rounds))
 cuts_at rounds failure place = untaken rounds
 
--- world `X` is the one after the requests of the cut-off round `cut` before position `place` were taken
+-- World `X` has the voters after the round `cut`, which was cut off at position `place`: the voters before it took its
+-- requests below `place`, except the refused ones.
 abbrev pub TookUpTo : CutRound → World → ℕ → Type 0
 TookUpTo cut X place =
     (place ≤ length cut.requests) × (X ≡ after cut.before (taken_from 0 place cut.refused cut.requests))
 
--- One opening of a store: the journal, how the store failed, and the cut of the rounds in which it failed, as one round.
+-- One opening of a store: its journal, and how the store failed. If it failed in rounds, `place` is the position in the
+-- list of all their requests at which they were cut off.
 pub record Session : Type 0 where
   pub journal : List Round
   pub failure : Option Failure
   pub place : ℕ
 
 -- These openings lead from world `W` to world `X`. Each journal is legal, starting with the voters that the opening
--- before left. Each opening leaves voters that took the rounds in which it failed up to its `place`.
+-- before left. An opening leaves the voters after its journal. Of the rounds in which it failed, they took the requests
+-- below its `place`.
 abbrev pub Openings : World → List Session → World → Type 0
 Openings W [] X = W ≡ X
 Openings W (s ∷ ss) X =
@@ -62,13 +66,13 @@ all_rounds ss = flat_map (λ s. s.journal) ss
 abbrev pub all_cuts : List Session → List ℕ
 all_cuts ss = flat_map (λ s. cuts_at s.journal s.failure s.place) ss
 
--- If openings lead from world `W` to `X`, voters that never fail give exactly the replies in their rounds. These
--- voters start in world `W`, and then are those of world `X`.
+-- Let openings lead from world `W` to `X`. Then voters that start in `W` and never fail give exactly the replies in the
+-- openings' rounds, with their cuts. Afterwards these voters are those of `X`.
 abbrev pub OpeningsLead : Type 0
 OpeningsLead = (W X : World) (ss : List Session) → Openings W ss X → Leads W (all_rounds ss) (all_cuts ss) X
 
--- If openings begin with fresh voters, fresh voters that never fail give exactly the replies in their rounds, with
--- their cuts.
+-- If openings begin with fresh voters, fresh voters that never fail give exactly the replies in the openings' rounds,
+-- with their cuts.
 abbrev pub OpeningsAreExplained : Type 0
 OpeningsAreExplained = (X : World) (ss : List Session) → Openings fresh_world ss X → Explains (all_rounds ss) (all_cuts ss)
 

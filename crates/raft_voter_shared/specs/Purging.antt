@@ -8,7 +8,7 @@ use Rattle.raft_voter_shared.specs.declared.failure.Failure.{Failure}
 use Rattle.raft_voter_shared.specs.declared.failure.Failure.TheVariants.{InPurge}
 
 -- A purge changed store `old` into `new`. `new` serves the voters of `old`, unless a file system call failed and the
--- store with it. It leaves every cut-off round that `old` left. If `old` had failed, so has `new`.
+-- store with it. `new` leaves every cut-off round that `old` left. If `old` had failed, `new` has failed too.
 pub record KeepsServed {S : Type 0} (v : Service S) (old new : S) : Type 0 where
   pub failed : v.is_failed old ≡ true → v.is_failed new ≡ true
   pub served : (W : World) → IsOpenAt v old W → v.is_failed new ≡ false → IsOpenAt v new W

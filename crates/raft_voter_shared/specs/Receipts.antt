@@ -1,5 +1,5 @@
--- A receipt is what a thread gets for a round: the round's position in the journal, its requests and its replies.
--- Which receipts are right for a journal whose records are kept from place `first` on.
+-- A receipt is what a thread gets for a round: the round's position in the journal, its requests and its replies. The
+-- definitions say which receipts are right for a journal of which the records from place `first` on are kept.
 use Rattle.std.specs.Prelude.{◌≡◌, ℕ, ◌-◌, ◌<◌, ◌≤◌, ◌==◌, ◌&&◌, ◌||◌, nat_le, nat_lt, not, Bool, false, List, length, slice_get, Option, None, Some}
 use Rattle.std.specs.List.{enumerate_from, list_any}
 use Rattle.raft_voter_messages.specs.declared.round.Outcome.TheVariants.{Answered}
@@ -10,16 +10,16 @@ use Rattle.raft_voter_rounds.specs.declared.receipt.Statement.{Statement}
 abbrev pub IsRecordOf : Statement → Round → Type 0
 IsRecordOf r round = (round.requests ≡ r.requests) × (round.outcome ≡ Answered r.replies)
 
--- these records, which are those of the journal from place `first` on, have one at the receipt's `place`, with the
--- receipt's requests and replies
+-- `rounds` are the journal's records from place `first` on, and the one at the receipt's `place` has the receipt's
+-- requests and replies
 pub record StandsIn (first : ℕ) (rounds : List Round) (r : Statement) : Type 0 where
   pub round : Round
   pub kept : first ≤ r.place
   pub at : slice_get rounds (r.place - first) ≡ Some round
   pub is : IsRecordOf r round
 
--- Receipt `other` contradicts receipt `r`. It has the same `place` in the journal. Or it is an earlier one of the same
--- seat, by its turn, and its `place` isn't lower.
+-- Whether receipt `other` contradicts receipt `r`. Either both have the same `place` in the journal. Or `other` is an
+-- earlier receipt of the same seat, by its `turn`, and its `place` isn't lower.
 abbrev pub clash : Statement → Statement → Bool
 clash r other =
     (other.place == r.place)
@@ -60,6 +60,6 @@ IsLeastBelow first rounds receipts end (Some place) = IsWrongBelow first rounds 
 abbrev pub AllRight : ℕ → List Round → List Statement → Type 0
 AllRight first rounds receipts = AllRightBelow first rounds receipts (length receipts)
 
--- `place` is the lowest one of a wrong receipt among these
+-- `place` is the lowest place of a wrong receipt among these
 abbrev pub IsLeastWrong : ℕ → List Round → List Statement → ℕ → Type 0
 IsLeastWrong first rounds receipts place = IsWrongBelow first rounds receipts (length receipts) place

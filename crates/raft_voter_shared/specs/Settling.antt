@@ -1,4 +1,5 @@
--- When a shared store can be settled: all seats are handed in, and all receipts are right. What is so then.
+-- When a shared store can be settled, and what is true then. It can be if all seats are handed in, and all receipts are
+-- right.
 use Rattle.std.specs.Prelude.{◌≡◌, ◌≢◌, ℕ, ◌+◌, ◌≤◌, Bool, true, false, is_some, List, drop, length, Option, None, Some}
 use Rattle.raft_voter_messages.specs.declared.round.Round.{Round}
 use Rattle.raft_voter.specs.Rounds.{World}
@@ -14,7 +15,7 @@ use Rattle.raft_voter_shared.specs.declared.settled.SettleCause.TheVariants as c
 use Rattle.raft_voter_shared.specs.Receipts.{AllRight, IsLeastWrong}
 
 -- Why the store can't be settled. `SeatCount`: the seats don't have all parts of the ledger, as `parts` isn't `all`.
--- `Receipt place`: they have all, and `place` is the lowest one of a wrong receipt.
+-- `Receipt place`: the seats have all parts, and `place` is the lowest place of a wrong receipt.
 abbrev pub IsCause : ℕ → List Round → ℕ → ℕ → List Statement → SettleCause → Type 0
 IsCause first rounds all parts receipts causes.SeatCount = parts ≢ all
 IsCause first rounds all parts receipts (causes.Receipt place) = (parts ≡ all) × IsLeastWrong first rounds receipts place
@@ -24,8 +25,8 @@ abbrev pub SettlesUnless : ℕ → List Round → ℕ → ℕ → List Statement
 SettlesUnless first rounds all parts receipts None = (parts ≡ all) × AllRight first rounds receipts
 SettlesUnless first rounds all parts receipts (Some cause) = IsCause first rounds all parts receipts cause
 
--- A store's journal has a history, which is legal for the voters that the store served when it was shared, and kept its
--- last records. Of these, records were taken as `TakesKept` says.
+-- There is a history of a store's rounds, which is legal for the voters that the store served when it was shared. From
+-- its journal, records were taken as `TakesKept` says: `old` are those taken before the call, and `new` those after it.
 pub record AreTaken (served : World → Type 0) (old new : List Round) : Type 0 where
   pub history : List Round
   pub legal : (W : World) → served W → IsLegal W history
@@ -35,9 +36,10 @@ pub record AreTaken (served : World → Type 0) (old new : List Round) : Type 0 
 
 -- A store was settled. It served voters of `served` when it was shared. The seats counted `turns` records.
 -- - `history`: there is a history of its rounds. `begins`: it begins with the records that were taken from the journal.
--- - `kept`, `whole`: those from place `first` on are kept.
--- - `legal`, `last`: the history is legal. If the store failed in rounds, it and all later ones were cut off.
--- - `serves`: unless it failed, the store serves the voters after the history. `left`: a crash leaves these.
+-- - `kept`, `whole`: the journal kept exactly its records from place `first` on (`rounds`).
+-- - `legal`, `last`: the history is legal. If the store failed in rounds, these and all later ones were cut off.
+-- - `serves`: unless it failed, the store serves the voters after the history.
+-- - `left`: a crash leaves voters that are possible after the history (`standing`).
 -- - `cause`, `why`: if it failed while it was shared, it is known how, and a file call failed.
 pub record IsSettled {S : Type 0} (v : Service S) (served : World → Type 0) (had_failed : Bool) (turns : ℕ) (taken : List Round)
     (store : S) (first : ℕ) (rounds : List Round) (failure : Option Failure) (calls : ℕ) : Type 0 where

@@ -1,5 +1,5 @@
--- Which voters are possible after a journal. They are those after all its records. If the store failed in rounds that it
--- served together, they are those that took some of these.
+-- Which voters are possible after a journal: those after all its records. But if the store failed in rounds that it
+-- served together, the voters may have taken any first part of these rounds' requests.
 use Rattle.std.specs.Prelude.{ℕ, ◌+◌, ◌-◌, ◌&&◌, nat_le, nat_lt, Bool, true, false, List, [], ◌∷◌, ◌++◌, length, map, take, drop, Option, Some}
 use Rattle.std.specs.List.{flat_map, list_all}
 use Rattle.raft_voter_messages.specs.declared.request.Request.{Request}
@@ -18,7 +18,8 @@ use Rattle.raft_voter_shared.specs.declared.failure.Failure.TheVariants.{InRound
 abbrev pub requests_of : List Round → List (ℕ × Request)
 requests_of rounds = flat_map (λ r. r.requests) rounds
 
--- the refused positions of these rounds, as positions in the requests of all of them, which count from `start`
+-- the refused positions of these rounds, as positions in the list of all their requests; the first request has the
+-- position `start`
 abbrev pub refused_of : ℕ → List Round → List ℕ
 refused_of start [] = []
 refused_of start (r ∷ rounds) = map (λ p. start + p) r.refused ++ refused_of (start + length r.requests) rounds
@@ -51,8 +52,8 @@ abbrev pub is_last : Option Failure → List Round → Bool
 is_last (Some (InRounds first end)) rounds = nat_lt first end && nat_le end (length rounds) && are_cut (drop first rounds)
 is_last failure rounds = true
 
--- how the store failed, noted after the rounds of the records from `first` up to `end` were cut off together for this
--- cause; only `FileSystem` changes it
+-- What is noted of how the store failed, after rounds were cut off together for this cause. Their records are those
+-- from `first` to below `end`. Only the cause `FileSystem` changes what was noted before (`failure`).
 abbrev pub failure_behind : Cause → ℕ → ℕ → Option Failure → Option Failure
 failure_behind FileSystem first end failure = Some (InRounds first end)
 failure_behind cause first end failure = failure

@@ -24,7 +24,7 @@ pub record IsTwice (kind : FileKind) (directories : List (List ℕ)) (d : Disk) 
   pub there_number : there.seq ≡ n
   pub apart : here ≡ there → ⊥
 
--- No file has the number before `first`, or two files have the number `first`.
+-- No file of the queue has the number before `first`, or two files have the number `first`.
 abbrev pub BeginsBehindGap : LogQueue → List (List ℕ) → Disk → ℕ → Type 0
 BeginsBehindGap queue directories d first =
     ((m : ℕ) → suc m ≡ first → IsAbsent (log_format queue directories) m d)

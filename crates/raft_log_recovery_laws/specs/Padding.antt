@@ -13,7 +13,8 @@ use Rattle.raft_log_recovery_laws.specs.Bare.{IsBare}
 use Rattle.raft_log_recovery_laws.specs.ByCalls.{ForAllNaming, home_of}
 use Rattle.raft_log_recovery_laws.specs.InPlace.{StandsWithoutChance}
 
--- an open with these settings finds no file with an alignment, and so rewrites no file to remove padding
+-- an open with the settings `config` finds no file with an alignment on disk `d`, and so rewrites no file to remove
+-- padding
 abbrev pub FindsNoPadding : Config → Disk → Type 0
 FindsNoPadding config d = (b : DualPipesBuilder) (scanned : Disk) → FindsPadding config b d scanned → ⊥
 

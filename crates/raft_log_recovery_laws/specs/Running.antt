@@ -42,7 +42,8 @@ abbrev pub LeavesOwnAlone : Format LogRecord → PipeFiles → Disk → Disk →
 LeavesOwnAlone F files d image = (file after : File) → d.files files.writer.handle.file ≡ Some file
     → image.files files.writer.handle.file ≡ Some after → MeetsOwnAlone F files file after.content
 
--- A crash image of an engine with these pipes has no CRC collision in either queue's active file.
+-- Disk `image`, which a crash left of the engine with the pipes `v`, has no CRC collision in either queue's active
+-- file.
 pub record LeavesNoChance (home : LogDirectories) (v : LogPipes) (image : Disk) : Type 0 where
   pub append : LeavesOwnAlone (log_in home).append.format v.append.files v.disk image
   pub rewrite : LeavesOwnAlone (log_in home).rewrite.format v.rewrite.files v.disk image

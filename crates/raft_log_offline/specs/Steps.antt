@@ -26,7 +26,7 @@ FailsToReadWhole handle d (errors.Io kind) =
 FailsToReadWhole handle d errors.Memory = Unit {0}
 FailsToReadWhole handle d _ = ⊥
 
--- `bytes` were written to the file `id` at offset 0; if there are none, nothing may have been done
+-- `bytes` were written to the file `id` at offset 0; or there are none, and nothing was done
 abbrev pub Fills : ℕ → List ℕ → Disk → Disk → Type 0
 Fills id bytes old new =
     ((bytes ≡ []) × (new ≡ old)) ⊎ Changes id (after_change (Wrote 0 bytes)) old new

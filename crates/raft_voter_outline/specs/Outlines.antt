@@ -146,8 +146,8 @@ EntriesAreThere (Told told) q v = Unit {0}
 EntriesAreThere (EntriesAnswer from to) q v =
     (q ≡ Read from to) × (v.base_index < from) × (from < to) × (to ≤ last_index v + 1)
 
--- for each voter with outline `o`, answer `a` gives the voter's reply to request `q`, and the voter has the entries
--- that the reply still needs
+-- For each voter with outline `o`, answer `a` gives the voter's reply to request `q`. The voter has the entries that
+-- the reply still needs.
 abbrev pub IsReplyOfEach : State → Request → Answer → Type 0
 IsReplyOfEach o q a = (v : State) → without_bytes v ≡ o → (reply v q ≡ answered a v) × EntriesAreThere a q v
 

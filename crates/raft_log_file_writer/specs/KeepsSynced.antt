@@ -102,7 +102,7 @@ DurableIsRead {R} IsFrame = IsSelfDelimiting IsFrame
     → (ws : List (Written R)) → Reads IsFrame start ws bytes → (more : List (Written R))
     × (ws ≡ durable ++ more)
 
--- from the offset `from` on, `bytes` has at each offset the byte that `stale` has there; it doesn't end after `stale`
+-- each byte of `bytes` at the offset `from` or after it is one that `stale` has at the same offset
 abbrev pub StandsBehind : ℕ → List ℕ → List ℕ → Type 0
 StandsBehind from stale bytes = (place : ℕ) → from ≤ place → place < length bytes
     → (place < length stale) × (slice_index bytes place ≡ slice_index stale place)

@@ -67,11 +67,11 @@ pub record ReadsRuns (config : Config) (append rewrite : ConsistencyChecker) (ol
   pub rewrite_kept : KeepsRuns Rewrite rewrite_batches rewrite
 
 -- Why a check of a log fails, and the disk after it:
--- - the file system had stopped, which is reported before all else
--- - the settings have a fault
--- - finding the log's files failed
--- - reading a queue failed, or truncating its damaged files
--- - memory ran out for the list of findings
+-- - `ended`: the file system had stopped.
+-- - `unsound`: the settings have a fault.
+-- - `unfound`: finding the log's files failed.
+-- - `unread`: reading a queue failed, or truncating its damaged files.
+-- - `unlisted`: the log's files were read, but memory ran out for the list of findings.
 pub data FailsToCheck (config : Config) (error : Error) (old new : Disk) : Type 0 where
   ended : old.stopped ≡ true → error ≡ errors.Io Other → new ≡ old → FailsToCheck config error old new
   unsound : IsRefusedFor (settings_of config) error → new ≡ old → FailsToCheck config error old new

@@ -127,8 +127,10 @@ FailsToMakeTarget target (errors.Io kind) old new = FailsToMakeDirectory target 
 FailsToMakeTarget target errors.Memory old new = new ≡ old
 FailsToMakeTarget target _ old new = ⊥
 
--- Why a fork fails, and the disk after it: it was rejected, and nothing changed; making the directory failed; or
--- copying the files failed.
+-- Why a fork fails, and the disk after it:
+-- - `refused`: it was rejected, and nothing changed.
+-- - `homeless`: making the directory failed.
+-- - `cut_short`: copying the files failed.
 pub data FailsToFork (s : Settings) (target : List ℕ) (error : Error) (old new : Disk) : Type 0 where
   refused : IsForkRefusal s target old error → new ≡ old → FailsToFork s target error old new
   homeless : AllowsFork s target old → FailsToMakeTarget target error old new

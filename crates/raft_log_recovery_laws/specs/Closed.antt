@@ -1,5 +1,5 @@
 -- A log that was closed properly. Its active files end with their records, and all of it is synced. So it is at rest,
--- and an open of it asks nothing of chance: it has no premise on CRC collisions.
+-- and an open of it has no premise on CRC collisions.
 use Rattle.std.specs.Prelude.{◌≡◌, ◌⊎◌, ℕ, ◌<◌, Some, Ok, List, [], ◌++◌, length}
 use Rattle.raft_log_fs.specs.Causes.{Fails}
 use Rattle.raft_log_fs.specs.Disk.{Disk, File, at_rest}

@@ -52,8 +52,8 @@ HeaderIsWritten = (directories : List (List ℕ)) (last : Bool) (id : FileId) (c
     (read : FileReading) (end : ℕ) → ReadsBytes last id content read → read.format.alignment ≡ 0
     → read.end ≡ Some end → HasHeader (log_format id.queue directories) (header_bytes read.format) content
 
--- `read` has one batch for each record of the finished file `past`. It ends after the last of them, and no fault was
--- found.
+-- `read` has one batch for each record of the finished file `past`, and no fault was found. Its end is that of these
+-- records.
 pub record ReadsWhole (id : FileId) (past : Past LogRecord) (read : FileReading) : Type 0 where
   pub sound : read.fault ≡ None
   pub end : read.end ≡ Some (length past.header + length (spelled past.records))

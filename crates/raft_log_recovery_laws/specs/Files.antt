@@ -34,8 +34,8 @@ pub data AreQueueFiles (layout : QueueLayout LogRecord) (q : Spanned LogRecord) 
       → AreAll layout q d earlier last → AreQueueFiles layout q d files
   none_made : files ≡ [] → IsUnbegun layout q d → AreQueueFiles layout q d files
 
--- The queue's last file was read up to the end that `ending` has. If there is an end, the file begins with the header
--- of the format in `ending`.
+-- `ending` is right for the queue's last file: it has the end of the file's whole records, or `None` if the file has no
+-- header. If there is an end, the file begins with the header of the format in `ending`.
 pub record ReadsAsTold (layout : QueueLayout LogRecord) (q : Spanned LogRecord) (d : Disk) (last : File)
     (ending : FileEnding) : Type 0 where
   pub read : HasFile last.handle.file (IsReadTo layout.format q.files.last ending.end) d

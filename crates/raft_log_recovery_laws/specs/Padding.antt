@@ -1,4 +1,5 @@
--- No log that an engine left has padding between its records, so an open has none to remove.
+-- A log that an engine left has no padding between its records, unless there is a CRC collision. So an open has none to
+-- remove.
 use Rattle.std.specs.Prelude.{◌<◌, List, length}
 use Rattle.raft_log_fs.specs.Disk.{Disk}
 use Rattle.raft_log_fs.specs.Image.{IsSound}

@@ -1,4 +1,4 @@
--- The text of answers and of verdicts: a line each.
+-- The text of answers and of verdicts, one line for each.
 use Rattle.std.specs.Prelude.{◌≡◌, ℕ, Bool, true, false, List, [], ◌∷◌, ◌++◌, Option, Some, None, codes, map, string_bytes, String}
 use Rattle.std.specs.Fmt.{decimal}
 use Rattle.std.specs.declared.alloc.Global.{Global}

@@ -1,4 +1,4 @@
--- What an engine's other calls, a purge, a close and an open, do to the contents of its log, and so to the voters.
+-- What a purge, a close, a fork and an open do to the contents of a log, and so to the voters.
 use Rattle.std.specs.Prelude.{◌≡◌, ◌⊎◌, ℕ, List, [], take}
 use Rattle.raft_log_fs.specs.Disk.{Disk}
 use Rattle.raft_log_model_laws.specs.Groups.{taken}

@@ -27,7 +27,8 @@ pub record AreAll (layout : QueueLayout LogRecord) (q : Spanned LogRecord) (d : 
   pub permitted : last.handle.permission ≡ ReadWrite
   pub begins : (m : ℕ) → suc m ≡ first_number earlier last → IsAbsent layout.format m d
 
--- `files` are all files of a queue at rest. There are none if no file of the queue was created yet.
+-- `files` are the files of a queue at rest, from the last gap in their numbers on. There are none if no file of the
+-- queue was created yet.
 pub data AreQueueFiles (layout : QueueLayout LogRecord) (q : Spanned LogRecord) (d : Disk) (files : List File)
     : Type 0 where
   some_made : (earlier : List File) (last : File) → files ≡ earlier ++ last ∷ []
@@ -42,8 +43,9 @@ pub record ReadsAsTold (layout : QueueLayout LogRecord) (q : Spanned LogRecord) 
   pub headed : (end : ℕ) → ending.end ≡ Some end
       → HandleBeginsWith layout.format last.handle (header_bytes ending.format) d
 
--- `files` are all files of a queue at rest, and each has its ending in `endings`. No file before the last one is
--- damaged. There are no files if none was created yet.
+-- `files` are the files of a queue at rest, from the last gap in their numbers on. `endings` has an ending for each:
+-- none before the last says that its file is damaged, and the last one is right (`ReadsAsTold`). There are no files if
+-- none was created yet.
 pub data AreToldOf (layout : QueueLayout LogRecord) (q : Spanned LogRecord) (d : Disk) (files : List File)
     (endings : List FileEnding) : Type 0 where
   some_told : (earlier : List File) (last : File) (front : List FileEnding) (ending : FileEnding)

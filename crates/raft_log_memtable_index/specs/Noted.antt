@@ -83,8 +83,8 @@ MovesIn n [] = Unit {0}
 MovesIn n (MoveRun f ps ∷ xs) = AllIn n ps × MovesIn n xs
 MovesIn n (MoveKey k file ∷ xs) = MovesIn n xs
 
--- In each queue, the file number never falls from one entry to the next. Those of Append are at most `a`, those of
--- Rewrite at most `r`.
+-- In each queue, the file number never falls from one entry to the next. The file numbers in Append are at most `a`,
+-- those in Rewrite at most `r`.
 pub record FilesRise (a r : ℕ) (v : Shown) : Type 0 where
   pub appended : (i j : ℕ) → v.first + v.rewritten ≤ i → i ≤ j → j < v.first + length v.places
       → file_at v (Index i) ≤ file_at v (Index j)

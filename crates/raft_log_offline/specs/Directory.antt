@@ -30,7 +30,7 @@ TellsAbsence path (errors.InvalidArgument text) = string_bytes text ≡ told_abs
 TellsAbsence path errors.Memory = Unit {0}
 TellsAbsence path _ = ⊥
 
--- something has this path, and the log there was checked with these settings
+-- something has this path, and the log there was checked with the settings `checked_settings path`
 pub record ChecksDirectory (path : List ℕ) (findings : List (ℕ × ℕ)) (old new : Disk) : Type 0 where
   pub there : HasPath path old
   pub config : Config

@@ -83,8 +83,8 @@ write_items (writes.Entries skipped index) sent = run_items index (drop skipped 
 write_items (writes.CompactTo index) sent = Compact (index + 1) ∷ []
 write_items writes.Clean sent = Clean ∷ []
 
--- the items for the change `c` that was decided for the request `q`: the log, then the state, unless the voter is
--- retired
+-- The items for the change `c` that was decided for the request `q`: those for the log, then the new state. If the
+-- request retires the voter, there is none for the state.
 abbrev pub decided_items : Change → Request → List Words
 decided_items c q =
     write_items c.write (sent_of q)

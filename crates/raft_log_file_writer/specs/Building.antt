@@ -49,7 +49,8 @@ pub data FailsToBuild (path : List ℕ) (format : LogFileFormat) (create : Bool)
       → FailsToTakeUp handle (header_bytes format) create kind between new
       → FailsToBuild path format create error old new
 
--- If the writer's file existed, then up to the writer's offset it has its old content, or `header` if that was shorter.
+-- If the writer's file existed on disk `old`, then up to the writer's offset it has its old content. If that was
+-- shorter than `header`, it has `header` instead.
 abbrev pub IsGoneOn : List ℕ → LogFileWriter → Disk → Disk → Type 0
 IsGoneOn header writer old new = (file : File) → old.files writer.handle.file ≡ Some file
     → IsWritten writer (taken_up header false file.content) new

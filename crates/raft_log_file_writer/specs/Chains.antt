@@ -85,8 +85,8 @@ pub record HoldsNothing {R : Type 0} (IsFrame : List ℕ → R → Type 0) (star
   pub chain : HoldsChain IsFrame start stale [] [] file
   pub only : HasStaleFrom 0 stale file
 
--- A file whose bytes are all synced is one without records, if all its bytes count as stale. This is so for a new file
--- and for a recycled one.
+-- A file whose bytes are all synced counts as one without records (`HoldsNothing`), if all its bytes are stale. This is
+-- so for a new file and for a recycled one.
 abbrev pub RestHoldsNothing : {R : Type 0} → (List ℕ → R → Type 0) → Type 0
 RestHoldsNothing IsFrame = (start : ℕ) (content : List ℕ)
     → HoldsNothing IsFrame start content (at_rest content)

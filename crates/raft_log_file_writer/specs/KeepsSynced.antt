@@ -15,7 +15,7 @@ pub record IsHandedIn (changes : List Change) (at : ℕ) (bytes : List ℕ) : Ty
   pub is : Contains changes (Wrote from all)
   pub inside : LiesIn from all at bytes
 
--- `stale`, the stale bytes of a file, has `bytes` at the offset `at`
+-- `stale`, the stale bytes of a file, have `bytes` at the offset `at`
 abbrev pub IsStale : List ℕ → ℕ → List ℕ → Type 0
 IsStale stale at bytes = take (length bytes) (drop at stale) ≡ bytes
 
@@ -102,12 +102,12 @@ DurableIsRead {R} IsFrame = IsSelfDelimiting IsFrame
     → (ws : List (Written R)) → Reads IsFrame start ws bytes → (more : List (Written R))
     × (ws ≡ durable ++ more)
 
--- from the offset `from` on, `bytes` has at each offset the byte that `stale` has there; it doesn't end after `stale`
+-- each byte of `bytes` at the offset `from` or after it is one that `stale` has at the same offset
 abbrev pub StandsBehind : ℕ → List ℕ → List ℕ → Type 0
 StandsBehind from stale bytes = (place : ℕ) → from ≤ place → place < length bytes
     → (place < length stale) × (slice_index bytes place ≡ slice_index stale place)
 
--- What keeps a chain in its file:
+-- What keeps a chain in its file. `content` is what the file contains after the change; it may be anything.
 -- - `written`: a record was written after the chain, whatever part of it is on disk; it is now the last pending one.
 -- - `to_be_written`: records that are still to be written count as pending.
 -- - `shortened`: the file was truncated, but not before the end of the durable records.

@@ -8,8 +8,8 @@ pub record Written (R : Type 0) : Type 0 where
   pub bytes : List ℕ
   pub value : R
 
--- if two byte strings begin with an encoding of a record each, and are equal, so are the encodings and the records; no
--- encoding is empty
+-- If the same bytes begin with the encodings of two records, these are the same record with the same encoding. No
+-- encoding is empty.
 pub record IsSelfDelimiting {R : Type 0} (IsFrame : List ℕ → R → Type 0) : Type 0 where
   pub apart : (a b x y : List ℕ) (r s : R) → IsFrame a r → IsFrame b s → a ++ x ≡ b ++ y → (a ≡ b) × (r ≡ s)
   pub filled : (r : R) → IsFrame [] r → ⊥
@@ -50,7 +50,8 @@ pub record Reads {R : Type 0} (IsFrame : List ℕ → R → Type 0)
   pub frames : AreFrames IsFrame ws
   pub ends : Refuses IsFrame rest
 
--- reading `bytes` from `start` on finds the record `w` at the offset `at`: only whole records come before it
+-- reading `bytes` from `start` on finds the record `w` at the offset `at`: between `start` and `at` there are only
+-- whole records
 pub record Meets {R : Type 0} (IsFrame : List ℕ → R → Type 0)
     (start at : ℕ) (w : Written R) (bytes : List ℕ) : Type 0 where
   pub before : List (Written R)

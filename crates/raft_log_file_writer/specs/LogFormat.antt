@@ -50,11 +50,12 @@ abbrev pub ReadsFile : {R : Type 0} → Format R → ℕ → List (Written R) �
 ReadsFile F n ws bytes = ((ws ≡ []) × ((header : List ℕ) → HasHeader F header bytes → ⊥))
     ⊎ ((header : List ℕ) × HasHeader F header bytes × Reads (F.IsFrame n header) (length header) ws bytes)
 
--- No CRC collision in what a stop left (`bytes`) of the file with number `n`:
--- - `headers`: it begins with no other header than its own. A torn header could be read as one of another version and
--- length.
--- - `records`: each record that is read of it was written at that offset under this number.
--- - `plain`: a reader doesn't take it for a file with an alignment.
+-- No CRC collision in `bytes`, which a stop left of `file`, the file with number `n`. `header` is its header, `stale`
+-- its stale bytes, and `own` the bytes of its records.
+-- - `headers`: the bytes begin with no other header than the file's own. A torn header could be read as one of another
+--   version and length.
+-- - `records`: each record that is read of them was written at that offset under this number.
+-- - `plain`: a reader doesn't take them for a file with an alignment.
 pub record NoChanceInFile {R : Type 0} (F : Format R) (n : ℕ) (header stale own : List ℕ)
     (file : File) (bytes : List ℕ) : Type 0 where
   pub headers : (other : List ℕ) → HasHeader F other bytes → other ≡ header

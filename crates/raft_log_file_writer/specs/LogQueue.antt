@@ -54,8 +54,8 @@ pub record HeaderStands (header : List ℕ) (file : File) : Type 0 where
   pub front : take (length header) file.synced ≡ header
   pub spared : (place : ℕ) → place < length header → All (Spares place) file.changes
 
--- The last file holds its chain, with at least the durable records synced. Its header is durable, unless the file has
--- no record yet; then any part of the header may be on disk.
+-- The queue's last file holds its records as a chain, with at least the durable ones synced. Its header is durable,
+-- unless the file has no record yet. In that case any part of the header may be on disk.
 pub record HoldsLast {R : Type 0} (F : Format R) (q : LogFiles R) (file : File) : Type 0 where
   pub chain : HoldsAtLeast (F.IsFrame q.last q.header) (length q.header) q.stale q.durable q.pending file
   pub headed : HeaderStands q.header file ⊎ (recent q ≡ [])
@@ -136,14 +136,14 @@ abbrev pub found_from : {R : Type 0} → ℕ → LogFiles R → ℕ → List (Fo
 found_from s q count = past_from q.older s (q.last - s)
     ++ record { number = q.last; records = kept_records q.durable q.pending count } ∷ []
 
--- no CRC collision in what a stop, which made `image` of `d`, left of the queue's last file
+-- A stop, which made disk `image` of disk `d`, left no CRC collision in the last file of the queue `q`.
 abbrev pub NoChanceInLast : {R : Type 0} → Format R → LogFiles R → Disk → Disk → Type 0
 NoChanceInLast F q d image = (path : List ℕ) (id : ℕ) (file after : File) → F.IsPath q.last path
     → d.names path ≡ Some id → d.files id ≡ Some file → image.files id ≡ Some after
     → NoChanceInFile F q.last q.header q.stale (spelled (recent q)) file after.content
 
--- If `P` holds for the last file, it keeps its records: after any stop without a CRC collision, reading it gives the
--- durable records and a prefix of the pending ones.
+-- If `P` holds for the last file of the queue `q`, the file keeps its records. After any stop without a CRC collision,
+-- reading it gives the durable records and a prefix of the pending ones.
 abbrev pub KeepsLast : {R : Type 0} → Format R → LogFiles R → (File → Type 0) → Type 0
 KeepsLast {R} F q P = (file : File) → P file → (bytes : List ℕ) → IsLeft file bytes
     → NoChanceInFile F q.last q.header q.stale (spelled (recent q)) file bytes
@@ -176,7 +176,7 @@ IsReadable {R} F q d = (image : Disk) → IsImage d image → (s : ℕ) → s �
 -- The theorem on what is read of a queue after a stop without a CRC collision.
 -- - `holding`, `left_over`: reading the last file gives its durable records and a prefix of the pending ones. This is
 --   true of a file in use, and of one that a stop left.
--- - `kept`, `restarted`: reading the queue gives these and all records of earlier files.
+-- - `kept`, `restarted`: reading the queue gives these records of the last file and all records of the earlier files.
 -- - `ends`: from whatever number reading begins, it gives the same pending records.
 pub record QueueIsKept {R : Type 0} (F : Format R) : Type 0 where
   pub holding : (q : LogFiles R) → F.IsHeader q.header → KeepsLast F q (HoldsLast F q)

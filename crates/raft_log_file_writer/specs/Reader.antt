@@ -11,8 +11,8 @@ use Rattle.raft_log_fs.specs.Reading.{IsUnread, IsNotMeasured}
 use Rattle.raft_log_fs.specs.Touching.{HasFile}
 use Rattle.raft_log_fs.specs.declared.handle.Handle.{Handle}
 
--- Why the file at `path` wasn't opened: the file system has stopped; or it runs, and memory ran out or no file has the
--- path.
+-- Why the file at `path` wasn't opened: the file system has stopped. Or it runs, and either memory ran out or no file
+-- has the path.
 abbrev pub IsOpenRefusal : List ℕ → Disk → Error → Type 0
 IsOpenRefusal path d errors.Memory = d.stopped ≡ false
 IsOpenRefusal path d (errors.Io kind) = IsAfterStop d kind ⊎ ((d.stopped ≡ false) × WrongName path d kind)
@@ -53,8 +53,8 @@ pub record BeginsWithHeader (format : LogFileFormat) (file : File) : Type 0 wher
 abbrev pub GivesFormat : LogFileFormat → File → Type 0
 GivesFormat format file = (rest : List ℕ) × (header_of file ≡ Ok (format, rest))
 
--- Why no format was read of a file: the file system failed the read of the first 69 bytes, or memory ran out. Or the
--- header has this fault, if what was read is what the disk holds.
+-- Why no format was read of a file: memory ran out, or the file system failed the read of the first 69 bytes. If reads
+-- are honest, any other error is a fault of the header on disk.
 abbrev pub IsFormatRefusal : Bool → Handle → Disk → Error → Type 0
 IsFormatRefusal honest handle d errors.Memory = Unit {0}
 IsFormatRefusal honest handle d (errors.Io kind) = IsUnread handle 0 69 d kind

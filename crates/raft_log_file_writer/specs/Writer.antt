@@ -62,8 +62,8 @@ pub record IsWriterAt (writer : LogFileWriter) (handle : Handle) (written capaci
 
 -- Writing: which calls are made, in which order.
 
--- How many bytes are allocated for a write that ends at `end`, after `capacity`: those that are missing. Or those
--- missing to the target size, but at most 2 MiB, if these are more.
+-- How many bytes are allocated after `capacity` for a write that ends at `end`. It is the larger one of two numbers:
+-- the bytes missing up to `end`, and those missing up to the target size, but at most 2 MiB.
 abbrev pub allocated : ℕ → ℕ → ℕ → ℕ
 allocated capacity end target = max (end - capacity) (min 2097152 (target - capacity))
 
@@ -176,8 +176,8 @@ pub record CanBeTakenUp (handle : Handle) (d : Disk) : Type 0 where
   pub permitted : handle.permission ≡ ReadWrite
   pub there : d.files handle.file ≡ None → ⊥
 
--- after the writer was opened, the file has its header up to the writer's offset if that was written, otherwise all its
--- old content
+-- If the handle may write its file, then after the writer was opened, the bytes up to its offset are these: the header
+-- if it was written, otherwise all of the file's old content.
 abbrev pub IsTakenUp : Handle → List ℕ → Bool → LogFileWriter → Disk → Disk → Type 0
 IsTakenUp handle header reset writer old new = (file : File) → handle.permission ≡ ReadWrite
     → old.files handle.file ≡ Some file → IsWritten writer (taken_up header reset file.content) new

@@ -19,8 +19,7 @@ pub record Located : Type 0 where
 abbrev pub in_queue : Bool → Place → Located
 in_queue appended p = record { appended = appended; place = p }
 
--- the places with their queue: as many as the first argument says, from the front, are in Rewrite, the others in
--- Append
+-- the places with their queue: the first `n` (the first argument) are in Rewrite, the others in Append
 abbrev pub located : ℕ → List Place → List Located
 located zero ps = map (in_queue true) ps
 located (suc n) [] = []
@@ -39,12 +38,12 @@ table_of v = record {
   values = λ k. bytes_held (v.held k);
 }
 
--- the item with the entries that it writes in Append, if `at` gives the bytes at each place
+-- the item as it is written to Append: with the bytes of its entries, which `at` gives for each place
 abbrev pub written : {E : Type 0} → (Located → E) → Item Place (List ℕ) → Item E (List ℕ)
 written at x = renamed (λ p. at (in_queue true p)) x
 
--- The table represents the contents `m` of its group: in each slot, `m` has what the table has, if `at` gives the
--- bytes at each place.
+-- The table `v` represents the contents `m` of its group: `m` has the same in each slot. `at` gives the bytes at each
+-- place.
 abbrev pub IsMeant : {E : Type 0} → (Located → E) → Shown → (Slot → Option (Content E (List ℕ))) → Type 0
 IsMeant at v m = (s : Slot) → option_map (renamed_content at) (content (table_of v) s) ≡ m s
 
@@ -104,7 +103,7 @@ abbrev pub CanAllMove : {E : Type 0} → (Located → E) → Shown → List Move
 CanAllMove at v [] = Unit {0}
 CanAllMove at v (x ∷ xs) = CanMove at v x × CanAllMove at (moved v x) xs
 
--- the item that copies key `k`: a put of its value, or nothing if it has none
+-- the item that copies key `k`: a put of its value, or an empty run if it has none
 abbrev pub item_of_key : {E : Type 0} → List ℕ → Option KeyValue → Item E (List ℕ)
 item_of_key k None = Run 0 []
 item_of_key k (Some h) = Put k h.bytes

@@ -8,7 +8,7 @@ use Rattle.raft_log_memtable_index.specs.Bridge.{rewritten_value}
 use Rattle.raft_log_memtable_index.specs.declared.key_map.HeldValue.{HeldValue}
 use Rattle.raft_log_memtable_index.specs.declared.key_map.KeySlot.{KeySlot}
 
--- For each key: its value, if any, and whether its Del is owed.
+-- What a table knows of each key: its value, if any, and whether its Del is owed.
 pub record Keys : Type 0 where
   pub values : List ℕ → Option KeyValue
   pub deleted : List ℕ → Bool

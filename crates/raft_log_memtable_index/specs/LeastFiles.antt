@@ -1,4 +1,4 @@
--- The file with the lowest number that holds a value of a key.
+-- The lowest file of a queue that has the value of a key.
 use Rattle.std.specs.Prelude.{◌≡◌, ℕ, ◌≤◌, min, Bool, not, List, [], ◌∷◌, Option, Some, None, map, if◌then◌else◌}
 use Rattle.raft_log_memtable_index.specs.Shown.{KeyValue}
 use Rattle.raft_log_memtable_index.specs.declared.key_map.HeldValue.{HeldValue}
@@ -10,23 +10,24 @@ lesser None b = b
 lesser (Some a) None = Some a
 lesser (Some a) (Some b) = Some (min a b)
 
--- the file of a value, if it is in Append and `appended` is true, or in Rewrite and `appended` is false
+-- the file of a value, if there is one in this queue: in Append if `appended` is true, else in Rewrite
 abbrev pub file_of_value : Bool → Option HeldValue → Option ℕ
 file_of_value appended None = None
 file_of_value appended (Some h) =
     if (if appended then h.appended else not h.appended) then Some h.file else None
 
--- the lowest of `least` and the files of these slots' values in that queue
+-- the lowest one of `least` and the files of these slots' values in one queue: Append if `appended` is true, else
+-- Rewrite
 abbrev pub least_over : Bool → Option ℕ → List KeySlot → Option ℕ
 least_over appended least [] = least
 least_over appended least (s ∷ ss) = least_over appended (lesser least (file_of_value appended s.held)) ss
 
--- the lowest file of these slots' values in that queue: Append if `appended` is true, else Rewrite
+-- the lowest file of these slots' values in one queue: Append if `appended` is true, else Rewrite
 abbrev pub least_value : Bool → List (List ℕ × KeySlot) → Option ℕ
 least_value appended slots = least_over appended None (map (λ e. e.1) slots)
 
--- The lowest file number of the values in Append if `appended` is true, else in Rewrite. Some value is in that file,
--- and none in a lower one. `None` if the queue has no value.
+-- The last argument is the lowest file number of the values in one queue: Append if `appended` is true, else Rewrite.
+-- Some value is in that file, and none in a lower one. It is `None` if the queue has no value.
 abbrev pub IsLeastValue : Bool → (List ℕ → Option KeyValue) → Option ℕ → Type 0
 IsLeastValue appended held None =
     (k : List ℕ) (h : KeyValue) → held k ≡ Some h → h.appended ≡ appended → ⊥

@@ -21,14 +21,14 @@ CountsAll {X} values n = (es : List (List ℕ × X)) × ListsAll values es × (n
 abbrev pub AddsAll : {X : Type 0} → (List ℕ → Option X) → List (List ℕ × X) → List (List ℕ × X) → Type 0
 AddsAll {X} values old new = (es : List (List ℕ × X)) × ListsAll values es × (new ≡ old ++ es)
 
--- `ks` lists every key for which `marked` is true, once, in the order of the bytes
+-- `ks` lists every key for which `marked` is true, once, in the order of the keys' bytes
 pub record ListsMarked (marked : List ℕ → Bool) (ks : List (List ℕ)) : Type 0 where
   pub rising : IsStrictlySortedBy (slice_cmp nat_cmp) ks
   pub owed : AllOwed marked ks
   pub all : (k : List ℕ) → without marked ks k ≡ false
 
--- Whether a value is to be listed. With a gate, values in Append are, in files up to that number. Without one, values
--- in Rewrite are.
+-- Whether a value is to be listed. With a gate, these are the values of Append in files up to the gate's number.
+-- Without one, these are the values of Rewrite.
 abbrev pub is_asked : Option ℕ → KeyValue → Bool
 is_asked None h = not h.appended
 is_asked (Some gate) h = h.appended && nat_le h.file gate

@@ -1,5 +1,5 @@
--- This file says in which files a memtable's entries and values are. For Rewrite it also says which is the first file
--- that must be kept to recover them, because atomic groups can reach over several files.
+-- In which files a memtable's entries and values are. For Rewrite also the first file that must be kept so that they
+-- can be recovered, because atomic groups can reach over several files.
 use Rattle.std.specs.Prelude.{◌≡◌, ℕ, ◌+◌, ◌-◌, ◌<◌, ◌≤◌, ◌⊎◌, min, max, false, List, [], ◌∷◌, length, Option, Some, None, if◌then◌else◌, nat_le, slice_get}
 use Rattle.raft_log_model_laws.specs.Item.{Item}
 use Rattle.raft_log_model_laws.specs.Item.Item.{Run}
@@ -28,13 +28,13 @@ abbrev pub file_at : Shown → Slot → ℕ
 file_at v (Index i) = place_file (slice_get v.places (i - v.first))
 file_at v (Key k) = held_file (v.held k)
 
--- The first file that must be kept for what is in file `n` of Rewrite to be recovered. If an atomic group may reach
--- into file `n`, it is the first file of the groups. Otherwise it is `n`.
+-- The first file that must be kept so that what is in file `n` of Rewrite can be recovered. If the last file of the
+-- noted atomic groups is `n` or later, it is their first file, but at most `n`. Otherwise it is `n`.
 abbrev pub start_of : ℕ → Option GroupFiles → ℕ
 start_of n None = n
 start_of n (Some files) = if nat_le n files.to then min files.from n else n
 
--- the first file of Rewrite that must be kept for what is in slot `s` to be recovered
+-- the first file of Rewrite that must be kept so that what is in slot `s` can be recovered
 abbrev pub noted_at : Shown → Slot → ℕ
 noted_at v s = start_of (file_at v s) v.noted
 
@@ -44,14 +44,14 @@ IsLeastInRewrite v least =
     ((i : ℕ) → v.first ≤ i → i < v.first + v.rewritten → least ≤ file_at v (Index i))
     × ((k : List ℕ) (h : KeyValue) → v.held k ≡ Some h → h.appended ≡ false → least ≤ h.file)
 
--- The files of atomic groups to record after a group in the files `new` ended. The old files are kept too, unless
--- their last one is below `least`, so that nothing of Rewrite is in them.
+-- The files to note after an atomic group in the files `new` ended. The files that were noted before stay noted, unless
+-- the last one is below `least`, so that nothing of Rewrite is in them.
 abbrev pub noting : ℕ → Option GroupFiles → GroupFiles → GroupFiles
 noting least None new = new
 noting least (Some old) new =
     if nat_le least old.to then record { from = min old.from new.from; to = max old.to new.to } else new
 
--- the table after it recorded the files of that group
+-- the table after it noted the files `new` of an atomic group
 abbrev pub with_note : Shown → ℕ → GroupFiles → Shown
 with_note v least new = record v { noted = Some (noting least v.noted new) }
 
@@ -83,8 +83,8 @@ MovesIn n [] = Unit {0}
 MovesIn n (MoveRun f ps ∷ xs) = AllIn n ps × MovesIn n xs
 MovesIn n (MoveKey k file ∷ xs) = MovesIn n xs
 
--- In each queue, the file number never falls from one entry to the next. Those of Append are at most `a`, those of
--- Rewrite at most `r`.
+-- In each queue, the file number never falls from one entry to the next. The file numbers in Append are at most `a`,
+-- those in Rewrite at most `r`.
 pub record FilesRise (a r : ℕ) (v : Shown) : Type 0 where
   pub appended : (i j : ℕ) → v.first + v.rewritten ≤ i → i ≤ j → j < v.first + length v.places
       → file_at v (Index i) ≤ file_at v (Index j)

@@ -14,8 +14,8 @@ use Rattle.raft_log_memtable_index.specs.Shown.{IsOrderly, KeyValue, Shown, noth
 use Rattle.raft_log_memtable_index.specs.Bridge.{Located, in_queue, located, unmarked}
 
 -- The result of replaying items of a group: the table that they make, and which earlier entries they leave. Unless
--- there was a Clean, they leave the entries from `low` on, below `high`. `low` is the greatest index of a Compact,
--- and `high` the least start of a run.
+-- there was a Clean, they leave the entries from `low` on, below `high` if there is one. `low` is the greatest index of
+-- a Compact, and `high` the least start of a run.
 pub record Replayed : Type 0 where
   pub table : Shown
   pub low : ℕ
@@ -113,7 +113,8 @@ joined a z =
     if z.table.cleaned then z
     else record { table = with_newer a.table z; low = max z.low a.low; high = lesser z.high a.high }
 
--- The table that was read of Rewrite, with the result of Append applied. The tombstones of the first are dropped.
+-- The table that was read of Rewrite, with the result of Append applied. The tombstones of Rewrite's table are no
+-- longer owed, since they were read from Rewrite itself.
 abbrev pub merged : Shown → Replayed → Shown
 merged v z = if z.table.cleaned then z.table else with_newer (unmarked v) z
 
@@ -133,7 +134,7 @@ placed q n (Compact c) = Compact c
 placed q n (Put k w) = Put k (record { bytes = w; appended = q; file = n })
 placed q n (Del k) = Del k
 
--- the item with bytes, if `at` gives the bytes at each place
+-- the item with the bytes of its entries, which `at` gives for each place, and of its value
 abbrev pub told : {E : Type 0} → (Located → E) → Item Located KeyValue → Item E (List ℕ)
 told at (Run f ps) = Run f (map at ps)
 told at Clean = Clean

@@ -8,15 +8,15 @@ use Rattle.raft_log_machine_laws.specs.Machine.{Fits}
 use Rattle.raft_log_extents.specs.declared.place.Place.{Place}
 use Rattle.raft_log_memtable_index.specs.declared.group_files.GroupFiles.{GroupFiles}
 
--- the value of a key, its queue, which is Append if `appended` is true, and its file number
+-- A key's value: its bytes, its queue (Append if `appended` is true, else Rewrite), and its file number.
 pub record KeyValue : Type 0 where
   pub bytes : List ℕ
   pub appended : Bool
   pub file : ℕ
 
--- A table. Its entries have indexes from `first` on and these places; the first `rewritten` ones are in Rewrite, the
--- others in Append. Since tombstones were last written to Rewrite, there was a Clean, a Compact, or a Del of these
--- keys. `noted` is the range of files of the atomic groups in Rewrite that may still be needed.
+-- A group's table. Its entries have indexes from `first` on and these places; the first `rewritten` ones are in
+-- Rewrite, the others in Append. `cleaned`, `compacted` and `deleted` say whether a Clean, a Compact or the Del of a
+-- key is owed to Rewrite. `noted` is the range of files of the atomic groups in Rewrite that may still be needed.
 pub record Shown : Type 0 where
   pub first : ℕ
   pub places : List Place
@@ -78,7 +78,7 @@ abbrev pub with_put : ℕ → Shown → List ℕ → List ℕ → Shown
 with_put n v key value =
     record v { held = with_held v.held key (Some (record { bytes = value; appended = true; file = n })) }
 
--- the table after a Del of `key`: the key has no value, and its Del is owed, even if it had none before
+-- the table after a Del of `key`: the key has no value, and its Del is owed, even if the key had no value before
 abbrev pub with_del : Shown → List ℕ → Shown
 with_del v key = record v {
   held = with_held v.held key None;

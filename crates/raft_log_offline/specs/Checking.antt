@@ -26,7 +26,8 @@ use Rattle.raft_log_offline.specs.Findings.{Lists, finding_of}
 use Rattle.raft_log_offline.specs.Kept.{KeepsRuns, IsOutOfMemory}
 use Rattle.raft_log_offline.specs.declared.checker.ConsistencyChecker.{ConsistencyChecker}
 
--- the files of a queue have these batches, file after file, and `endings` says how the recovery treats each file
+-- `batches` are those of the files of a queue on disk `d`, file after file. `endings` says for each file where its
+-- records end and whether it is damaged.
 pub record HoldAll (queue : LogQueue) (mode : RecoveryMode) (files : List File) (d : Disk)
     (batches : List Batch) (endings : List FileEnding) : Type 0 where
   pub segments : List (List Batch)
@@ -34,8 +35,8 @@ pub record HoldAll (queue : LogQueue) (mode : RecoveryMode) (files : List File) 
   pub all : length segments ≡ length files
   pub joined : batches ≡ all_batches segments
 
--- The log's files were found, and have the batches `append` and `rewrite`. Then the damaged files were truncated,
--- those of Append first.
+-- The log's files were found, and have the batches `append` and `rewrite`. Then the damaged files were truncated, those
+-- of Append first. `old` is the disk before this, `new` the disk after it.
 pub record ReadsLogFiles (config : Config) (append rewrite : List Batch) (old new : Disk) : Type 0 where
   pub found : DualPipesBuilder
   pub scanned : Disk
@@ -56,7 +57,8 @@ pub record ChecksLog (config : Config) (findings : List (ℕ × ℕ)) (old new :
   pub reads : ReadsLogFiles config append rewrite old new
   pub lists : Lists (finding_of append rewrite) findings
 
--- The log's files were read, and each checker has what it keeps of the runs of entries in its queue's records.
+-- The log's files were read. Each queue's checker has, for each group, the first and the last index and the finding of
+-- the group's runs in that queue.
 pub record ReadsRuns (config : Config) (append rewrite : ConsistencyChecker) (old new : Disk) : Type 0 where
   pub append_batches : List Batch
   pub rewrite_batches : List Batch
@@ -65,11 +67,11 @@ pub record ReadsRuns (config : Config) (append rewrite : ConsistencyChecker) (ol
   pub rewrite_kept : KeepsRuns Rewrite rewrite_batches rewrite
 
 -- Why a check of a log fails, and the disk after it:
--- - the file system had stopped, which is reported before all else
--- - the settings have a fault
--- - finding the log's files failed
--- - reading a queue failed, or truncating its damaged files
--- - memory ran out for the list of findings
+-- - `ended`: the file system had stopped.
+-- - `unsound`: the settings have a fault.
+-- - `unfound`: finding the log's files failed.
+-- - `unread`: reading a queue failed, or truncating its damaged files.
+-- - `unlisted`: the log's files were read, but memory ran out for the list of findings.
 pub data FailsToCheck (config : Config) (error : Error) (old new : Disk) : Type 0 where
   ended : old.stopped ≡ true → error ≡ errors.Io Other → new ≡ old → FailsToCheck config error old new
   unsound : IsRefusedFor (settings_of config) error → new ≡ old → FailsToCheck config error old new

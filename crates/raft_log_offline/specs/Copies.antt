@@ -9,8 +9,8 @@ use Rattle.raft_log_fs.specs.Causes.{Fails, IsLater}
 use Rattle.raft_log_recovery_scan.specs.Names.{built_name}
 use Rattle.raft_log_offline.specs.declared.source_file.SourceFile.{SourceFile}
 
--- No name and no file that was there changed: each has the same bytes, synced or not. Only `target` may be a directory
--- now that was none. Only paths for which `own` holds may name a file now that named none.
+-- From disk `old` to disk `new`, no name, directory or file that was there changed. Only `target` may be a new
+-- directory. Only paths for which `own` holds may name new files.
 pub record AddsOnly (target : List ℕ) (own : List ℕ → Type 0) (old new : Disk) : Type 0 where
   pub directories : (path : List ℕ) → (path ≡ target → ⊥) → new.directories path ≡ old.directories path
   pub there : (path : List ℕ) → old.directories path ≡ true → new.directories path ≡ true

@@ -23,22 +23,22 @@ HasPath path d = IsFreePath path d → ⊥
 abbrev pub told_absent : List ℕ → List ℕ
 told_absent path = codes "No such directory: " ++ path
 
--- the error if no file and no directory has the path: `InvalidArgument` with this message, or `Memory` if it could not
--- be allocated
+-- the error if no file and no directory has the path: `InvalidArgument` with the message `told_absent`, or `Memory` if
+-- the message could not be allocated
 abbrev pub TellsAbsence : List ℕ → Error → Type 0
 TellsAbsence path (errors.InvalidArgument text) = string_bytes text ≡ told_absent path
 TellsAbsence path errors.Memory = Unit {0}
 TellsAbsence path _ = ⊥
 
--- something has this path, and the log there was checked with these settings
+-- something has this path, and the log there was checked with the settings `checked_settings path`
 pub record ChecksDirectory (path : List ℕ) (findings : List (ℕ × ℕ)) (old new : Disk) : Type 0 where
   pub there : HasPath path old
   pub config : Config
   pub usual : settings_of config ≡ checked_settings path
   pub checks : ChecksLog config findings old new
 
--- Why a check of the log in this directory fails. If nothing has the path, or that can't be found out, nothing is
--- done. Else the check itself failed.
+-- Why a check of the log in the directory `path` fails. Nothing is done if nothing has the path, or if the file system
+-- failed to say whether something has it. Otherwise the check itself failed.
 pub data FailsToCheckDirectory (path : List ℕ) (error : Error) (old new : Disk) : Type 0 where
   absent : IsFreePath path old → TellsAbsence path error → new ≡ old → FailsToCheckDirectory path error old new
   unknown : FailsToLook old error → new ≡ old → FailsToCheckDirectory path error old new

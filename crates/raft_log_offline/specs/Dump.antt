@@ -14,15 +14,15 @@ abbrev pub Dumps : {F : Type 0} → (F → Disk) → F → List ℕ → LogItemR
 Dumps disk file_system path reader =
     ReadsFilesIn disk file_system path reader ⊎ ReadsFileAt disk file_system path reader
 
--- neither a directory nor a file has the path, and the message has it
+-- neither a directory nor a file has the path, and `text` is the message that says this, with the path
 abbrev pub LacksBoth : List ℕ → Disk → List ℕ → Type 0
 LacksBoth path d text = (text ≡ told (codes "No such file or directory") path) × (d.names path ≡ None)
     × (d.directories path ≡ false)
 
 -- Why a dump of this path fails:
--- - `Io`: the file system has stopped
--- - `InvalidArgument`: nothing has the path, or it is that of a file without a log file's name
--- - `Memory`: memory ran out
+-- - `Io`: the file system has stopped. The other errors come only if it runs.
+-- - `InvalidArgument`: nothing has the path, or it is that of a file without a log file's name.
+-- - `Memory`: memory ran out.
 abbrev pub IsNoDump : List ℕ → Disk → Error → Type 0
 IsNoDump path d (errors.InvalidArgument text) =
     (d.stopped ≡ false) × (LacksBoth path d (string_bytes text) ⊎ IsOtherFile path d (string_bytes text))

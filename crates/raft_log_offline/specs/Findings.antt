@@ -31,7 +31,7 @@ pub record NotesFinding (group : ℕ) (end : Option ℕ) (old new : BTreeMap ℕ
   pub one : found_among new group ≡ option_or end (found_among old group)
   pub others : (other : ℕ) → (group == other) ≡ false → found_among new other ≡ found_among old other
 
--- these findings were added to a map, and replaced those of the same groups
+-- the findings `told` were added to the map, and replaced those of the same groups
 abbrev pub TellsOver : (ℕ → Option ℕ) → BTreeMap ℕ ℕ → BTreeMap ℕ ℕ → Type 0
 TellsOver told old new = (group : ℕ) → found_among new group ≡ told_over told (found_among old) group
 

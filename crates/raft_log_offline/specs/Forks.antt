@@ -22,7 +22,7 @@ use Rattle.raft_log_offline.specs.declared.source_file.SourceFile.{SourceFile}
 abbrev pub LiesWithin : List ℕ → List ℕ → Type 0
 LiesWithin directory path = (path ≡ directory) ⊎ ((rest : List ℕ) × (path ≡ directory ++ 47 ∷ rest))
 
--- the path is that of one of these directories, or of something in one of them
+-- `path` is that of one of these directories, or of something in one of them at any depth
 abbrev pub LiesInOne : List (List ℕ) → List ℕ → Type 0
 LiesInOne directories path = (directory : List ℕ) × Contains directories directory × LiesWithin directory path
 
@@ -51,13 +51,13 @@ pub data Forbids (s : Settings) (target : List ℕ) (d : Disk) (text : List ℕ)
   holds : MayBeCopied s → (LiesInOne (directories_of s) target → ⊥) → HoldsLogFile target d
       → text ≡ codes "the target holds log files" → Forbids s target d text
 
--- no such reason forbids a fork to `target`
+-- no reason that `Forbids` lists applies to a fork to `target`
 pub record IsFree (s : Settings) (target : List ℕ) (d : Disk) : Type 0 where
   pub settings : MayBeCopied s
   pub outside : LiesInOne (directories_of s) target → ⊥
   pub empty : HoldsLogFile target d → ⊥
 
--- no such reason forbids a fork to `target`, and the settings have no fault
+-- no reason that `Forbids` lists applies to a fork to `target`, and the settings have no fault
 abbrev pub AllowsFork : Settings → List ℕ → Disk → Type 0
 AllowsFork s target d = IsFree s target d × HasNoFault s
 
@@ -77,8 +77,8 @@ pub record CopiesAll (target : List ℕ) (files : List SourceFile) (old new : Di
   pub adds : AddsOnly target (IsCopyPath target files) old new
   pub copies : HaveCopies target files old new
 
--- Copying the files failed at one of them. Those before it have their copies, it may have an incomplete one, and
--- nothing else changed. The error is that of a call for this file.
+-- Copying the files failed at one of them. Those before it (`copied`) have their copies. It may have an incomplete
+-- copy, and nothing else changed. The error is that of a call for this file.
 pub record FailsToCopyAll (target : List ℕ) (files : List SourceFile) (error : Error) (old new : Disk)
     : Type 0 where
   pub copied : List SourceFile
@@ -94,8 +94,8 @@ pub record FailsToCopyAll (target : List ℕ) (files : List SourceFile) (error :
 
 -- The whole.
 
--- The directory `target` exists. For each number in each queue it has a copy of one of the log's files with that
--- number. Nothing else changed. `copied` has the paths of the copies, in the order of the files.
+-- A fork succeeded. The directory `target` exists. For each number in each queue it has a copy of one of the log's
+-- files with that number. Nothing else changed. `copied` has the paths of the copies, in the order of the files.
 pub record Forks (s : Settings) (target : List ℕ) (copied : List (List ℕ)) (old new : Disk) : Type 0 where
   pub allowed : AllowsFork s target old
   pub files : List SourceFile
@@ -127,8 +127,10 @@ FailsToMakeTarget target (errors.Io kind) old new = FailsToMakeDirectory target 
 FailsToMakeTarget target errors.Memory old new = new ≡ old
 FailsToMakeTarget target _ old new = ⊥
 
--- Why a fork fails, and the disk after it: it was rejected, and nothing changed; making the directory failed; or
--- copying the files failed.
+-- Why a fork fails, and the disk after it:
+-- - `refused`: it was rejected, and nothing changed.
+-- - `homeless`: making the directory failed.
+-- - `cut_short`: copying the files failed.
 pub data FailsToFork (s : Settings) (target : List ℕ) (error : Error) (old new : Disk) : Type 0 where
   refused : IsForkRefusal s target old error → new ≡ old → FailsToFork s target error old new
   homeless : AllowsFork s target old → FailsToMakeTarget target error old new

@@ -1,5 +1,5 @@
--- What a checker keeps of each group: the ends of its runs of entries, and its finding, the index after which the
--- first indexes are missing.
+-- What a checker keeps of each group: the first and the last index of its runs of entries, and its finding, the index
+-- after which the first indexes are missing.
 use Rattle.std.specs.BTreeMap.{get}
 use Rattle.std.specs.Option.{option_or}
 use Rattle.std.specs.Ordering.{nat_cmp}
@@ -49,7 +49,8 @@ both_kept (Some earlier) (Some later) = Some (followed earlier later)
 abbrev pub kept_of : ConsistencyChecker → ℕ → Option GroupRuns
 kept_of checker group = get nat_cmp checker.groups group
 
--- for each group, the checker keeps the ends and the finding of its runs in these batches; the queue doesn't matter
+-- for each group, the checker keeps the first and the last index and the finding of its runs in these batches; the
+-- queue doesn't matter
 abbrev pub KeepsRuns : LogQueue → List Batch → ConsistencyChecker → Type 0
 KeepsRuns queue batches checker = (group : ℕ) → kept_of checker group ≡ kept (runs_of group batches)
 

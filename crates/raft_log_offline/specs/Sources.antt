@@ -20,8 +20,8 @@ abbrev pub IsNoLater : FoundFile → FoundFile → Type 0
 IsNoLater a b = (a.path_id < b.path_id)
     ⊎ ((a.path_id ≡ b.path_id) × (a.signed ≡ true → b.signed ≡ true))
 
--- `file` is the one of these files that counts for its number: the one in the last directory. If two there have its
--- number, it is the one whose name has a plus sign.
+-- Of the files in `found` that have its number, `file` is the one that counts: the one in the last directory. If two
+-- files there have the number, it is the one whose name has a plus sign.
 pub record IsLastOf (found : List FoundFile) (file : FoundFile) : Type 0 where
   pub there : Contains found file
   pub last : (other : FoundFile) → Contains found other → other.seq ≡ file.seq → IsNoLater other file
@@ -53,7 +53,7 @@ abbrev pub lasts : List FoundFile → List FoundFile
 lasts [] = []
 lasts (file ∷ files) = unless_again file files ++ lasts files
 
--- `file` is the file that was found, open
+-- `file` is the file `found`, of this kind, as it is open to be copied
 pub record IsSource (kind : FileKind) (directories : List (List ℕ)) (d : Disk) (found : FoundFile)
     (file : SourceFile) : Type 0 where
   pub queue : file.kind ≡ kind

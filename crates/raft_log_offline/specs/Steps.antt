@@ -13,7 +13,7 @@ use Rattle.raft_log_fs.specs.declared.handle.Handle.{Handle}
 use Rattle.raft_log_offline.specs.Copies.{AddsOnly, HasCopy, IsCopyRefusal, copy_path}
 use Rattle.raft_log_offline.specs.declared.source_file.SourceFile.{SourceFile}
 
--- `bytes` are all bytes of the file
+-- `bytes` are all bytes of the file `id`
 pub record AreAllBytes (id : ℕ) (bytes : List ℕ) (d : Disk) : Type 0 where
   pub file : File
   pub is : d.files id ≡ Some file
@@ -26,7 +26,7 @@ FailsToReadWhole handle d (errors.Io kind) =
 FailsToReadWhole handle d errors.Memory = Unit {0}
 FailsToReadWhole handle d _ = ⊥
 
--- these bytes were written to an empty file, or there are none
+-- `bytes` were written to the file `id` at offset 0; or there are none, and nothing was done
 abbrev pub Fills : ℕ → List ℕ → Disk → Disk → Type 0
 Fills id bytes old new =
     ((bytes ≡ []) × (new ≡ old)) ⊎ Changes id (after_change (Wrote 0 bytes)) old new

@@ -1,4 +1,5 @@
--- A scan of a log's directories finds all files of a queue that is at rest there.
+-- A scan of a log's directories finds the files of a queue that is at rest there, from the last gap in their numbers
+-- on.
 use Rattle.std.specs.Prelude.{◌≡◌, ℕ, ◌<◌, suc, List, [], ◌∷◌, ◌++◌}
 use Rattle.raft_log_record_base.specs.declared.pipe_log.LogQueue.{LogQueue}
 use Rattle.raft_log_fs.specs.Disk.{Disk}
@@ -15,8 +16,8 @@ use Rattle.raft_log_recovery_scan.specs.Found.{AreDistinct}
 use Rattle.raft_log_recovery_scan.specs.Scanned.{IsQueueIn}
 use Rattle.raft_log_recovery_laws.specs.Scanned.{AreSpanned, kind_of}
 
--- `files` ends with the queue's last file, which has this number. Their numbers have no gap, and no file has the number
--- before the first of them.
+-- `files` ends with the queue's last file, which has the number `number`. Their numbers have no gap, and no file has
+-- the number before the first of them.
 pub record AreAllFound (queue : LogQueue) (directories : List (List ℕ)) (number : ℕ) (d : Disk)
     (files : List Listed) : Type 0 where
   pub earlier : List Listed
@@ -26,7 +27,8 @@ pub record AreAllFound (queue : LogQueue) (directories : List (List ℕ)) (numbe
   pub spanned : AreSpanned queue directories earlier last d
   pub begins : (m : ℕ) → suc m ≡ first_number earlier last → IsAbsent (log_format queue directories) m d
 
--- If a queue is at rest in directories that are distinct, a scan of the directories returns all of its files.
+-- If a queue is at rest in distinct directories, a scan of them returns the queue's files from the last gap in their
+-- numbers on.
 abbrev pub ScannedFilesAreAll : Type 0
 ScannedFilesAreAll = (queue : LogQueue) (directories : List (List ℕ)) → AreDistinct directories
     → (mode : RecoveryMode) (d : Disk) → IsSound d
@@ -36,7 +38,7 @@ ScannedFilesAreAll = (queue : LogQueue) (directories : List (List ℕ)) → AreD
     → (files : List Listed) → IsQueueIn (kind_of queue) directories d mode files
     → AreAllFound queue directories q.last d files
 
--- If no number of a queue has a file, a scan of the queue returns none.
+-- If a queue has no file under any number, a scan of the queue returns none.
 abbrev pub NoFilesAreScanned : Type 0
 NoFilesAreScanned = (queue : LogQueue) (directories : List (List ℕ)) (mode : RecoveryMode) (d : Disk)
     → ((m : ℕ) → m < (log_format queue directories).limit → IsAbsent (log_format queue directories) m d)

@@ -13,8 +13,8 @@ use Rattle.raft_log_recovery_scan.specs.declared.file_kind.FileKind.{FileKind}
 use Rattle.raft_log_recovery_scan.specs.declared.scanning.found.FoundFile.{FoundFile}
 use Rattle.raft_log_recovery_laws.specs.Scanned.{kind_of}
 
--- Two different files in the directories have the number `n`. They are in two directories, or one has a sign in its
--- name.
+-- Two different files in the directories have the number `n`. They are in two directories, or one of them has a plus
+-- sign in its name.
 pub record IsTwice (kind : FileKind) (directories : List (List ℕ)) (d : Disk) (n : ℕ) : Type 0 where
   pub here : FoundFile
   pub there : FoundFile
@@ -24,7 +24,7 @@ pub record IsTwice (kind : FileKind) (directories : List (List ℕ)) (d : Disk) 
   pub there_number : there.seq ≡ n
   pub apart : here ≡ there → ⊥
 
--- No file has the number before `first`, or two files have the number `first`.
+-- No file of the queue has the number before `first`, or two files have the number `first`.
 abbrev pub BeginsBehindGap : LogQueue → List (List ℕ) → Disk → ℕ → Type 0
 BeginsBehindGap queue directories d first =
     ((m : ℕ) → suc m ≡ first → IsAbsent (log_format queue directories) m d)

@@ -53,8 +53,8 @@ pub record ReadiesOn {F : Type 0} (disk : F → Disk) (tells : F → List ℕ �
   pub to_is : disk to ≡ new
   pub readies : ReadiesLog disk tells b ready from to
 
--- The log of these settings was found on disk `d`. It was read into the contexts `append` and `rewrite`, by any number
--- of workers, and truncated. Then files for recycling were prepared.
+-- The log of the settings `config` was found on disk `d`. Any number of workers read it into the contexts `append` and
+-- `rewrite`, and its damaged files were truncated. Then files for recycling were prepared, which gave disk `readied`.
 pub record LogIsRecovered {F : Type 0} (disk : F → Disk) (tells : F → List ℕ → ℕ → Type 0) (config : Config)
     (d : Disk) (append rewrite : MemTableRecoverContext) (ready : DualPipesBuilder) (readied : Disk)
     : Type 0 where
@@ -66,8 +66,8 @@ pub record LogIsRecovered {F : Type 0} (disk : F → Disk) (tells : F → List �
   pub recovers : RecoversLog reads append rewrite found read scanned cut
   pub readies : ReadiesOn disk tells read ready cut readied
 
--- Pipes `v` and `tables` were made of the log of these settings on disk `d`. The log was recovered, all its files were
--- synced, and the pipes were opened. What was read from Append was merged over what was read from Rewrite.
+-- Pipes `v` and `tables` were made of the log of the settings `config` on disk `d`. The log was recovered, all its
+-- files were synced, and the pipes were opened. What was read from Append was merged over what was read from Rewrite.
 pub record OpensByCalls {F : Type 0} (disk : F → Disk) (tells : F → List ℕ → ℕ → Type 0) (config : Config)
     (d : Disk) (v : LogPipes) (tables : MemTables) : Type 0 where
   pub ready : DualPipesBuilder
@@ -86,8 +86,8 @@ ScansFindAllFiles = (config : Config) (d : Disk) (m : LogMap) → IsSound d
     → AreQueueFiles (log_in (home_of config)).append rests.state.append scanned (append_files found)
     × AreQueueFiles (log_in (home_of config)).rewrite rests.state.rewrite scanned (rewrite_files found)
 
--- A log at rest was recovered, and all its files were synced. Then each file that is kept for recycling can be used
--- under any number, since it holds no record with that number.
+-- A log at rest was recovered, and all its files were synced. Then each file that is kept for recycling can be
+-- recycled, since it holds no record under any number that it may get.
 abbrev pub SyncedSparesCanBeUsed : {F : Type 0} → (F → Disk) → (F → List ℕ → ℕ → Type 0) → Type 0
 SyncedSparesCanBeUsed disk tells = (config : Config) (d : Disk) (m : LogMap) → IsSound d
     → IsDurableAs (log_in (home_of config)) d m

@@ -1,5 +1,5 @@
 -- A log that was closed properly. Its active files end with their records, and all of it is synced. So it is at rest,
--- and an open of it asks nothing of chance: it has no premise on CRC collisions.
+-- and an open of it has no premise on CRC collisions.
 use Rattle.std.specs.Prelude.{◌≡◌, ◌⊎◌, ℕ, ◌<◌, Some, Ok, List, [], ◌++◌, length}
 use Rattle.raft_log_fs.specs.Causes.{Fails}
 use Rattle.raft_log_fs.specs.Disk.{Disk, File, at_rest}
@@ -45,7 +45,8 @@ UndisturbedClosesAreProper = (log : LogSense) (v : LogPipes) (s : State) (new : 
     → ClosesInOrder v new → (Fails v.disk new → ⊥) → ClosesProperly v new
 
 -- What was the pipe's active file has exactly its header and the bytes that the pipe wrote after it, all synced. What
--- followed them is gone: zeros that were allocated ahead, or old bytes of a recycled file. No other file has its number.
+-- followed them is gone: zeros that were allocated ahead, or stale bytes of a recycled file. No other file has its
+-- number. `old` is the disk before the close, `new` the disk after it.
 pub record EndsWithOwnBytes (F : Format LogRecord) (files : PipeFiles) (old new : Disk) : Type 0 where
   pub bytes : (before : File) → old.files files.writer.handle.file ≡ Some before
       → new.files files.writer.handle.file ≡ Some (at_rest (active_header files ++ own_bytes files before))
@@ -57,7 +58,8 @@ abbrev pub HoldsRecordsAlone : {R : Type 0} → QueueLayout R → LogFiles R →
 HoldsRecordsAlone layout q d =
     HasNumbered layout.format q.last (IsPast layout.format q.last (finished q)) d
 
--- A log with the contents `m` is on disk `d`, can be opened, and asks nothing of chance:
+-- Disk `d` has a log with the contents `m` that can be opened, and no law on opening it needs a premise on CRC
+-- collisions:
 -- - `left`: its files can be opened, with nothing pending.
 -- - `stands`: there is no CRC collision in its active files as they are. An open in place and a copy have this premise.
 -- - `spared`: there is none in any crash image of them.
@@ -68,15 +70,16 @@ pub record AsksNothing (home : LogDirectories) (d : Disk) (m : LogMap) : Type 0 
   pub spared : (image : Disk) → IsImage d image → IsCrashOf home left.1.lies.state d image
   pub rests : (image : Disk) → IsImage d image → IsDurableAs (log_in home) image m
 
--- A log at rest asks nothing of chance, whatever left it so: a crash, a proper close, or a copy of it.
+-- A log at rest needs no premise on CRC collisions, whatever left it so: a crash, a proper close, or a copy of it.
 abbrev pub RestingLogsAskNothing : Type 0
 RestingLogsAskNothing = (home : LogDirectories) → 0 < length home.append → 0 < length home.rewrite → (d : Disk) (m : LogMap)
     → IsSound d → IsDurableAs (log_in home) d m → AsksNothing home d m
 
 -- What a proper close of pipes `v` leaves on disk `d` of a log with the contents `m`.
 -- - `append`, `rewrite`: the bytes of both active files.
--- - `rests`: the log is at rest with these contents. Its last files hold the records of their queues alone.
--- - `asks`: it asks nothing of chance.
+-- - `rests`: the log is at rest with these contents.
+-- - `append_alone`, `rewrite_alone`: the last files have exactly their headers and the records of their queues.
+-- - `asks`: an open of the log needs no premise on CRC collisions.
 pub record IsClosedAs (home : LogDirectories) (v : LogPipes) (d : Disk) (m : LogMap) : Type 0 where
   pub append : EndsWithOwnBytes (log_in home).append.format v.append.files v.disk d
   pub rewrite : EndsWithOwnBytes (log_in home).rewrite.format v.rewrite.files v.disk d

@@ -16,7 +16,8 @@ use Rattle.raft_log_recovery_laws.specs.Opened.{HoldsFresh}
 use Rattle.raft_log_recovery_laws.specs.ByCalls.{home_of, ForAllNaming}
 
 -- If the open succeeds, the engine's log has the contents `m`, with nothing pending. If it fails, for any reason, the
--- log's files can be opened with the contents `m`. Neither depends on the number of recovery threads.
+-- log's files can be opened with the contents `m`. `old` is the file system's state before the open, and `disk` gives
+-- the disk of a state.
 pub record OpensAs {F : Type 0} (disk : F → Disk) (tells : F → List ℕ → ℕ → Type 0) (config : Config)
     (old : F) (m : LogMap) : Type 0 where
   pub answered : (v : LogPipes) (tables : MemTables) → OpensDirectory disk tells config old v tables

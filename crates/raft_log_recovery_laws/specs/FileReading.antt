@@ -1,5 +1,5 @@
--- What reading a log file returns, compared with the records that its pipe knows. This is only for files without
--- alignment, since pipes know no others.
+-- What reading a log file returns, compared with the records that its pipe knows. All of this is for files without an
+-- alignment, since no file of a pipe has one.
 use Rattle.std.specs.Prelude.{◌≡◌, ℕ, ◌+◌, Bool, Option, Some, None, true, false, List, [], length}
 use Rattle.raft_log_record_base.specs.declared.pipe_log.FileId.{FileId}
 use Rattle.raft_log_record_base.specs.declared.pipe_log.LogFileContext.{LogFileContext}
@@ -19,8 +19,8 @@ use Rattle.raft_log_recovery_laws.specs.Records.{AreBatchesOf}
 abbrev pub context_in : FileId → LogFileFormat → LogFileContext
 context_in id format = record { id = id; version = format.version }
 
--- The file has a header, and `read` has one batch for each whole record after it. The last of these records ends at
--- `end`, where no other record begins.
+-- `content`, the bytes of the file `id`, begins with a header. `read`, what reading it returned, has one batch for each
+-- whole record after the header. These records end at `end`, and no other record begins there.
 pub record ReadsRecords (directories : List (List ℕ)) (id : FileId) (content : List ℕ)
     (read : FileReading) (end : ℕ) : Type 0 where
   pub header : List ℕ
@@ -30,16 +30,16 @@ pub record ReadsRecords (directories : List (List ℕ)) (id : FileId) (content :
   pub ends : end ≡ length header + length (spelled records)
   pub batches : AreBatchesOf (context_in id read.format) (length header) read.batches records
 
--- What reading the last file of a queue returns. Without a header there is no batch, and no end. With a header, there
--- is one batch for each whole record up to the end.
+-- `read` is what reading a queue's last file returned, and the last argument is the end that it found. If it is `None`,
+-- the file has no header, and `read` has no batch. Otherwise `read` has one batch for each whole record up to the end.
 abbrev pub ReadsTo : List (List ℕ) → FileId → List ℕ → FileReading → Option ℕ → Type 0
 ReadsTo directories id content read None =
     ((header : List ℕ) → HasHeader (log_format id.queue directories) header content → ⊥)
     × (read.batches ≡ [])
 ReadsTo directories id content read (Some end) = ReadsRecords directories id content read end
 
--- Reading the last file of a queue returns its records, up to the end that its pipe knows. Without a header it returns
--- nothing.
+-- Reading a queue's last file returns one batch for each whole record, and the end of these records. If the file has no
+-- header, it returns neither.
 abbrev pub LastFileIsRead : Type 0
 LastFileIsRead = (directories : List (List ℕ)) (id : FileId) (file : File) (read : FileReading)
     → ReadsBytes true id file.content read → read.format.alignment ≡ 0
@@ -52,14 +52,15 @@ HeaderIsWritten = (directories : List (List ℕ)) (last : Bool) (id : FileId) (c
     (read : FileReading) (end : ℕ) → ReadsBytes last id content read → read.format.alignment ≡ 0
     → read.end ≡ Some end → HasHeader (log_format id.queue directories) (header_bytes read.format) content
 
--- All records of a finished file were read, and no fault was found
+-- `read` has one batch for each record of the finished file `past`, and no fault was found. Its end is that of these
+-- records.
 pub record ReadsWhole (id : FileId) (past : Past LogRecord) (read : FileReading) : Type 0 where
   pub sound : read.fault ≡ None
   pub end : read.end ≡ Some (length past.header + length (spelled past.records))
   pub batches : AreBatchesOf (context_in id read.format) (length past.header)
       read.batches past.records
 
--- A file before the last one, which a pipe finished, is read as a whole.
+-- Reading a finished file, one before the last, returns all its records.
 abbrev pub FinishedFileIsRead : Type 0
 FinishedFileIsRead = (directories : List (List ℕ)) (id : FileId) (past : Past LogRecord) (file : File)
     (read : FileReading) → IsPast (log_format id.queue directories) id.seq past file

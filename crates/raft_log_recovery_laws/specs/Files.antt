@@ -18,8 +18,8 @@ use Rattle.raft_log_dual_pipes.specs.OpenOrClosed.{IsUnbegun}
 use Rattle.raft_log_engine_laws.specs.raft_log_block_cache.specs.Stored.{Each}
 use Rattle.raft_log_recovery_laws.specs.Found.{AreListed}
 
--- The queue's files are `earlier` and then `last`, which is open for writing. Each is at its path, as a stop left it.
--- No file has the number before the first one.
+-- The files of the queue `q` on disk `d` are `earlier` and then `last`, which is open for writing. Each is at its path,
+-- as a stop left it. No file has the number before the first one.
 pub record AreAll (layout : QueueLayout LogRecord) (q : Spanned LogRecord) (d : Disk) (earlier : List File)
     (last : File) : Type 0 where
   pub stops : IsStopped layout q.files d
@@ -27,23 +27,25 @@ pub record AreAll (layout : QueueLayout LogRecord) (q : Spanned LogRecord) (d : 
   pub permitted : last.handle.permission ≡ ReadWrite
   pub begins : (m : ℕ) → suc m ≡ first_number earlier last → IsAbsent layout.format m d
 
--- `files` are all files of a queue at rest; or there are none, since the queue hasn't begun
+-- `files` are the files of a queue at rest, from the last gap in their numbers on. There are none if no file of the
+-- queue was created yet.
 pub data AreQueueFiles (layout : QueueLayout LogRecord) (q : Spanned LogRecord) (d : Disk) (files : List File)
     : Type 0 where
   some_made : (earlier : List File) (last : File) → files ≡ earlier ++ last ∷ []
       → AreAll layout q d earlier last → AreQueueFiles layout q d files
   none_made : files ≡ [] → IsUnbegun layout q d → AreQueueFiles layout q d files
 
--- The queue's last file was read up to the end that `ending` has. If there is an end, the file begins with the header
--- of the format in `ending`.
+-- `ending` is right for the queue's last file: it has the end of the file's whole records, or `None` if the file has no
+-- header. If there is an end, the file begins with the header of the format in `ending`.
 pub record ReadsAsTold (layout : QueueLayout LogRecord) (q : Spanned LogRecord) (d : Disk) (last : File)
     (ending : FileEnding) : Type 0 where
   pub read : HasFile last.handle.file (IsReadTo layout.format q.files.last ending.end) d
   pub headed : (end : ℕ) → ending.end ≡ Some end
       → HandleBeginsWith layout.format last.handle (header_bytes ending.format) d
 
--- `files` are all files of a queue at rest, and each has its ending in `endings`. No file before the last one is
--- damaged.
+-- `files` are the files of a queue at rest, from the last gap in their numbers on. `endings` has an ending for each:
+-- none before the last says that its file is damaged, and the last one is right (`ReadsAsTold`). There are no files if
+-- none was created yet.
 pub data AreToldOf (layout : QueueLayout LogRecord) (q : Spanned LogRecord) (d : Disk) (files : List File)
     (endings : List FileEnding) : Type 0 where
   some_told : (earlier : List File) (last : File) (front : List FileEnding) (ending : FileEnding)

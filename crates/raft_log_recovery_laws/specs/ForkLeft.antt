@@ -15,28 +15,30 @@ use Rattle.raft_log_recovery_laws.specs.InPlace.{OpensStanding, StandsWithoutCha
 use Rattle.raft_log_offline.specs.Forks.{Forks}
 use Rattle.raft_log_recovery_laws.specs.ForkResting.{IsClear, NamesOnly}
 
--- The log that a fork made is at rest with the contents `m`, and an open finds these contents.
+-- The log that a fork made is at rest with the contents `m`, and an open with the settings `to` finds these contents.
+-- `after` is the file system's state after the fork.
 pub record ForkedAs {F : Type 0} (disk : F → Disk) (tells : F → List ℕ → ℕ → Type 0) (to : Config) (after : F)
     (m : LogMap) : Type 0 where
   pub rests : IsDurableAs (log_in (home_of to)) (disk after) m
   pub opens : OpensAs disk tells to after m
 
--- Each fork of the log of settings `config` makes a log with the contents `m`, by settings that name only its target.
+-- Each fork of the log of `config` into a clear target makes a log with the contents `m`. Its settings `to` name only
+-- the target.
 abbrev pub IsForkedAs : {F : Type 0} → (F → Disk) → (F → List ℕ → ℕ → Type 0) → F → LogMap → Config → Type 0
 IsForkedAs {F} disk tells old m config = (to : Config) (target : List ℕ) (copied : List (List ℕ)) (after : F)
     → IsSound (disk after) → NamesOnly to target → IsClear target (disk old)
     → Forks (settings_of config) target copied (disk old) (disk after) → ForkedAs disk tells to after m
 
--- The contents `now` are found both by an open in place and in any fork, by all settings that name the log's
+-- An open in place and an open of any fork both find the contents `now`, with all settings that name the log's
 -- directories.
 pub record ShowsAlike {F : Type 0} (disk : F → Disk) (tells : F → List ℕ → ℕ → Type 0) (home : LogDirectories) (old : F)
     (m : LogMap) (pending : List LogRecordValue) (now : LogMap) : Type 0 where
   pub opens : ForAllNaming home (λ config. OpensStanding disk tells config old m pending now)
   pub forks : ForAllNaming home (IsForkedAs disk tells old now)
 
--- An engine left a log, closed or failed, and its files are opened or forked as they are, synced or not. Both give the
--- contents `m` after the same prefix of the pending batches. If nothing was pending, both give `m`. As for a crash,
--- this requires that there is no CRC collision in either queue's active file.
+-- An engine that failed or was closed left a log. Its files are opened or forked as they are, synced or not. Both give
+-- the contents `m` after the same prefix of the pending batches. This requires that there is no CRC collision in either
+-- queue's active file.
 abbrev pub LeftLogsShowAlike : {F : Type 0} → (F → Disk) → (F → List ℕ → ℕ → Type 0) → Type 0
 LeftLogsShowAlike {F} disk tells = (home : LogDirectories) → 0 < length home.append → 0 < length home.rewrite
     → (old : F) (m : LogMap) (pending : List LogRecordValue) → IsSound (disk old)

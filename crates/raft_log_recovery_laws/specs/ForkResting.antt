@@ -11,7 +11,7 @@ use Rattle.raft_log_recovery.specs.Directories.{paths_of}
 use Rattle.raft_log_recovery_laws.specs.ByCalls.{home_of}
 use Rattle.raft_log_offline.specs.Forks.{Forks}
 
--- no directory in `target` has the name of a log file
+-- no directory that is directly in `target` has the name of a log file
 abbrev pub HoldsNoDirectory : List ℕ → Disk → Type 0
 HoldsNoDirectory target d = (name : List ℕ) → IsPlain name → IsFileName name
     → d.directories (target ++ 47 ∷ name) ≡ false

@@ -23,8 +23,8 @@ use Rattle.raft_log_dual_pipes.specs.Own.{log_layout}
 use Rattle.raft_log_engine_laws.specs.raft_log_block_cache.specs.Stored.{Each}
 use Rattle.raft_log_recovery_laws.specs.Reading.{AreOfQueue}
 
--- `batches` were read from the files of a queue, and `endings` has the ending of each file. No file has an alignment,
--- since the log's pipes don't know any.
+-- On disk `d`, recovery in `mode` read `batches` from the files of a queue, and `endings` has the ending of each file.
+-- No file has an alignment, since no file of a pipe has one.
 pub record ReadsQueue (mode : RecoveryMode) (queue : LogQueue) (files : List File) (d : Disk)
     (batches : List Batch) (endings : List FileEnding) : Type 0 where
   pub segments : List (List Batch)
@@ -51,13 +51,14 @@ pub record QueueGoesOnWith (first : ℕ) (format : LogFileFormat) (was : LogFile
   pub header : now.files.header ≡ header_bytes format
   pub records : recent now.files ≡ recent was
 
--- if the queue's last file has a header, its format is `format`
+-- if reading the queue's last file found an end, the file has the format `format`
 abbrev pub TellsLast : List FileEnding → LogFileFormat → Type 0
 TellsLast endings format =
     (front : List FileEnding) (ending : FileEnding) → endings ≡ front ++ ending ∷ []
     → (end : ℕ) → ending.end ≡ Some end → ending.format ≡ format
 
--- If the files of a queue are at rest, the batches that are read from them are those of the queue's records.
+-- If the files of the queue `was` are at rest, the batches that are read from them are those of the records of `now`.
+-- `now` is the queue after recovery.
 abbrev pub ReadFilesAreTheQueue : Type 0
 ReadFilesAreTheQueue = (queue : LogQueue) (directories : List (List ℕ)) → 0 < length directories
     → (mode : RecoveryMode) (d : Disk) (was : LogFiles LogRecord)
@@ -68,7 +69,8 @@ ReadFilesAreTheQueue = (queue : LogQueue) (directories : List (List ℕ)) → 0 
     → (format : LogFileFormat) → TellsLast endings format → (now : Spanned LogRecord)
     → QueueGoesOnWith (first_number earlier last) format was now → AreOfQueue queue now batches
 
--- If a queue has no files, no batch is read, and the queue that begins has none.
+-- If a queue has no files, no batch is read. The queue `now`, which begins with one file and no records, has none
+-- either.
 abbrev pub NoFilesAreTheQueue : Type 0
 NoFilesAreTheQueue = (queue : LogQueue) (mode : RecoveryMode) (d : Disk) (batches : List Batch)
     (endings : List FileEnding) → ReadsQueue mode queue [] d batches endings → (now : Spanned LogRecord)

@@ -63,8 +63,8 @@ IsLeftEither home d m pending now = IsRecoverableAs home d m pending ⊎ IsRecov
 -- An open in place, step by step.
 -- - `answered`: if it succeeds, the engine's log has the contents `now`, with nothing pending.
 -- - `synced`: if it fails after its syncs, the log's files can be opened with the contents `now`.
--- - `refused`: if it fails or is abandoned anywhere, they can be opened with `now`, or with `m` and the batches
---   `pending`.
+-- - `refused`: if it fails or is abandoned anywhere, the log's files can be opened with `now`, or with `m` and the
+--   batches `pending`.
 pub record OpensStandingByCalls {F : Type 0} (disk : F → Disk) (tells : F → List ℕ → ℕ → Type 0) (config : Config)
     (d : Disk) (m : LogMap) (pending : List LogRecordValue) (now : LogMap) : Type 0 where
   pub answered : (v : LogPipes) (tables : MemTables) → OpensByCalls disk tells config d v tables
@@ -73,8 +73,9 @@ pub record OpensStandingByCalls {F : Type 0} (disk : F → Disk) (tells : F → 
   pub refused : (new : Disk) → FailsToOpenByCalls disk tells config d new
       → IsLeftEither (home_of config) new m pending now
 
--- An open in place, step by step, gives the contents `m` after a prefix of the pending batches. These are the batches
--- that would be left if a crash kept all bytes, the same for all settings that name the directories.
+-- An open in place, step by step, gives the contents `m` after a prefix of the pending batches. A crash that kept all
+-- bytes would leave the same prefix. It is the same for all settings that name the directories. This requires that
+-- there is no CRC collision in the active files as they are.
 abbrev pub StandingLogsOpenByCalls : {F : Type 0} → (F → Disk) → (F → List ℕ → ℕ → Type 0) → Type 0
 StandingLogsOpenByCalls {F} disk tells = (home : LogDirectories) → 0 < length home.append → 0 < length home.rewrite
     → (d : Disk) (m : LogMap) (pending : List LogRecordValue) → IsSound d → (left : IsRecoverableAs home d m pending)
@@ -92,7 +93,8 @@ pub record OpensStanding {F : Type 0} (disk : F → Disk) (tells : F → List �
       → IsLeftEither (home_of config) (disk new) m pending now
 
 -- An open in place with the one call gives the contents `m` after a prefix of the pending batches. The prefix is the
--- same for all settings that name the directories.
+-- same for all settings that name the directories. This requires that there is no CRC collision in the active files as
+-- they are.
 abbrev pub StandingDirectoriesOpen : {F : Type 0} → (F → Disk) → (F → List ℕ → ℕ → Type 0) → Type 0
 StandingDirectoriesOpen {F} disk tells = (home : LogDirectories) → 0 < length home.append → 0 < length home.rewrite
     → (old : F) (m : LogMap) (pending : List LogRecordValue) → IsSound (disk old)
@@ -117,8 +119,8 @@ UncutLogsStay = (config : Config) (d : Disk) (m : LogMap) (pending : List LogRec
     → IsRecoverableAs (home_of config) d m pending → (new : Disk) → StopsUncut config d new
     → IsRecoverableAs (home_of config) new m pending
 
--- Syncing a queue's active file loses no record, if there is no CRC collision in its bytes as they are. The file still
--- holds the durable and the pending records, even if not all of them were read.
+-- If a queue's active file has no CRC collision in its bytes as they are, a sync of it loses no record. After the sync
+-- it still holds the queue's durable and pending records (`HoldsLast`), even if recovery didn't read all of them.
 abbrev pub SyncedFilesHoldStill : Type 0
 SyncedFilesHoldStill = (queue : LogQueue) (directories : List (List ℕ)) → 0 < length directories
     → (q : LogFiles LogRecord) (file : File) → IsSoundFile file

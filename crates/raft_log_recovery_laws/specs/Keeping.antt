@@ -28,8 +28,8 @@ abbrev pub RestsStill : {R E V : Type 0} → (log : TwoQueues R E V) → (d : Di
     → IsDurableAs log d m → Disk → Type 0
 RestsStill log d m h new = (t : IsDurableAs log new m) × (t.state ≡ record h.state { disk = new })
 
--- The log on `new` is like the one on `old`. If it was at rest, it still is. If its files could be opened, with batches
--- pending, they still can, with the same ones.
+-- The log on disk `new` is like the one on disk `old`. If it was at rest, it still is, with the same contents. If its
+-- files could be opened, they still can, with the same contents and the same pending batches.
 pub record KeptLogStays {R E V : Type 0} (log : TwoQueues R E V) (old new : Disk) : Type 0 where
   pub rests : (m : Map E V) (h : IsDurableAs log old m) → RestsStill log old m h new
   pub lies : (m : Map E V) (pending : List (Record E V)) → LogLiesOn log none_open old m pending

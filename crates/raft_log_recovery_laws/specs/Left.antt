@@ -27,9 +27,8 @@ CrashedLogsRest = (home : LogDirectories) → 0 < length home.append → 0 < len
     → IsCrashOf home left.1.lies.state d image
     → (k : ℕ) × (k ≤ length pending) × IsDurableAs (log_in home) image (taken m (take k pending))
 
--- Disk `d` has a log at rest, with the contents `m` after a prefix of the pending batches. `P` holds for these
--- contents. The number of batches is chosen before `P`. So if `P` is about all settings, the number is the same for all
--- of them.
+-- Disk `d` has a log at rest, with the contents `m` after a prefix of the batches `pending`, and `P` holds for these
+-- contents. If `P` claims something about all settings, the prefix is therefore the same for all of them.
 abbrev pub RestsAfterSome : LogDirectories → Disk → LogMap → List LogRecordValue → (LogMap → Type 0) → Type 0
 RestsAfterSome home d m pending P = (k : ℕ) × (k ≤ length pending)
     × IsDurableAs (log_in home) d (taken m (take k pending)) × P (taken m (take k pending))

@@ -26,8 +26,8 @@ pub record AreMerged (append_batches rewrite_batches : List Batch) (tables : Mem
   pub over : (first behind : List ReadRecord) → HasRead Rewrite first rewrite → HasRead Append behind append
       → ComesOver first behind tables
 
--- The pipes run over a log that was read again, which was `was` before. `tables` were merged from all batches of its
--- files.
+-- `was` is a log before it was read again. The pipes `v` run over the log as it was read, and `tables` were merged from
+-- the batches of all its files.
 pub record IsOpenedOver (home : LogDirectories) (was : State) (v : LogPipes) (tables : MemTables) : Type 0 where
   pub state : State
   pub runs : RunsOn (sense home) v state
@@ -43,8 +43,8 @@ abbrev pub HoldsFresh : LogDirectories → LogPipes → MemTables → LogMap →
 HoldsFresh home v tables m =
     (cache : BlockCache) → cache.place ≡ None → Represents home (shows v tables cache) m []
 
--- If a log with the contents `m` and nothing pending was opened as these pipes and tables, the engine has these
--- contents.
+-- The log `was` had the contents `m` and nothing pending. It was read again and opened as these pipes and tables. Then
+-- the engine has the contents `m`, with nothing pending.
 abbrev pub OpenedEnginesHold : Type 0
 OpenedEnginesHold = (home : LogDirectories) (was : State) (m : LogMap) (v : LogPipes) (tables : MemTables)
     → IsLog (Ties (log_in home) was) m [] → IsOpenedOver home was v tables → HoldsFresh home v tables m

@@ -14,7 +14,7 @@ use Rattle.raft_log_recovery_laws.specs.ByCalls.{home_of, ForAllNaming, OpensByC
 use Rattle.raft_log_recovery_laws.specs.RefusedByCalls.{FailsToOpenByCalls}
 
 -- If the open succeeds, the engine's log has the contents `m`, with nothing pending. If it fails or is abandoned, the
--- log's files can be opened with the contents `m`. Neither depends on the number of recovery threads.
+-- log's files can be opened with the contents `m`. `d` is the disk before the open.
 pub record OpensByCallsAs {F : Type 0} (disk : F → Disk) (tells : F → List ℕ → ℕ → Type 0) (config : Config)
     (d : Disk) (m : LogMap) : Type 0 where
   pub answered : (v : LogPipes) (tables : MemTables) → OpensByCalls disk tells config d v tables

@@ -1,4 +1,5 @@
--- No log that an engine left has padding between its records, so an open has none to remove.
+-- A log that an engine left has no padding between its records, unless there is a CRC collision. So an open has none to
+-- remove.
 use Rattle.std.specs.Prelude.{◌<◌, List, length}
 use Rattle.raft_log_fs.specs.Disk.{Disk}
 use Rattle.raft_log_fs.specs.Image.{IsSound}
@@ -13,7 +14,8 @@ use Rattle.raft_log_recovery_laws.specs.Bare.{IsBare}
 use Rattle.raft_log_recovery_laws.specs.ByCalls.{ForAllNaming, home_of}
 use Rattle.raft_log_recovery_laws.specs.InPlace.{StandsWithoutChance}
 
--- an open with these settings finds no file with an alignment, and so rewrites no file to remove padding
+-- an open with the settings `config` finds no file with an alignment on disk `d`, and so rewrites no file to remove
+-- padding
 abbrev pub FindsNoPadding : Config → Disk → Type 0
 FindsNoPadding config d = (b : DualPipesBuilder) (scanned : Disk) → FindsPadding config b d scanned → ⊥
 

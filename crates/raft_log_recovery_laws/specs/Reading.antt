@@ -29,14 +29,15 @@ pub record AreOfFile (queue : LogQueue) (n : ℕ) (header : List ℕ) (records :
   pub is : batches ≡ batches_in n items
   pub are : AreBatchesOf (context_in (record { queue = queue; seq = n }) format) (length header) items records
 
--- the batches of `count` finished files from number `n` on, one file after another
+-- `batches` are those of `count` finished files from number `n` on, one file after another. `older` has the header and
+-- the records of each number.
 abbrev pub AreOfFiles : LogQueue → (ℕ → Past LogRecord) → ℕ → ℕ → List Batch → Type 0
 AreOfFiles queue older n zero batches = batches ≡ []
 AreOfFiles queue older n (suc count) batches = (first : List Batch) × (more : List Batch)
     × (batches ≡ first ++ more) × AreOfFile queue n (older n).header (older n).records first
     × AreOfFiles queue older (suc n) count more
 
--- The batches of all files of a queue's live range: those of the finished files, then those of the last file.
+-- `batches` are those of all files in the live range of the queue `q`: first the finished files, then the last file.
 pub record AreOfQueue (queue : LogQueue) (q : Spanned LogRecord) (batches : List Batch) : Type 0 where
   pub finished : List Batch
   pub last : List Batch
@@ -56,7 +57,8 @@ as_counted false y = y
 abbrev pub counted_file : Bool → LogFile (List ℕ) (List ℕ) → LogFile (List ℕ) (List ℕ)
 counted_file appended f = record { number = f.number; records = map (as_counted appended) f.records }
 
--- a queue with the records of its files as recovery applies them
+-- The queue with the records of its live range as recovery applies them. The files below the live range stay as they
+-- are.
 abbrev pub counted_queue : Bool → FileQueue (List ℕ) (List ℕ) → FileQueue (List ℕ) (List ℕ)
 counted_queue appended q = record {
   behind = q.behind;

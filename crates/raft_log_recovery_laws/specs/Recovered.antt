@@ -1,5 +1,6 @@
--- A log at rest on a disk: no engine has it open, and all of it is synced. What was read from its files, and the engine
--- that is made of both.
+-- A log at rest on a disk: no engine has it open, and all of it is synced. These definitions connect what was read from
+-- its files with the engine that is made from it. The ending of a file is what reading it found: its format, the end of
+-- its last whole record, and whether the file is damaged.
 use Rattle.std.specs.Prelude.{◌≡◌, ℕ, ◌<◌, ◌≤◌, List, [], ◌∷◌, ◌++◌, length, take}
 use Rattle.raft_log_model_laws.specs.Groups.{taken}
 use Rattle.raft_log_record_base.specs.declared.pipe_log.LogQueue.TheVariants.{Append, Rewrite}
@@ -21,7 +22,7 @@ use Rattle.raft_log_recovery_laws.specs.Found.{ReadsQueue}
 use Rattle.raft_log_recovery_laws.specs.Left.{IsCrashOf}
 use Rattle.raft_log_recovery_laws.specs.Opened.{AreMerged, HoldsFresh}
 
--- `found` are the files, each with the format that was read from it
+-- `found` are `files`, in the same order, each with the format of its ending in `endings`.
 abbrev pub AreInFormats : List File → List FileEnding → List File → Type 0
 AreInFormats [] [] found = found ≡ []
 AreInFormats [] (ending ∷ endings) found = ⊥
@@ -29,14 +30,15 @@ AreInFormats (file ∷ files) [] found = ⊥
 AreInFormats (file ∷ files) (ending ∷ endings) found = (more : List File)
     × (found ≡ record file { format = ending.format } ∷ more) × AreInFormats files endings more
 
--- `found`, which opens a pipe, has the files with the formats that were read, and the end of the last file.
+-- A pipe is opened over `found`. It has `files`, each with the format that was read from it. If there are files, it has
+-- the end that was read from the last one.
 pub record AreFoundAsRead (files : List File) (endings : List FileEnding) (found : FoundFiles) : Type 0 where
   pub formats : AreInFormats files endings found.files.items
   pub end : (front : List FileEnding) (ending : FileEnding) → endings ≡ front ++ ending ∷ []
       → found.end ≡ ending.end
 
--- Recovery read batches and endings from the files of each queue, at rest on the disk. The pipes are opened with these
--- files, and `tables` were merged from the batches.
+-- Recovery read batches, and an ending of each file, from both queues on disk `d`. The pipes are opened over `append`
+-- and `rewrite`, which have these files as they were read. `tables` were merged from the batches.
 pub record WereRead (mode : RecoveryMode) (append rewrite : FoundPipe) (d : Disk) (tables : MemTables)
     : Type 0 where
   pub append_files : List File
@@ -51,23 +53,23 @@ pub record WereRead (mode : RecoveryMode) (append rewrite : FoundPipe) (d : Disk
   pub rewrite_found : AreFoundAsRead rewrite_files rewrite_endings rewrite.found
   pub merged : AreMerged append_batches rewrite_batches tables
 
--- If a log at rest with the contents `m` was read, and its pipes were opened, the engine has these contents, with
--- nothing pending.
+-- A log was at rest on disk `old` with the contents `m`. It was read into `tables`, and its pipes were opened as `v`.
+-- Then an engine with these has the contents `m`, with nothing pending.
 abbrev pub ReadLogsAreHeld : Type 0
 ReadLogsAreHeld = (home : LogDirectories) (m : LogMap) (mode : RecoveryMode) (append rewrite : FoundPipe) (old : Disk)
     (v : LogPipes) (tables : MemTables) → OpensLog append rewrite old v
     → RestsAsFound (sense home) m append rewrite old → WereRead mode append rewrite old tables
     → HoldsFresh home v tables m
 
--- both queues of the log `s` were found in the directories `home`, as they are at rest on disk `d`
+-- `append` and `rewrite` are what was found of both queues of the log `s`, in the directories `home` on disk `d`.
 pub record AreFoundAt (home : LogDirectories) (s : State) (append rewrite : FoundPipe) (d : Disk) : Type 0 where
   pub append_as : IsFoundAs Append home.append append
   pub rewrite_as : IsFoundAs Rewrite home.rewrite rewrite
   pub append_found : IsFoundOf (log_in home).append append.found s.append d
   pub rewrite_found : IsFoundOf (log_in home).rewrite rewrite.found s.rewrite d
 
--- Each engine that is made by reading the files of the log `s` and opening its pipes has the contents `m`, with nothing
--- pending.
+-- An engine that is made by reading the files of the log `s` on disk `d` and opening its pipes has the contents `m`.
+-- Nothing is pending.
 abbrev pub OpensAs : LogDirectories → Disk → LogMap → State → Type 0
 OpensAs home d m s = (mode : RecoveryMode) (append rewrite : FoundPipe) (v : LogPipes) (tables : MemTables)
     → AreFoundAt home s append rewrite d → OpensLog append rewrite d v

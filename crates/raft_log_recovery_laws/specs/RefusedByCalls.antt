@@ -1,4 +1,4 @@
--- How far an open of a log at rest came before it failed.
+-- How far an open of a log came before it failed.
 use Rattle.std.specs.Prelude.{◌≡◌, ℕ, List}
 use Rattle.raft_log_record_base.specs.declared.errors.Error.{Error}
 use Rattle.raft_log_record_base.specs.declared.pipe_log.LogQueue.{LogQueue}
@@ -29,13 +29,13 @@ pub record FailsToReadyOn {F : Type 0} (disk : F → Disk) (tells : F → List �
   pub to_is : disk to ≡ new
   pub fails : FailsToReadyLog disk tells b error from to
 
--- How far an open came before it failed or was abandoned:
+-- How far an open came before it failed or was abandoned. `d` is the disk before the open, `new` the disk after it.
 -- - `undone`: nothing was done.
 -- - `unscanned`: the scan of the directories failed.
 -- - `unrecovered`: reading or truncating the files failed.
 -- - `unmerged`: the open was abandoned after the recovery, for example since memory ran out for the tables.
 -- - `unreadied`: preparing files for recycling failed.
--- - `given_up`: the open was abandoned after these were prepared.
+-- - `given_up`: the open was abandoned after the files for recycling were prepared.
 -- - `unopened`: syncing the files or opening the pipes failed.
 pub data FailsToOpenByCalls {F : Type 0} (disk : F → Disk) (tells : F → List ℕ → ℕ → Type 0) (config : Config)
     (d new : Disk) : Type 0 where

@@ -25,10 +25,11 @@ abbrev pub own_bytes : PipeFiles → File → List ℕ
 own_bytes files file = drop (length (active_header files)) (take files.writer.written file.content)
 
 -- `bytes`, which a crash left of a pipe's active file, have no CRC collision:
--- - They begin with no header other than the file's own.
--- - Each record in them is one that the pipe wrote there, or that was passed to an unsynced write at that offset.
--- - They don't read as a file with an alignment. This could happen only without a record, if the last eight bytes of a
---   torn header read as one.
+-- - `headers`: they begin with no header other than the file's own.
+-- - `records`: each record that is read of them was written there by the pipe, or passed to an unsynced write at that
+--   offset.
+-- - `plain`: they don't read as a file with an alignment. This could happen only without a record, if the last eight
+--   bytes of a torn header read as one.
 pub record MeetsOwnAlone (F : Format LogRecord) (files : PipeFiles) (file : File) (bytes : List ℕ) : Type 0 where
   pub headers : (other : List ℕ) → HasHeader F other bytes → other ≡ active_header files
   pub records : (at : ℕ) (w : Written LogRecord)
@@ -42,7 +43,8 @@ abbrev pub LeavesOwnAlone : Format LogRecord → PipeFiles → Disk → Disk →
 LeavesOwnAlone F files d image = (file after : File) → d.files files.writer.handle.file ≡ Some file
     → image.files files.writer.handle.file ≡ Some after → MeetsOwnAlone F files file after.content
 
--- A crash image of an engine with these pipes has no CRC collision in either queue's active file.
+-- Disk `image`, which a crash left of the engine with the pipes `v`, has no CRC collision in either queue's active
+-- file.
 pub record LeavesNoChance (home : LogDirectories) (v : LogPipes) (image : Disk) : Type 0 where
   pub append : LeavesOwnAlone (log_in home).append.format v.append.files v.disk image
   pub rewrite : LeavesOwnAlone (log_in home).rewrite.format v.rewrite.files v.disk image

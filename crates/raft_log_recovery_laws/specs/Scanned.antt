@@ -43,8 +43,8 @@ ScannedFilesAreSpanned = (queue : LogQueue) (directories : List (List ℕ)) (mod
     → IsQueueIn (kind_of queue) directories d mode (earlier ++ last ∷ [])
     → AreSpanned queue directories earlier last d
 
--- After a scan and after reading the last file, a queue's files are as a pipe needs them to open. So the laws about
--- pipes that were stopped apply to what a scan returns and recovery reads.
+-- A scan found a queue's files, and reading the last one found no alignment. Each file in `kept` can be recycled. Then
+-- the files meet the premise for opening a pipe over files that a stop left.
 abbrev pub ReadFilesAreScanned : Type 0
 ReadFilesAreScanned = (queue : LogQueue) (directories : List (List ℕ)) (d : Disk) (earlier : List Listed)
     (last : Listed) (read : FileReading) (kept : List Listed) → IsSound d

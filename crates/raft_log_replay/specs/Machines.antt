@@ -22,7 +22,8 @@ TakesBatch reads file items old new =
     (before : List Batch) → reads file.queue before old
     → reads file.queue (before ++ batch_in file items ∷ []) new
 
--- why a machine, which had read some batches, fails at this one; `declines` gives the error for all of them together
+-- `error` is why a machine that had read some batches fails at this one. `declines` must allow it for the batches
+-- before and this one together.
 abbrev pub DeclinesBatch : {M : Type 0} → (LogQueue → List Batch → M → Type 0)
     → (LogQueue → List Batch → Error → Type 0) → FileId → List LogItem → M → Error → Type 0
 DeclinesBatch reads declines file items machine error =
@@ -34,7 +35,7 @@ abbrev pub JoinsLater : {M : Type 0} → (List Batch → M → Type 0) → M →
 JoinsLater reads old later new =
     (xs ys : List Batch) → reads xs old → reads ys later → reads (xs ++ ys) new
 
--- why `old`, which had read some batches, and `later`, which had read those that follow, aren't merged
+-- `error` is why `old`, which had read some batches, and `later`, which had read those that follow, aren't merged
 abbrev pub DeclinesLater : {M : Type 0} → (List Batch → M → Type 0) → (List Batch → Error → Type 0) → M → M
     → Error → Type 0
 DeclinesLater reads declines old later error =

@@ -1,5 +1,5 @@
--- The result of reading the segments of a queue, possibly by several workers. A segment here is several consecutive
--- files, or one.
+-- The result of reading the segments of a queue, possibly by several workers. A segment here is one file or several
+-- consecutive files.
 use Rattle.std.specs.Prelude.{◌≡◌, ℕ, zero, suc, ◌+◌, ◌*◌, ◌<◌, ◌≤◌, min, List, [], ◌∷◌, ◌++◌, length, Result, Ok, Err}
 use Rattle.std.specs.List.{flat_map}
 use Rattle.raft_log_record_base.specs.declared.errors.Error.{Error}
@@ -12,8 +12,8 @@ use Rattle.raft_log_replay.specs.declared.segments.ReadSegments.{ReadSegments}
 abbrev pub all_batches : List (List Batch) → List Batch
 all_batches bss = flat_map (λ bs. bs) bss
 
--- The machine has read the batches of the segments from number `first` on, below `last`, all in order. `endings` has
--- the ending of each segment, which says how reading it ended.
+-- The machine has read the batches of the segments from number `first` on, below `last`, in order. `endings` has for
+-- each segment how reading it ended.
 pub record HasReadSegments {M E : Type 0} (holds : ℕ → List Batch → E → Type 0)
     (reads : List Batch → M → Type 0) (first last : ℕ) (machine : M) (endings : List E) : Type 0 where
   pub batches : List (List Batch)
@@ -21,11 +21,12 @@ pub record HasReadSegments {M E : Type 0} (holds : ℕ → List Batch → E → 
   pub all : first + length batches ≡ last
   pub read : reads (all_batches batches) machine
 
--- Why reading the segments from number `first` on, below `last`, fails. All segments before the failure were read.
--- - Memory ran out.
--- - A segment can't be read.
--- - A machine fails at the first batches of a segment, after some batches before it.
--- - Two machines aren't merged, because of batches that they have read.
+-- Why reading the segments from number `first` on, below `last`, fails. Except in the first case, all segments before
+-- the failure could be read.
+-- - `memory`: memory ran out.
+-- - `unread`: a segment can't be read.
+-- - `declined`: a machine fails at the first batches of a segment, after it read the batches just before.
+-- - `apart`: two machines aren't merged, because of the batches that they have read.
 pub data IsRefusedIn {E : Type 0} (holds : ℕ → List Batch → E → Type 0) (begins : ℕ → List Batch → Type 0)
     (refuses : ℕ → Error → Type 0) (declines : List Batch → Error → Type 0) (first last : ℕ) (error : Error)
     : Type 0 where

@@ -1,4 +1,4 @@
--- The text of answers and of verdicts: a line each.
+-- The text of answers and of verdicts, one line for each.
 use Rattle.std.specs.Prelude.{◌≡◌, ℕ, Bool, true, false, List, [], ◌∷◌, ◌++◌, Option, Some, None, codes, map, string_bytes, String}
 use Rattle.std.specs.Fmt.{decimal}
 use Rattle.std.specs.declared.alloc.Global.{Global}
@@ -12,16 +12,16 @@ use Rattle.raft_log_world.specs.Reads.{all_bytes, bytes_of, pairs_of}
 abbrev pub Gains : String Global → String Global → List ℕ → Type 0
 Gains old new more = string_bytes new ≡ string_bytes old ++ more
 
--- bytes in hex digits, and no bytes as `''`
+-- bytes in hex digits, or `''` if there are none
 abbrev pub bytes_text : List ℕ → List ℕ
 bytes_text [] = codes "''"
 bytes_text (b ∷ bytes) = encode_lower (b ∷ bytes)
 
--- a key and its value
+-- the text of a key and its value
 unfoldable pub pair_text : List ℕ × List ℕ → List ℕ
 pair_text pair = bytes_text pair.0 ++ codes "=" ++ bytes_text pair.1
 
--- what is between two of a list
+-- the text between two elements of a list
 abbrev pub comma : List ℕ
 comma = codes ","
 
@@ -29,12 +29,12 @@ comma = codes ","
 abbrev pub after_commas : List (List ℕ) → List ℕ
 after_commas texts = flat_map (λ text. comma ++ text) texts
 
--- these texts, parted by commas; `none` if there are none
+-- these texts, separated by commas; `none` if there are none
 abbrev pub list_text : List (List ℕ) → List ℕ
 list_text [] = codes "none"
 list_text (text ∷ texts) = text ++ after_commas texts
 
--- what a read of bytes returned
+-- what a read of a value or an entry returned: its bytes, or `none`
 abbrev pub found_text : Option (List ℕ) → List ℕ
 found_text None = codes "none"
 found_text (Some bytes) = bytes_text bytes

@@ -4,7 +4,7 @@ use Rattle.std.specs.List.{before_first}
 use Rattle.std.specs.Str.{IsUtf8}
 use Rattle.std.specs.Str.Parse.{IsNumeral, digits_value, without_leading_plus}
 
--- the byte parts two words of a line: it is a space
+-- the byte separates two words of a line: it is a space
 abbrev pub parts_words : ℕ → Bool
 parts_words b = b == 32
 
@@ -19,12 +19,13 @@ pub record IsNumberWord (word : List ℕ) (n : ℕ) : Type 0 where
 abbrev pub first_word : List ℕ → List ℕ × List ℕ
 first_word text = (before_first parts_words text, drop (length (before_first parts_words text)) text)
 
--- the value of the argument with which a text begins, after these bytes, and the text after it
+-- if a text begins with the bytes `front`, the word after them, which is the value of an argument, and the text after
+-- this word
 unfoldable pub argument_at : List ℕ → List ℕ → Option (List ℕ × List ℕ)
 argument_at front text =
     if bytes_eq (take (length front) text) front then Some (first_word (drop (length front) text)) else None
 
--- the text begins with an argument, after these bytes, that is the number `n`, and the rest of it is `rest`
+-- the text begins with the bytes `front`, then a word that is the number `n`, and then `rest`
 abbrev pub BeginsWithNumber : List ℕ → List ℕ → ℕ → List ℕ → Type 0
 BeginsWithNumber front text n rest =
     (word : List ℕ) × (argument_at front text ≡ Some (word, rest)) × IsNumberWord word n

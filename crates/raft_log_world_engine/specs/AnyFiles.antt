@@ -27,7 +27,7 @@ use Rattle.raft_log_world.specs.Model.{Answers, ModelLog}
 use Rattle.raft_log_world_engine.specs.Instance.{CrashSparesEngine, CrashSparesFiles, IsFilesLog, ReadSparesFiles}
 
 -- An open or a copy of a log's files had this answer. Whichever log of the model the files on disk `d` were, the model
--- gives the answer too, and becomes a log for which `is` holds. If a close or a failed open left the files, they must
+-- gives the same answer, and becomes a log for which `is` holds. If a close or a failed open left the files, they must
 -- have no CRC collision.
 abbrev pub FollowsFiles : {C : Type 0} → Config → OnDisk → Event Batch C → Answer → (ModelLog → Type 0) → Type 0
 FollowsFiles config d event answer is =
@@ -36,7 +36,7 @@ FollowsFiles config d event answer is =
 
 -- An open of the log of `config`, by any settings that name its directories:
 -- - `done`: if it succeeds, the engine is the log that the model becomes.
--- - `refused`: if it fails, the files are.
+-- - `refused`: if it fails, the log's files are the log that the model becomes.
 pub record OpensAsModel {F : Type 0} (C : Type 0) (disk : F → OnDisk) (tells : F → List ℕ → ℕ → Type 0)
     (config settings : Config) (old : F) : Type 0 where
   pub done : (workers : ℕ) (v : LogPipes) (tables : MemTables) (cache : BlockCache) → cache.place ≡ None
@@ -54,7 +54,7 @@ OpensFollowTheModel {F} C disk tells =
 -- A copy of the log of `config`:
 -- - `done`: if it succeeds, the files of the copy are the log that the model becomes, by settings that name only the
 --   target. No directory in the target may have the name of a log file.
--- - `refused`: if it fails, the files of the log are.
+-- - `refused`: if it fails, the files of the copied log are the log that the model becomes.
 pub record CopiesAsModel {F : Type 0} (C : Type 0) (disk : F → OnDisk) (config : Config) (target : String Global)
     (old new : F) : Type 0 where
   pub done : (to : Config) (copied : List (List ℕ)) → NamesOnly to (string_bytes target)
@@ -69,8 +69,8 @@ abbrev pub CopiesFollowTheModel : {F : Type 0} → Type 0 → (F → OnDisk) →
 CopiesFollowTheModel {F} C disk =
     (config : Config) (target : String Global) (old new : F) → CopiesAsModel C disk config target old new
 
--- Each crash of a log's files is one of the model: whichever log these were, what the crash left is the log that the
--- model becomes. The crash must leave no CRC collision, unless the log was at rest.
+-- Each crash of a log's files is one of the model. Whichever log of the model the files were, what the crash left is
+-- the log that the model becomes. The crash must leave no CRC collision, unless the log was at rest.
 abbrev pub FileCrashesFollowTheModel : Type 0 → Type 0
 FileCrashesFollowTheModel C =
     (config : Config) (d image : OnDisk) (what : C) → IsImage d image

@@ -1,4 +1,4 @@
--- The engine as a log of the model: what its calls answer.
+-- The engine as a log of the model: the answers of its calls.
 use Rattle.std.specs.Prelude.{◌≡◌, ℕ, Bool, true, false, List}
 use Rattle.raft_log_engine.specs.raft_log_dual_pipes.specs.Pipes.{LogRecordValue}
 use Rattle.raft_log_engine.specs.raft_log_engine_laws.specs.EngineState.{LogDirectories, LogMap, EngineState, has_failed, said_of}
@@ -11,7 +11,7 @@ use Rattle.raft_log_world.specs.declared.event.Call.{Call}
 use Rattle.raft_log_world.specs.Model.{ModelLog, Serves}
 use Rattle.raft_log_world.specs.Reads.{all_bytes, pairs_of}
 
--- how a call ended that failed, if the flag says whether the engine has failed
+-- the answer of a call that failed: `Failed` if the engine has failed, otherwise `Refused`
 abbrev pub failure_of : Bool → Answer
 failure_of true = Failed
 failure_of false = Refused
@@ -28,10 +28,10 @@ HasCopiedKeys pairs (Keys told) = pairs_of told.items ≡ pairs
 HasCopiedKeys pairs Refused = Unit {0}
 HasCopiedKeys pairs _ = ⊥
 
--- A call of the engine had this answer:
--- - If the engine had the contents `m` and these pending batches, it gave the model's answer, and is the log that
---   the model becomes.
--- - If it had failed, the call failed, and changed nothing.
+-- A call of engine `s` had this answer, and the engine is `t` after it:
+-- - If the engine had the contents `m` and these pending batches, it gave the model's answer, and is the log that the
+--   model becomes.
+-- - If it had failed, the answer is `Failed`, and nothing changed.
 pub record ServesAs (s : EngineState) (call : Call Batch) (answer : Answer) (t : EngineState) : Type 0 where
   pub runs : (home : LogDirectories) (m : LogMap) (pending : List LogRecordValue) → Represents home s m pending
       → (next : ModelLog) × Serves said_of m pending call answer next × IsEngineLog home t next

@@ -7,12 +7,12 @@ use Rattle.raft_log_world.specs.declared.event.Fault.TheVariants.{Refuse, Stop}
 use Rattle.raft_log_world.specs.declared.event.Answer.{Answer}
 use Rattle.raft_log_world.specs.declared.event.Answer.TheVariants.{Done, Refused}
 
--- the answer of an arming, if the flag says whether it succeeded
+-- the answer to the arming of a fault: `Done` if the flag says that it succeeded, otherwise `Refused`
 abbrev pub told_of : Bool → Answer
 told_of true = Done
 told_of false = Refused
 
--- the fault, as the file system has it
+-- a fault of a run in the form that the file system takes
 abbrev pub fault_of : Fault → DiskFault
 fault_of (Refuse call part) = faults.RefuseInPart call part
 fault_of (Stop call true) = faults.StopAfter call

@@ -27,20 +27,20 @@ pub data Rests (config : Config) (d : OnDisk) (m : LogMap) : Type 0 where
   bare : IsBare config d → m ≡ nothing_stands → Rests config d m
   rests : IsDurableAs (log_in (home_of config)) d m → Rests config d m
 
--- the files on disk `d` are this log, in the directories that the settings name
+-- The files on disk `d` are this log of the model, in the directories that the settings name. No engine has it open.
 abbrev pub IsFilesLog : Config → OnDisk → ModelLog → Type 0
 IsFilesLog config d (resting m) = Rests config d m
 IsFilesLog config d (left m pending) = IsRecoverableAs (home_of config) d m pending
 IsFilesLog config d (running m pending) = ⊥
 IsFilesLog config d (failed m pending) = ⊥
 
--- An open reads the files as they are, and so does a copy. Both ask that these have no CRC collision, if a close or a
--- failed open left them.
+-- What an open or a copy requires of the files, which it reads as they are. If a close or a failed open left them, they
+-- must have no CRC collision.
 abbrev pub ReadSparesFiles : (config : Config) (d : OnDisk) (log : ModelLog) → IsFilesLog config d log → Type 0
 ReadSparesFiles config d (left m pending) is = StandsWithoutChance (home_of config) is.1.lies.state d
 ReadSparesFiles config d log is = Unit {0}
 
--- a crash of the files left `image` without a CRC collision
+-- If a close or a failed open left the files on disk `d`, a crash of these left `image` without a CRC collision.
 abbrev pub CrashSparesFiles :
     (config : Config) (d : OnDisk) (log : ModelLog) → IsFilesLog config d log → OnDisk → Type 0
 CrashSparesFiles config d (left m pending) is image = IsCrashOf (home_of config) is.1.lies.state d image
@@ -61,17 +61,17 @@ pub record Parts (S G : Type 0) : Type 0 where
   pub settings : G → Config
   pub disk : G → OnDisk
 
--- an engine, or a closed log, is this log
+-- an engine, or a closed log, is this log of the model
 abbrev pub IsLog : {S G : Type 0} → Parts S G → Storage S G → ModelLog → Type 0
 IsLog p (Closed closed) log = IsFilesLog (p.settings closed) (p.disk closed) log
 IsLog p (Open engine) log = IsEngineLog (home_of (p.config engine)) (p.shows engine) log
 
--- what an open asks of chance
+-- what an open requires of a closed log: no CRC collision, if a close or a failed open left it
 abbrev pub ReadSpares : {S G : Type 0} (p : Parts S G) (at : Storage S G) (log : ModelLog) → IsLog p at log → Type 0
 ReadSpares p (Closed closed) log is = ReadSparesFiles (p.settings closed) (p.disk closed) log is
 ReadSpares p (Open engine) log is = Unit {0}
 
--- what a crash asks of chance, which leaves the closed log `left`
+-- what is required of a crash that leaves the closed log `image`: no CRC collision, unless the log was at rest
 abbrev pub CrashSpares :
     {S G : Type 0} (p : Parts S G) (at : Storage S G) (log : ModelLog) → IsLog p at log → G → Type 0
 CrashSpares p (Closed closed) log is image = CrashSparesFiles (p.settings closed) (p.disk closed) log is (p.disk image)

@@ -1,4 +1,4 @@
--- What an engine's other calls, a purge, a close and an open, do to the contents of its log, and so to the voters.
+-- What a purge, a close, a fork and an open do to the contents of a log, and so to the voters.
 use Rattle.std.specs.Prelude.{◌≡◌, ◌⊎◌, ℕ, List, [], take}
 use Rattle.raft_log_fs.specs.Disk.{Disk}
 use Rattle.raft_log_model_laws.specs.Groups.{taken}
@@ -12,13 +12,14 @@ use Rattle.raft_voter_durability_laws.specs.Standing.{IsLeftAmong, IsLeftWith, K
 
 -- What the engine promises.
 
--- a purge succeeded: the log has the same contents after its pending batches, which are durable now
+-- A purge turned engine `s` into `t` and succeeded. The log's contents are those after its pending batches, which are
+-- durable now.
 abbrev pub KeepsMap : EngineState → EngineState → Type 0
 KeepsMap s t = (home : LogDirectories) (m : LogMap) (pending : List LogRecordValue) → Represents home s m pending
     → Represents home t (taken m pending) []
 
--- A purge failed:
--- - the log has the same contents after its pending batches, which are durable now
+-- A purge turned engine `s` into `t` and failed:
+-- - the log's contents are those after its pending batches, which are durable now
 -- - or the engine has failed, and the log's files can be opened, with these batches durable or still pending
 abbrev pub KeepsOrLeavesMap : Error → EngineState → EngineState → Type 0
 KeepsOrLeavesMap error s t = (home : LogDirectories) (m : LogMap) (pending : List LogRecordValue) → Represents home s m pending
@@ -39,15 +40,15 @@ LeavesLeft home d e = (m : LogMap) (pending : List LogRecordValue) → IsRecover
 
 -- What happens to the voters.
 
--- After a failed purge, the engine's log stores the voters of `V`. Or the engine has failed, and its log's files can
--- be opened with just these voters.
+-- After a purge that failed with `error`, the log of engine `t` stores the voters of `V`. Or the engine has failed, and
+-- its log's files can be opened with just these voters.
 abbrev pub KeepsOrLeaves : LogDirectories → Error → EngineState → World → Type 0
 KeepsOrLeaves home error t V =
     Keeps home t V ⊎ ((error ≡ errors.Failed) × IsLeftWith home t.pipes.disk V)
 
--- An open that keeps the first `k` pending batches finds voters for which `P` holds, in the directories of the log or
--- of a fork. If it succeeds, the engine's log stores these voters. If it fails, its files can be opened, and whatever
--- a crash keeps of them has voters for which `P` holds.
+-- A log was left on disk `d`, and an open keeps its first `k` pending batches. Then it finds voters for which `P`
+-- holds, in the log's directories or in those of a fork (`there`). If it succeeds, the engine's log stores these
+-- voters. If it fails, its files can be opened, and whatever a crash keeps of them has voters for which `P` holds.
 pub record OpensAmong (home : LogDirectories) (d : Disk) (P : World → Type 0) (left : IsLeftAmong home d P) (k : ℕ)
     : Type 0 where
   pub world : World

@@ -14,9 +14,14 @@ use Rattle.raft_voter_records.specs.Among.{MeansAmong}
 use Rattle.raft_voter_durability_laws.specs.Standing.{AreOutlines, IsLeftAmong, Keeps}
 use Rattle.raft_voter_durability_laws.specs.Rounds.{AreTold, IsPassed, IsPassedOrOneMore, took}
 
--- A round got as far as these replies. Its records so far lead from the voters at its start to the voters after the
--- requests taken. If only a prefix of these records is kept, it leads to the voters after a prefix of the requests
--- taken. The replies are those of the voters. If the round wrote nothing, the log has no new record.
+-- A round of the requests `qs` got as far as the replies `told`. It began with engine `s` and the outlines `os`, and
+-- now has engine `t` and the outlines `us`.
+-- - `said`, `silent`, `holds`: the records that it wrote, none if `wrote` is false. Some of the first ones may be
+--   durable.
+-- - `leads`: these records lead from the voters at the round's start to the voters after the requests taken.
+-- - `among`: if only a prefix of the records is kept, it leads to the voters after a prefix of the requests taken.
+-- - `outlines`: the outlines `us` are those of the voters after the requests taken.
+-- - `tells`: each reply that isn't `Refused` is the voter's own.
 pub record Went (qs : List (ℕ × Request)) (told : List Reply) (wrote : Bool) (s t : EngineState) (os us : ℕ → State)
     : Type 0 where
   pub said : List LogRecordValue
@@ -32,8 +37,9 @@ pub record Went (qs : List (ℕ × Request)) (told : List Reply) (wrote : Bool) 
   pub tells : (home : LogDirectories) (m : LogMap) (W : World) → Represents home s m [] → Means m W → AreOutlines os W
       → AreTold W qs told
 
--- A round ended with replies. The engine runs on, and its log stores the voters after the requests taken, with nothing
--- pending. The outlines are theirs, and so are the replies.
+-- A round began with the voters of `V` and ended with the replies `told`. Engine `t` runs on, and its log stores the
+-- voters after the requests taken, with nothing pending. The outlines `us` are those of these voters. Each reply that
+-- isn't `Refused` is the voter's own.
 pub record Answered (home : LogDirectories) (V : World) (qs : List (ℕ × Request)) (told : List Reply) (s t : EngineState)
     (us : ℕ → State) : Type 0 where
   pub alive : has_failed t ≡ false
@@ -42,9 +48,9 @@ pub record Answered (home : LogDirectories) (V : World) (qs : List (ℕ × Reque
   pub outlines : AreOutlines us (after V (took qs told))
   pub tells : AreTold V qs told
 
--- The engine failed at a request of the round, after these replies, which are the voters'. The log's files can be
--- opened. They store the voters after a prefix of the requests taken, perhaps with the request at which the engine
--- failed.
+-- The engine failed at a request of the round, as a file system call failed. `told` has the replies to the requests
+-- before it; those that aren't `Refused` are the voters' own. The log's files can be opened. They store the voters
+-- after a prefix of the requests taken, or after all of them and the request at which the engine failed.
 pub record GaveUp (home : LogDirectories) (V : World) (qs : List (ℕ × Request)) (told : List Reply) (s t : EngineState)
     : Type 0 where
   pub failed : has_failed t ≡ true
@@ -52,8 +58,8 @@ pub record GaveUp (home : LogDirectories) (V : World) (qs : List (ℕ × Request
   pub tells : AreTold V qs told
   pub left : IsLeftAmong home t.pipes.disk (IsPassedOrOneMore V qs told)
 
--- The sync at the end of a round failed. The log's files can be opened, and store the voters after a prefix of the
--- requests taken.
+-- The sync at the end of a round failed, as a file system call failed. The log's files can be opened, and store the
+-- voters after a prefix of the requests taken.
 pub record Unsynced (home : LogDirectories) (V : World) (qs : List (ℕ × Request)) (told : List Reply) (s t : EngineState)
     : Type 0 where
   pub failed : has_failed t ≡ true

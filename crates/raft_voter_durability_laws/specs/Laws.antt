@@ -59,12 +59,12 @@ ReadRequestsAreServed = (q : ℕ × Request) (from to : ℕ) (es : List VoterEnt
     → IsReplyOfEach (os q.0) q.1 (answers.Entries from to) → LeavesEach (os q.0) q.1
     → ReadsEntries q.0 from to s t os es → Served q (replies.Entries es) false s t os os
 
--- An engine's tables show no entry of a group that doesn't count.
+-- An engine's tables show no entry of a group that has no item after its last Clean.
 abbrev pub EnginesAreCounted : Type 0
 EnginesAreCounted = (v : LogPipes) (tables : MemTables) (cache : BlockCache) → IsCounted (shows v tables cache)
 
--- Entries that a fetch returned are those of the group's voter, if messages are raw bytes, and each parses as an entry
--- at its index.
+-- Entries that a fetch returned are those of the group's voter. This requires that messages are raw bytes, and that
+-- each message parses as an entry at its index.
 abbrev pub FetchedEntriesAreRead : Type 0 → Type 0
 FetchedEntriesAreRead M = (text : M → List ℕ) (reading : List ℕ → Option M) (q : ℕ × Request)
     (from to count : ℕ) (s t : EngineState) (os : ℕ → State) (messages : List M) (es : List VoterEntry)
@@ -98,8 +98,8 @@ UnreadRequestsAreTurnedDown = (q : ℕ × Request) (error : Error) (s t : Engine
 
 -- Rounds.
 
--- A round begins without replies. It gets one more reply with a request that was served, or with one that was turned
--- down, whose reply is `Refused`.
+-- A round begins without replies. A request that was served adds its reply. A request that was turned down adds the
+-- reply `Refused`.
 pub record RoundsGoOn : Type 0 where
   pub begins : (qs : List (ℕ × Request)) (s : EngineState) (os : ℕ → State) → has_failed s ≡ false
       → Went qs [] false s s os os
@@ -113,10 +113,10 @@ pub record RoundsGoOn : Type 0 where
       → Went qs (told ++ replies.Refused ∷ []) wrote s u os us
 
 -- A round ends in one of these ways:
--- - nothing was written, no sync is needed, and the replies are returned
--- - its sync succeeds, and the replies are returned
--- - the engine fails at a request
--- - its sync fails
+-- - `unwritten`: nothing was written, no sync is needed, and the replies are returned.
+-- - `answered`: its sync succeeds, and the replies are returned.
+-- - `gave_up`: the engine fails at a request.
+-- - `unsynced`: its sync fails.
 pub record RoundsEnd : Type 0 where
   pub unwritten : (home : LogDirectories) (V : World) (qs : List (ℕ × Request)) (told : List Reply) (s t : EngineState)
       (os us : ℕ → State) → Keeps home s V → AreOutlines os V → Went qs told false s t os us
@@ -140,13 +140,13 @@ pub record RepliesTellPlaces (V : World) (qs : List (ℕ × Request)) (told : Li
   pub told_is : told ≡ replies_from 0 (refused_from 0 told) V qs
   pub taken_is : took qs told ≡ taken_from 0 (length qs) (refused_from 0 told) qs
 
--- Let each request of a round have a reply, and let those that aren't `Refused` be the voters'. Then the refused
--- positions determine the replies and the requests taken.
+-- Let each request of a round have a reply, and let each reply that isn't `Refused` be the voter's own. Then the
+-- refused positions determine the replies and the requests taken.
 abbrev pub ToldRoundsAreAnswered : Type 0
 ToldRoundsAreAnswered = (V : World) (qs : List (ℕ × Request)) (told : List Reply) → AreTold V qs told
     → length told ≡ length qs → RepliesTellPlaces V qs told
 
--- The voters after a round was cut off took its requests below one position, except those at refused positions.
+-- After a round was cut off, the voters have taken its requests below one position, except those at refused positions.
 abbrev pub PassedVotersTookFirst : Type 0
 PassedVotersTookFirst = (V : World) (qs : List (ℕ × Request)) (told : List Reply) → AreTold V qs told
     → (X : World) → IsPassedOrOneMore V qs told X → TakesFirst V qs (refused_from 0 told) X
@@ -180,7 +180,7 @@ pub record FreshLogsHaveFreshVoters : Type 0 where
   pub refused : (home : LogDirectories) (d : Disk) → IsRecoverableAs home d nothing_stands [] → IsLeftWith home d fresh_world
 
 -- After a round was cut off, the log's files store voters that took its requests below one position, except refused
--- ones. After any other call they store the voters from before it.
+-- ones. `alone`: files that store the voters of `V` are a case of this, with a round without requests.
 pub record LeftBehindRounds : Type 0 where
   pub gave_up : (home : LogDirectories) (V : World) (qs : List (ℕ × Request)) (told : List Reply) (s t : EngineState)
       → GaveUp home V qs told s t

@@ -31,18 +31,20 @@ use Rattle.raft_voter_records.specs.Voters.{Means}
 use Rattle.raft_voter_records.specs.MeaningChanges.{decided_items, record_in}
 use Rattle.raft_voter_durability_laws.specs.Standing.{AreOutlines}
 
--- the batch has the items of the change that was decided for request `q` of group `g`, and may be written
+-- batch `b` has the items of the change `c`, which was decided for request `q` of group `g`, and may be written
 pub record SaysChange (g : ℕ) (q : Request) (c : Change) (b : Batch) : Type 0 where
   pub says : record_of (entry_bytes b.entries) b.items ≡ Some (record_in g (decided_items c q))
   pub writable : IsWritable b.state
 
--- the outline of the request's group is now that of its voter after the request; the other outlines are unchanged
+-- From `os` to `us`, the outline of the request's group has become that of its voter after the request. The other
+-- outlines are unchanged.
 pub record StepsOutlines (q : ℕ × Request) (os us : ℕ → State) : Type 0 where
   pub own : OutlineBecomes (os q.0) q.1 (us q.0)
   pub others : (g : ℕ) → (g == q.0) ≡ false → us g ≡ os g
 
--- A request was served, and at most one record was written for it. The log stores the voters after the request, the
--- outlines are theirs, and the reply is the voter's own. It is `Refused` only if the request is out of range.
+-- Request `q` was served with the reply `a`. At most one record was written for it, and none if `wrote` is false.
+-- Engine `t`'s log stores the voters after the request, and `us` are their outlines. The reply is the voter's own. It
+-- is `Refused` only if the request is out of range.
 pub record Served (q : ℕ × Request) (a : Reply) (wrote : Bool) (s t : EngineState) (os us : ℕ → State) : Type 0 where
   pub said : List LogRecordValue
   pub short : length said ≤ 1
@@ -87,8 +89,8 @@ pub data WasTurnedDown (q : ℕ × Request) (error : Error) (s t : EngineState) 
   unread : (from to : ℕ) → q.1 ≡ Read from to → WereUnread q.0 from to s error → WasTurnedDown q error s t
   no_memory : error ≡ errors.Memory → WasTurnedDown q error s t
 
--- A request was turned down. The log's contents stay, but some pending batches may be durable now; the voters and
--- their outlines are unchanged. The reason is given if the log stores voters with these outlines.
+-- A request was turned down. The log's contents stay, but some of the first pending batches may be durable now. The
+-- voters and their outlines are unchanged. `why` gives the reason if the log stores voters with the outlines `os`.
 pub record TurnedDown (q : ℕ × Request) (error : Error) (s t : EngineState) (os : ℕ → State) : Type 0 where
   pub alive : has_failed t ≡ false
   pub later : IsLater s.pipes.disk t.pipes.disk

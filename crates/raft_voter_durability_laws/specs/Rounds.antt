@@ -13,8 +13,7 @@ took [] told = []
 took (q ∷ qs) [] = []
 took (q ∷ qs) (a ∷ told) = if is_refused a then took qs told else q ∷ took qs told
 
--- each reply so far that isn't `Refused` is the reply of the request's voter, after the requests that were taken
--- before
+-- each reply so far that isn't `Refused` is the reply of its request's voter after the requests that were taken before
 abbrev pub AreTold : World → List (ℕ × Request) → List Reply → Type 0
 AreTold W qs [] = Unit {0}
 AreTold W [] (a ∷ told) = ⊥
@@ -26,7 +25,8 @@ AreTold W (q ∷ qs) (a ∷ told) =
 abbrev pub IsPassed : World → List (ℕ × Request) → List Reply → World → Type 0
 IsPassed V qs told X = (cut : ℕ) × (cut ≤ length told) × (X ≡ after V (took qs (take cut told)))
 
--- `X` is such a world, or the world after all requests that were taken and the next one, which has no reply yet
+-- `X` is a world for which `IsPassed` holds. Or it is the world after all requests that were taken and the next one,
+-- which has no reply yet.
 abbrev pub IsPassedOrOneMore : World → List (ℕ × Request) → List Reply → World → Type 0
 IsPassedOrOneMore V qs told X = IsPassed V qs told X
     ⊎ ((q : ℕ × Request) × (slice_get qs (length told) ≡ Some q) × (X ≡ after_one (after V (took qs told)) q))

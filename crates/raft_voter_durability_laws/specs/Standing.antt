@@ -1,5 +1,5 @@
--- Which voters an engine's log stores, and which voters a recovery may find on a disk. The voter of a Raft group is
--- its term, vote and entries at the receiving side; a world `W` has one for each group.
+-- Which voters an engine's log stores, and which voters a recovery may find on a disk. A voter is what one Raft group
+-- keeps at the receiving side: term, vote, base, commit index and entries. A world `W` has one for each group.
 use Rattle.std.specs.Prelude.{◌≡◌, ℕ, List, []}
 use Rattle.raft_log_fs.specs.Disk.{Disk}
 use Rattle.raft_log_engine_laws.specs.EngineState.{LogDirectories, LogMap, EngineState}

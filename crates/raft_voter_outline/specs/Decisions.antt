@@ -15,8 +15,8 @@ use Rattle.raft_voter_outline.specs.Runs.{bare, runs_behind, Terms}
 use Rattle.raft_voter_outline.specs.Rules.{next}
 use Rattle.raft_voter_outline.specs.State.{State, last_index}
 
--- For a Read of the indexes from `from` to below `to`: the indexes whose entries the reply needs. If there are none,
--- it is the reply itself.
+-- The answer of outline `o` to a Read of the indexes from `from` to below `to`. It is the reply, or, if the reply needs
+-- entries, the range of their indexes.
 abbrev pub read_answer : State → ℕ → ℕ → Answer
 read_answer o from to =
     if nat_le from o.base_index then Told (Gone o.base_index)
@@ -32,7 +32,8 @@ Stays o p (Entries skipped index) = ⊥
 Stays o p (CompactTo index) = ⊥
 Stays o p Clean = (p.state ≡ stored_state o) × (o.log ≡ [])
 
--- decision `d` has the plan's reply. It has the plan's state and write as its change, or none if they change nothing.
+-- Decision `d` has the plan's reply. If the plan's state and write change outline `o`, they are the decision's change;
+-- otherwise it has none.
 pub record SettlesPlan (o : State) (p : Plan) (d : Decision) : Type 0 where
   pub answer : d.answer ≡ Told p.reply
   pub change :
@@ -46,8 +47,8 @@ abbrev pub entries_in : Write → Request → List (ℕ × List ℕ)
 entries_in (Entries skipped index) q = drop skipped (sent_of q)
 entries_in _ q = []
 
--- the most runs of equal terms that the appended entries can add to an outline: all of theirs, as after an entry of
--- another term
+-- The most runs of equal terms that the appended entries can add to an outline. It is the number of their own runs: all
+-- are new if the entry before them has another term.
 abbrev pub runs_needed : Write → Request → ℕ
 runs_needed w q = runs_behind None (entries_in w q)
 
@@ -64,8 +65,8 @@ pub record AreTermsOf (v : State) (t : Terms) : Type 0 where
   pub base_is : t.base ≡ v.base_index
   pub log_is : t.log ≡ bare v.log
 
--- change `c` can be made to terms `t`: they are those of some voter for which the change is possible, and its new base
--- is in range
+-- Change `c` for request `q` can be made to terms `t`. Some voter has these terms, and the change's write is possible
+-- for it. The change's base may follow this write (`RestsOn`), and is in range.
 pub record CanChange (t : Terms) (q : Request) (c : Change) : Type 0 where
   pub voter : State
   pub terms_of : AreTermsOf voter t
@@ -73,8 +74,8 @@ pub record CanChange (t : Terms) (q : Request) (c : Change) : Type 0 where
   pub rests : RestsOn c.write voter c.state.base_index
   pub small : c.state.base_index < 2 ^ 63
 
--- `new` is `old` after change `c`: its base is the change's, and its log has the terms that each voter with terms
--- `old` has after the write
+-- `new` is `old` after change `c`: it has the change's base. Its log has the terms that each voter with terms `old` has
+-- after the write.
 abbrev pub ChangesTerms : Terms → Request → Change → Terms → Type 0
 ChangesTerms old q c new =
     (new.base ≡ c.state.base_index)

@@ -52,7 +52,8 @@ abbrev pub sent_of : Request → List (ℕ × List ℕ)
 sent_of (Append term prev prev_term commit sent) = sent
 sent_of _ = []
 
--- the reply of voter `v` for this answer: the reply that it has, or the voter's entries from `from` to below `to`
+-- the reply that this answer gives for voter `v`: the answer's own reply, or the voter's entries from `from` to below
+-- `to`
 abbrev pub answered : Answer → State → Reply
 answered (Told told) v = told
 answered (EntriesAnswer from to) v = EntriesReply (entries_between v from to)
@@ -145,8 +146,8 @@ EntriesAreThere (Told told) q v = Unit {0}
 EntriesAreThere (EntriesAnswer from to) q v =
     (q ≡ Read from to) × (v.base_index < from) × (from < to) × (to ≤ last_index v + 1)
 
--- for each voter with outline `o`, answer `a` gives its reply to request `q`, and the voter has the entries that the
--- reply still needs
+-- For each voter with outline `o`, answer `a` gives the voter's reply to request `q`. The voter has the entries that
+-- the reply still needs.
 abbrev pub IsReplyOfEach : State → Request → Answer → Type 0
 IsReplyOfEach o q a = (v : State) → without_bytes v ≡ o → (reply v q ≡ answered a v) × EntriesAreThere a q v
 
@@ -158,8 +159,8 @@ LeavesEach o q = (v : State) → without_bytes v ≡ o → next v q ≡ v
 abbrev pub ChangesEach : State → Request → Change → Type 0
 ChangesEach o q c = (v : State) → without_bytes v ≡ o → IsChangeOf v q c
 
--- Decision `d` is right for each voter with outline `o`. It has the voter's reply. If it has a change, request `q`
--- makes that change to the voter, and otherwise `q` doesn't change the voter.
+-- Decision `d` is right for each voter with outline `o`. Its answer gives the voter's reply. If it has a change,
+-- request `q` makes that change to the voter, and otherwise `q` doesn't change the voter.
 pub record Decides (o : State) (q : Request) (d : Decision) : Type 0 where
   pub answer : IsReplyOfEach o q d.answer
   pub change : MatchOption d.change (LeavesEach o q) (ChangesEach o q)

@@ -11,7 +11,7 @@ use Rattle.raft_voter_outline.specs.State.{State}
 abbrev pub with_term : VoterState → ℕ → VoterState
 with_term s term = if nat_lt s.term term then record s { term = term; vote = None } else s
 
--- plan `p` has the reply, the next stored state and the write of request `q` for outline `o`
+-- plan `p` has the reply, the next state as it is stored, and the write of request `q` for outline `o`
 pub record Plans (o : State) (q : Request) (p : Plan) : Type 0 where
   pub reply_is : p.reply ≡ reply_in_range o q
   pub state_is : p.state ≡ stored_state (next_in_range o q)

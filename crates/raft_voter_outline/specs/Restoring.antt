@@ -34,8 +34,8 @@ restored s es =
     else Err Order)
     else Err Range
 
--- `fault` may be returned if `there` is what the state and entries restore to. It is the fault of `there`, or `Memory`
--- if `there` is a voter.
+-- `there` is what a state and entries restore to, and `fault` may be returned for it. It is the fault that `there` has,
+-- or `Memory` if `there` is a voter.
 abbrev pub RestoreFault : StoredFault → Result State StoredFault → Type 0
 RestoreFault Memory there = IsOk there
 RestoreFault fault there = there ≡ Err fault

@@ -39,15 +39,16 @@ run_items index (e ∷ es) = Run index (map entry_text (numbered index (e ∷ es
 abbrev pub brought_items : State → State → List Words
 brought_items v w = run_items (v.base_index + shared v w + 1) (drop (shared v w) w.log)
 
--- The item that deletes the entries of `v` up to the base of `w`. If `w` has no entries, it deletes all; if `v` has
--- none, nothing is written.
+-- The item that deletes the entries of `v` up to the base of `w`. If `w` has no entries, it deletes all entries of `v`.
+-- If `v` has none, nothing is written.
 abbrev pub gone_items : State → State → List Words
 gone_items v w =
     if length v.log == 0 then []
     else if length w.log == 0 then Compact (last_index v + 1) ∷ []
     else Compact (w.base_index + 1) ∷ []
 
--- The items for the log: if the base is the same, the new entries, else the deletion of old ones.
+-- The items for the log when voter `v` becomes `w`. If the base is the same, they write the new entries, else they
+-- delete old ones.
 abbrev pub log_items : State → State → List Words
 log_items v w = if w.base_index == v.base_index then brought_items v w else gone_items v w
 
@@ -69,7 +70,7 @@ tagged_with g xs = map (λ x. record { group = g; item = x }) xs
 abbrev pub record_in : ℕ → List Words → Record (List ℕ) (List ℕ)
 record_in g xs = Plain (tagged_with g xs)
 
--- the record of a request `q`, a group and what it asks of the group's voter, if the voters are `W`
+-- the record that is written if the voters are `W` and one of them takes `q`, a request with its group
 abbrev pub change_record : World → ℕ × Request → Record (List ℕ) (List ℕ)
 change_record W q = record_in q.0 (change_items (W q.0) q.1)
 
@@ -82,8 +83,8 @@ write_items (writes.Entries skipped index) sent = run_items index (drop skipped 
 write_items (writes.CompactTo index) sent = Compact (index + 1) ∷ []
 write_items writes.Clean sent = Clean ∷ []
 
--- the items for the change `c` that was decided for the request `q`: the log, then the state, unless the voter is
--- retired
+-- The items for the change `c` that was decided for the request `q`: those for the log, then the new state. If the
+-- request retires the voter, there is none for the state.
 abbrev pub decided_items : Change → Request → List Words
 decided_items c q =
     write_items c.write (sent_of q)

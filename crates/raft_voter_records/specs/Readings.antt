@@ -18,8 +18,8 @@ abbrev pub run_content : ℕ → List (List ℕ) → ℕ → Option (Content (Li
 run_content first texts i = if nat_le first i then option_map Entry (slice_get texts (i - first)) else None
 
 -- Reading the group finds the state `s` and the entries `es`. The voter's key is its only key, and its value encodes
--- `s`. Its entries have consecutive indexes right after the base of `s`, and encode `es`. The last index is below
--- 2 ^ 63.
+-- `s`. The group's entries encode `es`, and have consecutive indexes right after the base of `s`. The last index is
+-- below 2 ^ 63.
 pub record IsReadAs (grp : Group) (s : VoterState) (es : List VoterEntry) : Type 0 where
   pub bytes : List ℕ
   pub head : grp (Key voter_key) ≡ Some (Value bytes)
@@ -34,9 +34,14 @@ pub record IsReadAs (grp : Group) (s : VoterState) (es : List VoterEntry) : Type
 abbrev pub read_voter : VoterState → List VoterEntry → State
 read_voter s es = with_log s (map (λ e. (e.term, e.bytes)) es)
 
--- The flaws by which a group is foreign. It has another key than the voter's. It has something, but not the voter's
--- key. The value there encodes no state. An entry has an index up to the base of the state. An entry comes after an
--- index without one. The bytes of an entry encode none. An index is 2 ^ 63 or more.
+-- The flaws by which a group is foreign:
+-- - `other_key`: it has another key than the voter's.
+-- - `no_state`: it has an entry or a key, but not the voter's key.
+-- - `broken_state`: the value under the voter's key encodes no state.
+-- - `below_base`: an entry has an index up to the base of the state.
+-- - `behind_gap`: an entry comes after an index above the base that has none.
+-- - `broken_entry`: the bytes of an entry encode no entry at its index.
+-- - `too_far`: an entry has an index of 2 ^ 63 or more.
 pub data HasForeign (grp : Group) : Type 0 where
   other_key : (k : List ℕ) → (voter_key ≡ k → ⊥) → (grp (Key k) ≡ None → ⊥) → HasForeign grp
   no_state : (s : Slot) → (grp s ≡ None → ⊥) → grp (Key voter_key) ≡ None → HasForeign grp

@@ -16,15 +16,15 @@ use Rattle.raft_voter_recovery.specs.Reading.{Tells}
 
 -- Keys.
 
--- `None`: the group has no key. `Some`: it has the one key of a voter, with the bytes of the state `s`, and no other
--- key.
+-- `es` are the keys of a group with their values. `None`: there are none. `Some s`: there is only the voter's key, and
+-- its value encodes the state `s`.
 abbrev pub PairsTell : Option VoterState → List (List ℕ × List ℕ) → Type 0
 PairsTell None es = es ≡ []
 PairsTell (Some s) es = (bytes : List ℕ) × (es ≡ (voter_key, bytes) ∷ []) × IsState bytes s
 
--- These keys and values aren't a voter's:
+-- The keys and values `es` of a group aren't a voter's:
 -- - there is one key, but another than the voter's
--- - there is the voter's key, but its value doesn't parse as a state
+-- - there is only the voter's key, but its value doesn't parse as a state
 -- - there are two keys or more
 abbrev pub ArePairsForeign : List (List ℕ × List ℕ) → Type 0
 ArePairsForeign es =
@@ -32,7 +32,7 @@ ArePairsForeign es =
     ⊎ (((bytes : List ℕ) × (fault : StoredFault) × (es ≡ (voter_key, bytes) ∷ []) × StateFault fault bytes)
     ⊎ (2 ≤ length es))
 
--- the keys and values aren't a voter's, and the error names group `g`
+-- the keys and values `es` aren't a voter's, and the error names group `g`
 abbrev pub ForeignPairs : ℕ → List (List ℕ × List ℕ) → Unread → Type 0
 ForeignPairs g es cause = (cause ≡ causes.Foreign g) × ArePairsForeign es
 
@@ -58,7 +58,7 @@ ReadsKey e g (Some s) = ReadsState e g s
 
 -- Indexes.
 
--- the first and the last index of group `g` were read, or none if it has no entries
+-- the first and the last index of group `g` were read, or `None` if it has no entries
 abbrev pub ReadsSpan : EngineState → ℕ → Option (ℕ × ℕ) → Type 0
 ReadsSpan e g None = ReadsFirst e g None
 ReadsSpan e g (Some span) = ReadsFirst e g (Some span.0) × ReadsLast e g (Some span.1)
@@ -80,7 +80,7 @@ pub record ReadsHead (e : EngineState) (g : ℕ) (head : Head) : Type 0 where
   pub state : ReadsState e g head.state
   pub ends : ReadsEnd e g head.state.base_index head.end
 
--- `None`: group `g` is empty. `Some`: this is what was read of it before its entries.
+-- `None`: group `g` is empty. `Some`: `head` is what was read of the group before its entries.
 abbrev pub TellsHead : EngineState → ℕ → Option Head → Type 0
 TellsHead e g None = Tells e (λ m. IsVoid (m g))
 TellsHead e g (Some head) = ReadsHead e g head

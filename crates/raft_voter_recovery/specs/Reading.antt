@@ -16,7 +16,7 @@ use Rattle.raft_voter_durability_laws.specs.Requests.{WereUnread}
 use Rattle.raft_voter_recovery.specs.declared.unread.Unread.{Unread}
 use Rattle.raft_voter_recovery.specs.declared.unread.Unread.TheVariants as causes
 
--- `P` holds for the contents of the engine's log, if nothing is pending
+-- Whatever the contents of engine `s`'s log are, `P` holds for them. This is claimed only if nothing is pending.
 abbrev pub Tells : EngineState → (LogMap → Type 0) → Type 0
 Tells s P = (home : LogDirectories) (m : LogMap) → Represents home s m [] → P m
 
@@ -54,7 +54,8 @@ pub record ListsVoters (s : EngineState) (vs : List (ℕ × State)) : Type 0 whe
 
 -- Failures.
 
--- Why the engine failed a read: it has failed; or it couldn't read the file of an entry.
+-- Why the engine failed a read with `error`: the engine has failed, it couldn't read the file of an entry, or memory
+-- ran out for an entry.
 abbrev pub IsRefused : Error → EngineState → Type 0
 IsRefused error s = IsFailed s error
     ⊎ ((g from to : ℕ) × ((home : LogDirectories) (m : LogMap) → Represents home s m [] → WereUnread g from to s error))

@@ -59,8 +59,8 @@ AreNotTold g first hs causes.Memory = Unit {0}
 abbrev pub alone : List ℕ → List (ℕ × List ℕ)
 alone ts = map (λ t. (t, [])) ts
 
--- `p` is `o` with more entries in its log. These have no data, and the terms of the heads `hs`, whose first index is
--- `first`.
+-- Voter `p` is `o` with more entries in its log. These have no data. Their terms are those that the heads `hs` give,
+-- which are of consecutive entries from index `first` on.
 pub record AddsTold (first : ℕ) (hs : List EntryHead) (o p : State) : Type 0 where
   pub terms : List ℕ
   pub told : AreTold first hs terms
@@ -73,8 +73,8 @@ pub record ReadsTerms (e : EngineState) (g first end : ℕ) (ts : List ℕ) : Ty
   pub some : 0 < length ts
   pub within : first + length ts ≤ end
 
--- `p` is `o` with `count` more entries in its log. These have no data, and the terms of the entries of group `g` from
--- index `first` on, below `end`.
+-- Voter `p` is `o` with `count` more entries in its log, at least one. These have no data, and the terms of the entries
+-- of group `g` from index `first` on, below `end`.
 pub record AddsTerms (e : EngineState) (g first end count : ℕ) (o p : State) : Type 0 where
   pub terms : List ℕ
   pub read : ReadsTerms e g first end terms

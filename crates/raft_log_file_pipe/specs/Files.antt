@@ -49,7 +49,8 @@ AllKept F paths first d [] = Unit {0}
 AllKept F paths first d (f ∷ fs) = IsKeptForUse F paths first d f
     × NoneHas paths (path_of paths f) fs × AllKept F paths first d fs
 
--- The pipe with these lists runs over the queue `q` on the disk `d`.
+-- The pipe with these lists runs over the queue `q` on the disk `d`. Since `base`, only paths and files of the queue's
+-- own (`own`) have changed.
 -- - The active file is the queue's last one, and the queue is open to the pipe's writer.
 -- - `span`: the earlier files are those from the live range's first number on.
 -- - `kept`: each file that is kept for recycling can be recycled.

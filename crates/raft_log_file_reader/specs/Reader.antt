@@ -70,8 +70,8 @@ pub record IsUnmoved (old new : LogItemBatchFileReader) : Type 0 where
   pub end : end_of new ≡ end_of old
   pub block : last_block new ≡ last_block old
 
--- Reading the next batch of `file` took the reader from `old` to `new`. It returned the batch after the offset of `old`,
--- at whose end `new` is. Or it returned `None`, since no batch follows, and the reader is unmoved.
+-- Reading the next batch of `file` took the reader from `old` to `new`, and returned `found`. A batch begins after the
+-- offset of `old`, and ends at that of `new`. `None`: no batch follows, and the reader is unmoved.
 abbrev pub AnswersBatch : Disk → OpenFile → LogItemBatchFileReader → LogItemBatchFileReader → Option ItemBatch
     → Type 0
 AnswersBatch d file old new found = MatchOption found

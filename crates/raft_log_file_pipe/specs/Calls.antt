@@ -26,7 +26,7 @@ TurnsBy paths header (f ∷ fs) writer next after old new = IsOpened (path_of pa
 abbrev pub IsUnopened : List ℕ → Disk → Type 0
 IsUnopened path d = (d.stopped ≡ true) ⊎ (d.names path ≡ None)
 
--- the path of the queue's file with the number `n` in the directory of `file`; its name has no sign
+-- the path of the queue's file with the number `n` in the directory of `file`, with a name without a plus sign
 abbrev pub next_path : FilePaths → Listed → ℕ → List ℕ
 next_path paths file = paths.numbered (plain_place (length paths.directories) file.path_id)
 

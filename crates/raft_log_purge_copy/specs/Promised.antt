@@ -30,6 +30,7 @@ abbrev pub IsInAllOrNone : ℕ → List RestatedPart → List LogItem → Type 0
 IsInAllOrNone g parts items = (AllMention g parts × (mentions g items ≡ true))
     ⊎ (entries_of g (tagged_items {E = EntryIndex} (λ e. e) (items_of_all parts ++ items)) ≡ 0)
 
--- each group has items in all the parts and in `items`, or has no entries in any of them, as if they restate one group
+-- Each group has items in all the parts and in `items`, or has no entries in any of them. This is so if the parts and
+-- `items` restate one group.
 abbrev pub AreOfOne : List RestatedPart → List LogItem → Type 0
 AreOfOne parts items = (g : ℕ) → IsInAllOrNone g parts items

@@ -29,8 +29,8 @@ abbrev pub StaysOrIsLeft : Error → EngineState → EngineState → Type 0
 StaysOrIsLeft error s t = OweNothing s.tables → (home : LogDirectories) (m : LogMap) → Represents home s m []
     → Represents home t m [] ⊎ ((error ≡ errors.Failed) × IsRecoverableAs home t.pipes.disk m [])
 
--- The first entries that the group has in Append were copied to Rewrite in one record. There is at least one, and all
--- are in files up to the gate. Nothing else changed in the tables.
+-- The first entries that the group has in Append, at least one, were copied to Rewrite in one record. They were in
+-- files up to the gate. Nothing else changed in the tables.
 pub record CopiesEntries (group gate : ℕ) (s t : EngineState) : Type 0 where
   pub entries : List EntryIndex
   pub next : AreNext gate (s.tables group) entries

@@ -84,9 +84,9 @@ abbrev pub NumbersStay : {R : Type 0} → Format R → ℕ → Disk → Disk →
 NumbersStay F first old new = (m : ℕ) (path : List ℕ) → first ≤ m → m < F.limit → F.IsPath m path
     → new.names path ≡ old.names path
 
--- Reserved names count as no number here. A queue whose last number is above those of the files `fs` keeps its records:
--- its last file still holds them, and no gap in the file numbers was filled. The paths of all numbers above those of
--- `fs` name the same files as before.
+-- Let a queue's last number be above those of the files in `fs` that have no reserved name. The queue keeps its
+-- records: its last file still holds them, and no gap in the file numbers was filled. The paths of all numbers above
+-- those in `fs` name the same files as before.
 abbrev pub StaysLeft : {R : Type 0} → Format R → (List ℕ → Type 0) → List Listed → Disk → Disk → Type 0
 StaysLeft {R} F own fs old new = (base : Disk) (q : LogFiles R) → AreBelow q.last fs → StandsWithRecords F own base q old
     → StandsWithRecords F own base q new × GapsStay F q old new

@@ -43,7 +43,7 @@ pub data IsChosen (tells : List ℕ → ℕ → Type 0) (d : Disk) (size : ℕ) 
   none : AllLackRoom tells d size directories → place ≡ 0 → IsChosen tells d size directories place
 
 -- `place` is the position of the next file's directory. A recycled file stays in its directory, and its new name has no
--- plus sign before the number. Without one, a new file is created in a directory with room for `size` bytes.
+-- plus sign before the number. If no file is kept for recycling, a new one is created in the directory of `IsChosen`.
 abbrev pub IsPlaced : (List ℕ → ℕ → Type 0) → Disk → ℕ → List (List ℕ) → List Listed → ℕ → Type 0
 IsPlaced tells d size directories [] place = IsChosen tells d size directories place
 IsPlaced tells d size directories (f ∷ fs) place = place ≡ plain_place (length directories) f.path_id

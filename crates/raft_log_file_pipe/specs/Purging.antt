@@ -54,8 +54,8 @@ AreGone paths N first kept (f ∷ fs) = (f.seq < first) × (f.reserved ≡ false
     × ((id : ℕ) × (N (path_of paths f) ≡ Some id)) × NoneHas paths (path_of paths f) kept
     × NoneHas paths (path_of paths f) fs × AreGone paths N first kept fs
 
--- If a pipe ran over a queue, and the files at these paths were free to be deleted (`AreGone`), the first `count` of
--- them were deleted, in order. The others are still there, and the pipe still runs over the queue.
+-- Suppose a pipe ran over a queue, and the files at these paths were free to be deleted (`AreGone`). Then the first
+-- `count` of them were deleted, in order. The others are still there, and the pipe still runs over the queue.
 abbrev pub DropsTo : {R : Type 0} → Format R → (List ℕ → Type 0) → FilePaths → List (List ℕ) → ℕ → Disk → Disk
     → Type 0
 DropsTo {R} F own paths gone count old new = (base : Disk) (files : PipeFiles) (q : LogFiles R)

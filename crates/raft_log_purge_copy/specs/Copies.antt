@@ -34,8 +34,8 @@ WritesCopies gate b s t = ((b.items ≡ []) × (t ≡ s)) ⊎ (((b.items ≡ [])
 
 -- The batch wasn't written, and the tables are unchanged. If it is no part of an atomic group, and no batch was
 -- pending:
--- - its record would be too long, or the error has a reason that any part of a purge may have
--- - if its items are copies, the log has the same contents; or the error is `Failed`, and an open finds them
+-- - Its record would be too long, or the error has a reason that any part of a purge may have.
+-- - If its items are copies, the log has the same contents; or the error is `Failed`, and an open finds them.
 pub record FailsToCopy (gate : Option ℕ) (b : Batch) (error : Error) (s t : EngineState) : Type 0 where
   pub same : t ≡ record s { pipes = t.pipes }
   pub tells : has_failed s ≡ false → IsTrue (has_failed t) ↔ (error ≡ errors.Failed)

@@ -40,7 +40,7 @@ items_of_all [] = []
 items_of_all (x ∷ xs) = x.items.items ++ items_of_all xs
 
 -- The batch is being filled as a part of atomic group `number`. Its items are entries of group `g` with these bytes
--- from index `f` on, keys with their values, and the mark of the atomic group with this status.
+-- from index `f` on, and these keys with their values. The last item is the atomic group's mark, with this status.
 pub record IsMarkedPiece (g f number : ℕ) (status : AtomicGroupStatus) (bytes : List (List ℕ))
     (pairs : List (List ℕ × List ℕ)) (b : Batch) : Type 0 where
   pub state : b.state ≡ Filling

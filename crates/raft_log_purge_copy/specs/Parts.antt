@@ -40,8 +40,8 @@ pub record IsRecordMade (b made : Batch) : Type 0 where
 abbrev pub append_file : LogPipes → ℕ
 append_file v = (pipe_at InAppend (files_of v)).active.seq
 
--- If the pipes `v` run over a log, then the pipes `w` run over one in the same directories, and Append's active file
--- has the same number.
+-- If the pipes `v` run over a log, the pipes `w` run over one in the same directories. Append's active file then has
+-- the same number in both.
 abbrev pub StaysInFile : LogPipes → LogPipes → Type 0
 StaysInFile v w = (home : LogDirectories) (s : State) → RunsOn (sense home) v s
     → ((next : State) × RunsOn (sense home) w next) × (append_file w ≡ append_file v)

@@ -85,8 +85,8 @@ HasFileReason errors.NumberRange s t = EndsItsNumbers t.pipes
 HasFileReason errors.Memory s t = Unit {0}
 HasFileReason _ s t = ⊥
 
--- If a purge went from `s` to `t`, and then a part of it failed at `u`, the part's reason is also a reason for the
--- whole purge: failures on a disk are counted, and no step takes one back.
+-- A purge went from `s` to `t`, and then a part of it failed, which left `u`. The reason of this part is also a reason
+-- of the whole purge: failures on a disk are counted, and no step takes one back.
 abbrev pub LaterReasonsAreReasons : Type 0
 LaterReasonsAreReasons = (home : LogDirectories) (m : LogMap) (error : Error) (s t u : EngineState)
     → IsLater s.pipes.disk t.pipes.disk → HasReason home m error t u → HasReason home m error s u

@@ -21,8 +21,8 @@ Goes l at log known (m ∷ ms) =
     → (next : ModelLog) × Answers l.says log m.event m.answer next
     × ((still : Stands l m.now next) × Goes l m.now next still ms)
 
--- If the files with which a run begins represent a model log, the model explains all moments of the run from that log
--- on, as `Goes` says.
+-- Let the files with which a run begins represent a model log. From that log on, the model explains all moments of the
+-- run, as `Goes` says.
 abbrev pub AllGoOn : {S F B C : Type 0} → LogOf S F B C → Type 0
 AllGoOn {S} {F} {B} {C} l =
     (files : F) (events : List (Event B C)) (report : LogReport S F) (run : IsLogRun l files events report)

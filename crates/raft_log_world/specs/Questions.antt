@@ -34,8 +34,8 @@ Syncs (Serve (PurgeCall kind)) = Unit {0}
 Syncs Close = Unit {0}
 Syncs event = ⊥
 
--- Let a write with a sync, a sync, a purge or a close succeed. Whatever happens later, the contents are those from
--- before it, then the batch that it wrote, if any, and then some of the batches that later events asked to write.
+-- Let a write with a sync, a sync, a purge or a close succeed. Whatever happens later, the contents are those before
+-- this event, with its batch if it wrote one. After them come some of the batches that later events asked to write.
 abbrev pub SyncedBatchesAreKept : Type 0 → Type 0 → Type 0
 SyncedBatchesAreKept B C =
     (says : B → BatchRecord) (log next last : ModelLog) (event : Event B C)

@@ -174,7 +174,8 @@ settings_in = settings_over default_settings
 abbrev pub wrong_value : List ℕ → List ℕ
 wrong_value key = codes "wrong value of " ++ key
 
--- what the error text says after the key: for the garbage ratio the value, as it is shown, and what is allowed
+-- what the error text says after the key: for the garbage ratio, the value as `shown` and what is allowed; for any
+-- other key, nothing
 abbrev pub note_of : List ℕ → List ℕ → List ℕ
 note_of key shown =
     if bytes_eq key (codes "purge-rewrite-garbage-ratio")

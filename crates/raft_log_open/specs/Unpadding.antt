@@ -70,7 +70,7 @@ pub record FailsToClearAll (directories : List (List ℕ)) (error : Error) (old 
 abbrev pub IsApart : PlacedFile → Type 0
 IsApart file = string_bytes file.path ≡ string_bytes file.temporary → ⊥
 
--- the file with this handle, as it is read
+-- the file as a `ListedFile`, which is read by this handle
 abbrev pub listed_as : PlacedFile → Handle → ListedFile
 listed_as file handle = record { id = file.id; handle = handle; is_last = file.is_last }
 

@@ -19,8 +19,7 @@ use Rattle.raft_log_file_pipe.specs.declared.pipe_files.PipeFiles.{PipeFiles}
 -- - `standing`: if a pipe runs over the queue, the queue's last file holds its records.
 -- - `kept`: if it does, reading gives all records of earlier files, and of the last file the durable records and a
 --   prefix of the pending ones.
--- - `restarts`: what the stop leaves is the queue again, with these records, all durable. This requires that headers
---   and records of the format can be recognized (`CanTellFormat`).
+-- - `restarts`: given `CanTellFormat`, what the stop leaves is the queue again, with these records, all durable.
 pub record PipesAreKept {R : Type 0} (F : Format R) (own : List ℕ → Type 0) (paths : FilePaths) : Type 0 where
   pub standing : (base : Disk) (files : PipeFiles) (q : LogFiles R) (d : Disk)
       → IsPipe F own paths base files q d → StandsWithRecords F own base q d

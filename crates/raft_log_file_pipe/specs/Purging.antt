@@ -141,8 +141,7 @@ PartFails fs _ = ⊥
 -- - `Memory`: memory ran out. Nothing was done.
 -- - `Other`: the number isn't in the live range. Nothing was done.
 -- - `NumberRange`: no name has the number of one of the files. Nothing was done.
--- - `Failed`: a file call failed. The files below the number have left the pipe's live range, but maybe not all that
---   were to be deleted are deleted.
+-- - `Failed`: a file call failed. The files below the number have left the live range; not all may be deleted.
 abbrev pub PurgeLeaves : {R : Type 0} → Format R → (List ℕ → Type 0) → FilePaths → ℕ → ℕ → PipeFiles →
     PipeFiles
     → Error → Disk → Disk → Type 0

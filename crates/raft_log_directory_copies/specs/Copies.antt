@@ -19,7 +19,7 @@ name_of file = string_bytes file.name
 abbrev pub names_of : List StoredFile → List (List ℕ)
 names_of files = map name_of files
 
--- the directory has no file
+-- no file is at a path in the directory
 abbrev pub IsUnnamed : List ℕ → Disk → Type 0
 IsUnnamed directory d = (name : List ℕ) → IsPlain name → d.names (path_in directory name) ≡ None
 

@@ -9,7 +9,7 @@ abbrev pub read_of : Option File → Option (List ℕ)
 read_of None = None
 read_of (Some file) = Some file.content
 
--- what a read of the file with this number returns, if there is one
+-- what a read of the file with this node number returns, if there is one
 abbrev pub content_of : Disk → Option ℕ → Option (List ℕ)
 content_of d None = None
 content_of d (Some id) = read_of (d.files id)

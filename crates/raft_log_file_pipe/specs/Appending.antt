@@ -65,8 +65,8 @@ pub data TurnsElsewhere {R : Type 0} (F : Format R) (own : List ℕ → Type 0) 
   nowhere : RotationLeaves F own paths (header_bytes begin.format) before after error old new
       → TurnsElsewhere F own paths begin before after error old new
 
--- The pipe rotated, and the next file's directory was chosen by the free space that `old` reports. It takes the state
--- of the file system, as its disk doesn't determine the free space.
+-- The pipe rotated, and the next file's directory was chosen by the free space that `old` reports. `old` and `new` are
+-- states of the file system: `disk` gives the disk of a state, and `tells` its free space, which isn't on the disk.
 pub record GoesInto {R F : Type 0} (disk : F → Disk) (tells : F → List ℕ → ℕ → Type 0)
     (format : Format R) (own : List ℕ → Type 0) (paths : FilePaths) (begin : NewFiles)
     (before after : PipeFiles) (old new : F) : Type 0 where
@@ -92,7 +92,7 @@ pub record GoesElsewhere {R F : Type 0} (disk : F → Disk) (tells : F → List 
   pub goes : GoesInto disk tells format own paths begin cut after short new
 
 -- A record's write failed for lack of space, and what was written of it was truncated away. The pipe may have rotated
--- before the write. It didn't after it, as no directory had any space left.
+-- before the write. It didn't rotate after the write, as no directory has free space (`IsFull`).
 pub record StaysFull {R F : Type 0} (disk : F → Disk) (tells : F → List ℕ → ℕ → Type 0)
     (format : Format R) (own : List ℕ → Type 0) (paths : FilePaths) (begin : NewFiles) (queue : LogQueue)
     (signed : LogFileContext → List ℕ) (before after : PipeFiles) (old new : F) : Type 0 where
@@ -109,9 +109,9 @@ abbrev pub GoesOnBy : ℕ → PipeFiles → PipeFiles → Type 0
 GoesOnBy count before after =
     (before.active.seq ≤ after.active.seq) × (after.active.seq ≤ before.active.seq + count)
 
--- How a failed write ends, by its fault.
--- - `CutBack`: the error is the write's, and nothing more was done. Or space was lacking, and the pipe rotated and the
--- error is `TryAgain`, or the rotation failed.
+-- How an append ends after its write failed, by the fault.
+-- - `CutBack`: the error is `Io` with the write's error kind, and nothing more was done. If space was lacking, the pipe
+--   may have tried to rotate instead (`TurnsElsewhere`).
 -- - `Failed`: the error is `Failed`, and nothing more was done.
 abbrev pub Tells : {R : Type 0} → Format R → (List ℕ → Type 0) → FilePaths → NewFiles → WriteFault → PipeFiles
     → PipeFiles → Error → Disk → Disk → Type 0
@@ -123,7 +123,7 @@ Tells F own paths begin (Failed kind) before after error old new =
 
 -- Why a record wasn't appended, and what is left.
 -- - `not_turned`: the active file has reached the target size, and the rotation failed.
--- - `not_written`: the write failed. What it wrote was truncated away, or that failed too.
+-- - `not_written`: the write failed. What it wrote was truncated away, or the truncation or its sync failed too.
 pub data AppendFails {R : Type 0} (F : Format R) (own : List ℕ → Type 0) (paths : FilePaths)
     (begin : NewFiles) (queue : LogQueue) (signed : LogFileContext → List ℕ)
     (before after : PipeFiles) (error : Error) (old new : Disk) : Type 0 where

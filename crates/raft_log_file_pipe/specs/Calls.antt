@@ -11,9 +11,9 @@ use Rattle.raft_log_active_file.specs.Layout.{FilePaths, path_of, plain_place}
 use Rattle.raft_log_active_file.specs.Rotation.{RotatesBy, RotationMakes}
 use Rattle.raft_log_file_pipe.specs.Files.{Listed}
 
--- The calls of a rotation. The active file is truncated after its records and synced. If no file is kept for recycling,
--- the next file is created; otherwise the oldest kept one is renamed, which was opened for writing first. Then the next
--- file gets its header.
+-- The calls of a rotation, in order. If a file is kept for recycling, the oldest one is opened for writing. The active
+-- file is truncated after its records and synced. The opened file is renamed, or if none is kept, the next file is
+-- created. The next file gets its header.
 abbrev pub TurnsBy : FilePaths → List ℕ → List Listed → LogFileWriter → Listed → LogFileWriter → Disk → Disk
     → Type 0
 TurnsBy paths header [] writer next after old new = RotatesBy writer header
@@ -26,12 +26,12 @@ TurnsBy paths header (f ∷ fs) writer next after old new = IsOpened (path_of pa
 abbrev pub IsUnopened : List ℕ → Disk → Type 0
 IsUnopened path d = (d.stopped ≡ true) ⊎ (d.names path ≡ None)
 
--- the path of the queue's file with the number `n` in the directory of `file`; its name has no sign
+-- the path of the queue's file with the number `n` in the directory of `file`, with a name without a plus sign
 abbrev pub next_path : FilePaths → Listed → ℕ → List ℕ
 next_path paths file = paths.numbered (plain_place (length paths.directories) file.path_id)
 
--- The calls of a failed rotation: those up to one that failed. Or none, as the oldest of the files kept for recycling
--- couldn't be opened.
+-- The calls of a failed rotation: those up to the one that failed. If the oldest file kept for recycling can't be
+-- opened, nothing was changed.
 abbrev pub TurnsNot : FilePaths → List ℕ → List Listed → LogFileWriter → ℕ → Disk → Disk → Type 0
 TurnsNot paths header [] writer number old new = (directory : ℕ) × (error : ErrorKind)
     × RotationMakes writer header (FailsToCreate (paths.numbered directory number))

@@ -24,8 +24,8 @@ greatest_reserved [] = 0
 greatest_reserved (f ∷ fs) = if f.reserved then max f.seq (greatest_reserved fs) else greatest_reserved fs
 
 -- File `f`, which is kept for recycling, got the reserved name with the number after `last`, in the main directory
--- (`named`). Or it didn't, as its renaming failed or there was no memory for a name. `next` is the last number that is
--- used now.
+-- (`named`). Or its renaming failed (`refused`), or there was no memory for a name (`unnamed`). `last` is the greatest
+-- number of a reserved name before, and `next` after.
 pub data Reserves (paths : FilePaths) (f : Listed) (last next : ℕ) (old new : Disk) : Type 0 where
   named : next ≡ suc last → Renames (path_of paths f) (paths.reserved 0 next) old new
       → Reserves paths f last next old new
@@ -46,28 +46,28 @@ abbrev pub FinishesOrNot : LogFileWriter → Disk → Disk → Type 0
 FinishesOrNot writer old new = ((after : LogFileWriter) × Closes writer after old new)
     ⊎ ((after : LogFileWriter) × (error : ErrorKind) × FailsToClose writer after error old new)
 
--- The active file was finished, and the result is success. Or its truncation or its sync failed, and the result is that
--- error.
+-- The active file was finished, and the result is success. Or its truncation or its sync failed, and the result is `Io`
+-- with that error's kind.
 abbrev pub FinishesAs : LogFileWriter → Result (Unit {0}) Error → Disk → Disk → Type 0
 FinishesAs writer (Ok v) old new = (after : LogFileWriter) × Closes writer after old new
 FinishesAs writer (Err (errors.Io kind)) old new =
     (after : LogFileWriter) × FailsToClose writer after kind old new
 FinishesAs writer (Err _) old new = ⊥
 
--- the queue's files are on the disk, and its last file holds its records, of which all may be durable
+-- the queue's files are on the disk, and its last file holds its records: as in `q`, or all durable
 abbrev pub IsHeldOrSettled : {R : Type 0} → Format R → (List ℕ → Type 0) → Disk → LogFiles R → Disk → Type 0
 IsHeldOrSettled F own base q d = StandsWithRecords F own base q d ⊎ StandsWithRecords F own base (settled q) d
 
--- If the pipe ran over a queue, the queue's files are on the disk. Its last file holds its records, of which all may be
--- durable. No gap was filled, and the files of the live range are at their paths.
+-- If the pipe ran over a queue, the queue's files are on the disk. Its last file holds its records: as before, or all
+-- durable. No gap in the file numbers was filled, and the files of the live range are at their paths.
 abbrev pub LeavesClosed : {R : Type 0} → Format R → (List ℕ → Type 0) → FilePaths → PipeFiles → Disk → Disk
     → Type 0
 LeavesClosed {R} F own paths files old new = (base : Disk) (q : LogFiles R)
     → IsPipe F own paths base files q old → IsHeldOrSettled F own base q new × GapsStay F q old new
     × IsSpan paths new.names files.first_seq files.earlier.items q.last
 
--- If the pipe ran over a queue, its files are on the disk, and all its records are durable. No gap was filled, and the
--- files of the live range are at their paths.
+-- If the pipe ran over a queue, its files are on the disk, and all its records are durable. No gap in the file numbers
+-- was filled, and the files of the live range are at their paths.
 abbrev pub IsSettledBy : {R : Type 0} → Format R → (List ℕ → Type 0) → FilePaths → PipeFiles → Disk → Disk
     → Type 0
 IsSettledBy {R} F own paths files old new = (base : Disk) (q : LogFiles R)
@@ -84,8 +84,9 @@ abbrev pub NumbersStay : {R : Type 0} → Format R → ℕ → Disk → Disk →
 NumbersStay F first old new = (m : ℕ) (path : List ℕ) → first ≤ m → m < F.limit → F.IsPath m path
     → new.names path ≡ old.names path
 
--- A queue whose last number is above those of the files `fs` keeps its records: its last file still holds them, and no
--- gap was filled. The paths of all numbers above those of `fs` name the same files as before.
+-- Let a queue's last number be above those of the files in `fs` that have no reserved name. The queue keeps its
+-- records: its last file still holds them, and no gap in the file numbers was filled. The paths of all numbers above
+-- those in `fs` name the same files as before.
 abbrev pub StaysLeft : {R : Type 0} → Format R → (List ℕ → Type 0) → List Listed → Disk → Disk → Type 0
 StaysLeft {R} F own fs old new = (base : Disk) (q : LogFiles R) → AreBelow q.last fs → StandsWithRecords F own base q old
     → StandsWithRecords F own base q new × GapsStay F q old new

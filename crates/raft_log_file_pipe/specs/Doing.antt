@@ -91,9 +91,9 @@ TurnsElsewhereBy paths format before after error old new =
     (SaysTryAgain error × TurnsPipeBy paths format before after old new)
     ⊎ FailsToTurnBy paths format before after error old new
 
--- How a failed write ends, by its fault.
--- - `CutBack`: the error is the write's, and nothing more was done. Or space was lacking, and the pipe rotated and the
--- error is `TryAgain`, or the rotation failed.
+-- How an append ends after its write failed, by the fault.
+-- - `CutBack`: the error is `Io` with the write's error kind, and nothing more was done. If space was lacking, the pipe
+--   may have tried to rotate instead (`TurnsElsewhereBy`).
 -- - `Failed`: the error is `Failed`, and nothing more was done.
 abbrev pub TellsBy : FilePaths → LogFileFormat → WriteFault → PipeFiles → PipeFiles → Error → Disk → Disk
     → Type 0
@@ -126,8 +126,8 @@ pub data FailsToAppendBy (paths : FilePaths) (begin : NewFiles) (queue : LogQueu
 abbrev pub FailsToSyncBy : Handle → Disk → Disk → Type 0
 FailsToSyncBy handle old new = (error : ErrorKind) × FailsToSync handle error old new
 
--- Why a purge failed. `Memory`, `Other`, `NumberRange`: nothing was done. `Failed`: of the files to delete, the first
--- were deleted, up to one whose deletion failed.
+-- What a purge did on the disk if it failed with this error. `Memory`, `Other`, `NumberRange`: nothing. `Failed`: it
+-- deleted the files to delete, in order, up to one whose deletion failed.
 abbrev pub FailsToPurgeBy : FilePaths → ℕ → ℕ → PipeFiles → Error → Disk → Disk → Type 0
 FailsToPurgeBy paths capacity seq before errors.Memory old new = new ≡ old
 FailsToPurgeBy paths capacity seq before (errors.Other fault) old new = new ≡ old

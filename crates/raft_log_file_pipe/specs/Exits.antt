@@ -44,8 +44,8 @@ pub record IsTurned (format : LogFileFormat) (before after : PipeFiles) : Type 0
   pub format_is : after.active.format ≡ format
   pub recycled : after.recycled.items ≡ drop 1 before.recycled.items
 
--- If the pipe ran over a queue, the queue has rotated into its next file, and the pipe runs over it. No gap was filled,
--- and these calls were made.
+-- If the pipe ran over a queue, the queue has rotated into its next file, and the pipe runs over it. No gap in the file
+-- numbers was filled. The file system calls are those of `TurnsBy`.
 abbrev pub Rotates : {R : Type 0} → Format R → (List ℕ → Type 0) → FilePaths → List ℕ → PipeFiles → PipeFiles
     → Disk → Disk → Type 0
 Rotates {R} F own paths header before after old new = (base : Disk) (q : LogFiles R)
@@ -55,7 +55,7 @@ Rotates {R} F own paths header before after old new = (base : Disk) (q : LogFile
     × TurnsBy paths header before.recycled.items before.writer after.active after.writer old new
 
 -- A rotation failed. If the pipe ran over a queue, a file call failed. The last file holds its records, and there may
--- be a next file without records. The files of the live range are at their paths, also the file that was active.
+-- be a next file without records. The files of the live range are at their paths, also the active file.
 abbrev pub FailsToRotate : {R : Type 0} → Format R → (List ℕ → Type 0) → FilePaths → List ℕ → PipeFiles
     → Disk → Disk → Type 0
 FailsToRotate {R} F own paths header before old new = (base : Disk) (q : LogFiles R)
@@ -74,8 +74,8 @@ StaysClosed path d _ = ⊥
 
 -- Why a rotation failed, and what it leaves.
 -- - `Memory`: memory ran out. Nothing was done.
--- - `NumberRange`: the next number has more than sixteen digits. Nothing was done.
--- - `Failed`: a file call failed.
+-- - `NumberRange`: nothing was done. If the pipe ran over a queue, the next number has more than sixteen digits.
+-- - `Failed`: a file call failed (`FailsToRotate`).
 abbrev pub RotationLeaves : {R : Type 0} → Format R → (List ℕ → Type 0) → FilePaths → List ℕ → PipeFiles
     → PipeFiles → Error → Disk → Disk → Type 0
 RotationLeaves F own paths header before after errors.Memory old new = SameFiles before after × (new ≡ old)
@@ -97,8 +97,8 @@ Adds {R} F own paths bytes at before after old new = (base : Disk) (q : LogFiles
 
 -- What a failed write of the record `w` leaves.
 -- - `CutBack`: what was written of it was truncated away. All records before it are durable, and the pipe still runs.
--- - `Failed`: that failed too. The record may be on disk, and counts as the last pending one. The files of the live
--- range are at their paths.
+-- - `Failed`: the truncation or its sync failed too. The record may be on disk, and counts as the last pending one. The
+--   files of the live range are at their paths.
 abbrev pub AddLeaves : {R : Type 0} → Format R → (List ℕ → Type 0) → FilePaths → WriteFault → Disk → Written R
     → LogFiles R → PipeFiles → Disk → Type 0
 AddLeaves F own paths (CutBack kind) base w q after new = IsPipe F own paths base after (settled q) new

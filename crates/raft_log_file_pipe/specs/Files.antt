@@ -49,10 +49,9 @@ AllKept F paths first d [] = Unit {0}
 AllKept F paths first d (f ∷ fs) = IsKeptForUse F paths first d f
     × NoneHas paths (path_of paths f) fs × AllKept F paths first d fs
 
--- The pipe with these lists runs over the queue `q` on the disk `d`.
--- - The active file is the queue's last one, and the queue is open to the pipe's writer.
--- - `span`: the earlier files are those from the live range's first number on.
--- - `kept`: each file that is kept for recycling can be recycled.
+-- The pipe with these lists runs over the queue `q` on the disk `d`. The active file is the queue's last one, and the
+-- queue is open to the pipe's writer. The earlier files are those from the live range's first number on. Each file kept
+-- for recycling can be recycled. Since `base`, only the queue's own paths (`own`) and their files have changed.
 pub record IsPipe {R : Type 0} (F : Format R) (own : List ℕ → Type 0) (paths : FilePaths) (base : Disk)
     (files : PipeFiles) (q : LogFiles R) (d : Disk) : Type 0 where
   pub active : IsOpen F own base files.writer q (path_of paths files.active) d.names d

@@ -19,7 +19,7 @@ use Rattle.raft_log_file_pipe.specs.declared.pipe_files.PipeFiles.{PipeFiles}
 -- - `standing`: if a pipe runs over the queue, the queue's last file holds its records.
 -- - `kept`: if it does, reading gives all records of earlier files, and of the last file the durable records and a
 --   prefix of the pending ones.
--- - `restarts`: what the stop leaves is the queue again, with these records, all durable.
+-- - `restarts`: given `CanTellFormat`, what the stop leaves is the queue again, with these records, all durable.
 pub record PipesAreKept {R : Type 0} (F : Format R) (own : List ℕ → Type 0) (paths : FilePaths) : Type 0 where
   pub standing : (base : Disk) (files : PipeFiles) (q : LogFiles R) (d : Disk)
       → IsPipe F own paths base files q d → StandsWithRecords F own base q d
@@ -29,8 +29,9 @@ pub record PipesAreKept {R : Type 0} (F : Format R) (own : List ℕ → Type 0) 
       → (path : List ℕ) × (id : ℕ) × (N : Names) × (count : ℕ) × (count ≤ length q.pending)
       × Stands F own image (kept_to count q) path id (IsLeftover F (kept_to count q)) N image
 
--- The files of a queue that were found on a disk. The last one, which has this number, is open for writing and was read
--- up to `end`. The earlier ones, from the first number on, are at their paths, and those in `kept` can be recycled.
+-- These files of a queue were found on disk `d`. The last one has `number`, is open for writing, and was read up to
+-- `end`. The numbers of the earlier ones follow one another up to it. These are at their paths, and the files in `kept`
+-- can be recycled.
 pub record AreFoundOnDisk {R : Type 0} (F : Format R) (paths : FilePaths) (earlier : List Listed) (last : Listed)
     (end : Option ℕ) (kept : List Listed) (number : ℕ) (d : Disk) : Type 0 where
   pub number_is : last.seq ≡ number
@@ -41,9 +42,9 @@ pub record AreFoundOnDisk {R : Type 0} (F : Format R) (paths : FilePaths) (earli
   pub span : IsSpan paths d.names (first_number earlier last) earlier number
   pub spares : AllKept F paths (first_number earlier last) d kept
 
--- A queue's last file holds its records, and a stop without a CRC collision comes. Then a pipe may be opened over what
--- is found of the queue's files. The queue then has the durable records and the first `count` pending ones. So a stop,
--- an open and more calls compose.
+-- Let the last file of a queue `q` hold its records on a sound disk, and let a stop without a CRC collision leave
+-- `image`. Then a pipe may be opened over the files that are found of the queue. The queue then has its durable records
+-- and the first `count` pending ones.
 abbrev pub PipesAreFound : {R : Type 0} → Format R → (List ℕ → Type 0) → FilePaths → Type 0
 PipesAreFound {R} F own paths = CanTellFormat F → (base : Disk) (q : LogFiles R) (d image : Disk) → IsSound d
     → StandsWithRecords F own base q d → IsImage d image → NoChanceInLast F q d image

@@ -36,8 +36,8 @@ abbrev pub HasOwnHeader : {R : Type 0} → Format R → Option ℕ → Listed �
 HasOwnHeader F (Some end) last d = HandleBeginsWith F last.handle (header_bytes last.format) d
 HasOwnHeader F None last d = Unit {0}
 
--- The files of a queue that a stop left, and that were found. The last one was read up to `end`, the earlier ones are
--- at their paths, and those in `kept` can be recycled.
+-- These files were found, and a stop left the queue `q` in them. The last one was read up to `end`. The earlier ones
+-- are at their paths, and those in `kept` can be recycled.
 pub record IsFound {R : Type 0} (F : Format R) (own : List ℕ → Type 0) (paths : FilePaths) (base : Disk)
     (earlier : List Listed) (last : Listed) (end : Option ℕ) (kept : List Listed) (q : LogFiles R) (d : Disk)
     : Type 0 where
@@ -57,7 +57,8 @@ pub record IsListedAs (earlier : List Listed) (last : Listed) (kept : List Liste
   pub spares : files.recycled.items ≡ kept
 
 -- If these files of a queue were found, the pipe runs over the queue with all records that were read of it, all
--- durable. Zeros may be allocated after the records. No gap was filled, and these calls were made.
+-- durable. Zeros may be allocated after the records. No gap in the file numbers was filled. The file system calls are
+-- those of `ReopensBy`.
 abbrev pub TakesUpFound : {R : Type 0} → Format R → (List ℕ → Type 0) → FilePaths → List Listed → Listed
     → Option ℕ → List Listed → PipeFiles → Disk → Disk → Type 0
 TakesUpFound {R} F own paths earlier last end kept files old new = (base : Disk) (q : LogFiles R)
@@ -68,7 +69,7 @@ TakesUpFound {R} F own paths earlier last end kept files old new = (base : Disk)
     × ReopensBy last.handle end (header_bytes (taken_up end last).format) files.writer old new
 
 -- The pipe wasn't opened. If these files of a queue were found, a file call failed. The queue still has all records
--- that were read of it, and the files that were found are still at their paths. No gap was filled.
+-- that were read of it, and the files that were found are still at their paths. No gap in the file numbers was filled.
 abbrev pub FailsToTakeUpFound : {R : Type 0} → Format R → (List ℕ → Type 0) → FilePaths → List Listed → Listed
     → Option ℕ → List Listed → Disk → Disk → Type 0
 FailsToTakeUpFound {R} F own paths earlier last end kept old new = (base : Disk) (q : LogFiles R)
@@ -76,14 +77,14 @@ FailsToTakeUpFound {R} F own paths earlier last end kept old new = (base : Disk)
     → Fails old new × GapsStay F q old new × IsSpan paths new.names (first_number earlier last) earlier q.last
     × IsHalfOpen F own base last.handle end (header_bytes (taken_up end last).format) q old new
 
--- the queue may begin on the disk `d`, and each file in `kept` can be recycled and has a reserved name, or number 0
+-- The queue can begin on the disk `d`. Each file in `kept` can be recycled: it has a reserved name, or the number 0.
 pub record CanBeginWith {R : Type 0} (F : Format R) (own : List ℕ → Type 0) (paths : FilePaths) (base : Disk)
     (kept : List Listed) (d : Disk) : Type 0 where
   pub fresh : IsFresh F own base d
   pub spares : AllKept F paths 1 d kept
 
 -- If the queue could begin, it has begun in its file 1, without a record, and the pipe runs over it. There is no file
--- 0, and these calls were made.
+-- 0. The file system calls are those of `BeginsQueueBy`.
 abbrev pub BeginsPipe : {R : Type 0} → Format R → (List ℕ → Type 0) → FilePaths → LogFileFormat → List Listed
     → PipeFiles → Disk → Disk → Type 0
 BeginsPipe {R} F own paths format kept files old new = (base : Disk) (older : ℕ → Past R)
@@ -93,7 +94,7 @@ BeginsPipe {R} F own paths format kept files old new = (base : Disk) (older : �
     × BeginsQueueBy (path_of paths files.active) (header_bytes format) files.active.handle files.writer
     old new
 
--- The queue hasn't begun. If it could, a file call failed. It may still begin, or its file 1 exists without a record.
+-- The queue hasn't begun. If it could, a file call failed. It can still begin, or its file 1 exists without a record.
 -- There is no file 0.
 abbrev pub FailsToBeginPipe : {R : Type 0} → Format R → (List ℕ → Type 0) → FilePaths → LogFileFormat
     → List Listed → Disk → Disk → Type 0
@@ -123,8 +124,8 @@ pub data OpensPipe {R : Type 0} (F : Format R) (own : List ℕ → Type 0) (path
       → IsListedAs earlier (taken_up found.end last) found.recycled.items files
       → OpensPipe F own paths begin found files old new
 
--- Why a queue didn't begin: memory ran out, and nothing was done; or a file call failed, and the error is that of the
--- call.
+-- Why a queue didn't begin, and what that leaves. Memory ran out, and nothing was done; or a file call failed, and the
+-- error is `Io` with the kind that the call returned.
 abbrev pub BeginLeaves : {R : Type 0} → Format R → (List ℕ → Type 0) → FilePaths → LogFileFormat → List Listed
     → Error → Disk → Disk → Type 0
 BeginLeaves F own paths format kept errors.Memory old new = new ≡ old
@@ -133,8 +134,9 @@ BeginLeaves F own paths format kept (errors.Io kind) old new =
     × FailsToBeginPipe F own paths format kept old new
 BeginLeaves F own paths format kept _ old new = ⊥
 
--- Why the last file wasn't reopened: memory ran out, or the file has an alignment, and nothing was done. Or a file call
--- failed, and the error is that of the call.
+-- Why the last file wasn't reopened, and what that leaves:
+-- - `Memory`, or `InvalidArgument` if the file's format has an alignment: nothing was done
+-- - `Io`: a file call failed, and returned this error kind
 abbrev pub TakeUpLeaves : {R : Type 0} → Format R → (List ℕ → Type 0) → FilePaths → List Listed → Listed
     → Option ℕ → List Listed → Error → Disk → Disk → Type 0
 TakeUpLeaves F own paths earlier last end kept errors.Memory old new = new ≡ old

@@ -1,4 +1,5 @@
--- In which directory a new file is created.
+-- In which directory a new file is created. `tells` relates a directory to the free space that the file system may
+-- report for it.
 use Rattle.std.specs.Prelude.{◌≡◌, ◌⊎◌, ℕ, ◌<◌, ◌≤◌, Bool, true, false, List, [], ◌∷◌, ◌++◌, length}
 use Rattle.raft_log_fs.specs.Disk.{Disk}
 use Rattle.raft_log_fs.specs.Arguments.{WrongListing}
@@ -6,12 +7,12 @@ use Rattle.std.specs.declared.io.ErrorKind.{ErrorKind}
 use Rattle.raft_log_active_file.specs.Layout.{FilePaths, plain_place}
 use Rattle.raft_log_file_pipe.specs.Files.{Listed}
 
--- the free space that is reported for the directory is at least `size` bytes
+-- a free space of at least `size` bytes is reported for the directory
 abbrev pub HasSpace : (List ℕ → ℕ → Type 0) → ℕ → List ℕ → Type 0
 HasSpace tells size directory = (space : ℕ) × tells directory space × (size ≤ space)
 
--- The free space that is reported for the directory is less than `size` bytes. Or none is reported, as the file system
--- has stopped or the directory doesn't exist.
+-- The free space that is reported for the directory is less than `size` bytes. Or the call for it fails: the file
+-- system has stopped, or the path isn't that of a directory.
 abbrev pub LacksRoom : (List ℕ → ℕ → Type 0) → Disk → ℕ → List ℕ → Type 0
 LacksRoom tells d size directory = ((space : ℕ) × tells directory space × (space < size))
     ⊎ ((d.stopped ≡ true) ⊎ ((error : ErrorKind) × WrongListing directory d error))
@@ -26,7 +27,7 @@ abbrev pub AllLackRoom : (List ℕ → ℕ → Type 0) → Disk → ℕ → List
 AllLackRoom tells d size [] = Unit {0}
 AllLackRoom tells d size (x ∷ xs) = LacksRoom tells d size x × AllLackRoom tells d size xs
 
--- no directory has any space left
+-- each directory has no free space left, or the call for its free space fails
 abbrev pub IsFull : (List ℕ → ℕ → Type 0) → Disk → FilePaths → Type 0
 IsFull tells d paths = AllLackRoom tells d 1 paths.directories
 
@@ -42,7 +43,7 @@ pub data IsChosen (tells : List ℕ → ℕ → Type 0) (d : Disk) (size : ℕ) 
   none : AllLackRoom tells d size directories → place ≡ 0 → IsChosen tells d size directories place
 
 -- `place` is the position of the next file's directory. A recycled file stays in its directory, and its new name has no
--- sign; a new file goes where there is room.
+-- plus sign before the number. If no file is kept for recycling, a new one is created in the directory of `IsChosen`.
 abbrev pub IsPlaced : (List ℕ → ℕ → Type 0) → Disk → ℕ → List (List ℕ) → List Listed → ℕ → Type 0
 IsPlaced tells d size directories [] place = IsChosen tells d size directories place
 IsPlaced tells d size directories (f ∷ fs) place = place ≡ plain_place (length directories) f.path_id

@@ -19,20 +19,21 @@ use Rattle.raft_log_file_pipe.specs.Exits.{SameFiles}
 use Rattle.raft_log_file_pipe.specs.declared.pipe_files.PipeFiles.{PipeFiles}
 use Rattle.raft_log_record_base.specs.Files.{is_signed}
 
--- of these files, which leave the live range, those that are kept for recycling: the first ones with signed records, up
--- to `room` files
+-- If these files leave the live range: those that are kept for recycling. They are the first ones with signed records,
+-- up to `room` files.
 abbrev pub staying : ℕ → List Listed → List Listed
 staying room [] = []
 staying room (f ∷ fs) = if is_signed f.format.version && nat_lt 0 room then f ∷ staying (room - 1) fs
     else staying room fs
 
--- of these files, which leave the live range, those that are deleted: all that aren't kept for recycling
+-- If these files leave the live range: those that are deleted, which are all that aren't kept for recycling.
 abbrev pub going : ℕ → List Listed → List Listed
 going room [] = []
 going room (f ∷ fs) = if is_signed f.format.version && nat_lt 0 room then going (room - 1) fs
     else f ∷ going room fs
 
--- how many more files may be kept for recycling if the live range begins at `seq`
+-- how many more files may be kept for recycling if the live range begins at `seq`; the live range and the files kept
+-- for recycling together may have `capacity` files
 abbrev pub room_from : ℕ → ℕ → PipeFiles → ℕ
 room_from capacity seq files = capacity - suc (files.active.seq - seq) - length files.recycled.items
 
@@ -53,8 +54,8 @@ AreGone paths N first kept (f ∷ fs) = (f.seq < first) × (f.reserved ≡ false
     × ((id : ℕ) × (N (path_of paths f) ≡ Some id)) × NoneHas paths (path_of paths f) kept
     × NoneHas paths (path_of paths f) fs × AreGone paths N first kept fs
 
--- If a pipe runs over a queue, and the files at these paths may be deleted, the first `count` of them were deleted, in
--- order. The others are still there, and the pipe still runs.
+-- Suppose a pipe ran over a queue, and the files at these paths were free to be deleted (`AreGone`). Then the first
+-- `count` of them were deleted, in order. The others are still there, and the pipe still runs over the queue.
 abbrev pub DropsTo : {R : Type 0} → Format R → (List ℕ → Type 0) → FilePaths → List (List ℕ) → ℕ → Disk → Disk
     → Type 0
 DropsTo {R} F own paths gone count old new = (base : Disk) (files : PipeFiles) (q : LogFiles R)
@@ -68,9 +69,9 @@ DropsTo {R} F own paths gone count old new = (base : Disk) (files : PipeFiles) (
 abbrev pub LosesFirst : List (List ℕ) → Disk → Disk → Type 0
 LosesFirst gone old new = (count : ℕ) × (new.names ≡ without (take count gone) old.names)
 
--- Deleting the file at one of these paths failed. Suppose a pipe runs over a queue, and the files may be deleted. Then
--- a prefix of these paths lost their files. The last file holds its records, and the files of the live range are at
--- their paths.
+-- Deleting the file at one of these paths failed. Suppose a pipe ran over a queue, and the files at these paths were
+-- free to be deleted (`AreGone`). Then a prefix of these paths name no file any more. The last file holds its records,
+-- and the files of the live range are at their paths.
 abbrev pub FailsToDropAll : {R : Type 0} → Format R → (List ℕ → Type 0) → FilePaths → List (List ℕ) → Disk
     → Disk → Type 0
 FailsToDropAll {R} F own paths gone old new = (base : Disk) (files : PipeFiles) (q : LogFiles R)
@@ -114,7 +115,7 @@ FailsToPurge {R} F own paths capacity seq before after old new = (base : Disk) (
     × LosesFirst (paths_going paths capacity seq before) old new
     × DropsUntil (paths_going paths capacity seq before) old new
 
--- the error is `Other`, with any text, or out of memory
+-- the error is `Other` or `Memory`
 abbrev pub IsOtherOrMemory : Error → Type 0
 IsOtherOrMemory (errors.Other fault) = Unit {0}
 IsOtherOrMemory errors.Memory = Unit {0}
@@ -140,7 +141,7 @@ PartFails fs _ = ⊥
 -- - `Memory`: memory ran out. Nothing was done.
 -- - `Other`: the number isn't in the live range. Nothing was done.
 -- - `NumberRange`: no name has the number of one of the files. Nothing was done.
--- - `Failed`: a file call failed. The files below the number have left the live range all the same.
+-- - `Failed`: a file call failed. The files below the number have left the live range; not all may be deleted.
 abbrev pub PurgeLeaves : {R : Type 0} → Format R → (List ℕ → Type 0) → FilePaths → ℕ → ℕ → PipeFiles →
     PipeFiles
     → Error → Disk → Disk → Type 0

@@ -23,19 +23,20 @@ abbrev pub IsUnlisted : ℕ → PipeFiles → Type 0
 IsUnlisted seq files = (seq ≡ files.active.seq → ⊥)
     × (files.first_seq ≤ seq → seq - files.first_seq < length files.earlier.items → ⊥)
 
--- why no file with the number `seq` is returned: there is none, and the error is a corruption; or memory ran out
+-- why no file with the number `seq` is returned: the live range has none, and the error is `Corruption`; or memory ran
+-- out
 abbrev pub IsNotTold : ℕ → PipeFiles → Error → Type 0
 IsNotTold seq files errors.Memory = Unit {0}
 IsNotTold seq files (errors.Corruption text) = IsUnlisted seq files
 IsNotTold seq files _ = ⊥
 
--- `bytes` are those at the location `block`, which may be fewer if the file ends first
+-- `bytes` are the bytes at the location `block`, fewer than its length if the file ends first
 abbrev pub IsReadAt : PipeFiles → FileBlockHandle → List ℕ → Disk → Type 0
 IsReadAt files block bytes d = (id : ℕ) × IsListed block.id.seq files id
     × HasFile id (AreBytesAt block.offset block.len bytes) d
 
--- why the bytes at a location weren't read: no file has its number, or the file system failed the read, or memory ran
--- out
+-- why the bytes at the location `block` weren't read: no file of the live range has its number, the file system failed
+-- the read, or memory ran out
 abbrev pub IsReadRefused : PipeFiles → FileBlockHandle → Disk → Error → Type 0
 IsReadRefused files block d error = IsNotTold block.id.seq files error
     ⊎ ((handle : Handle) × IsListed block.id.seq files handle.file

@@ -24,8 +24,8 @@ StandsAt queue signed files block d = (block.id ≡ record { queue = queue; seq 
     × HasFile files.active.handle.file
     (AreBytesAt block.offset block.len (signed (context_of queue files))) d
 
--- On any disk, a pipe writes to the file that it lists as the active one, after each of these calls. After an append,
--- the record can be read at the location that the append returned.
+-- On any disk, a pipe's writer has the active file open after an open and after a rotation. If it had before an append,
+-- it has after it, and the file has the record at the location that the append returned.
 pub record PipesWriteTheirLast (paths : FilePaths) : Type 0 where
   pub opened : (format : LogFileFormat) (found : FoundFiles) (files : PipeFiles) (old new : Disk)
       → OpensPipeBy paths format found files old new → WritesItsLast files

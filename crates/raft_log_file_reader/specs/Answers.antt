@@ -40,8 +40,8 @@ pub data GivesFrom (d : Disk) (file : OpenFile) (offset : ℕ) (answers : List A
       → HasBatches file (bytes_of file.source d) offset batches end → FailsBehind file d end error
       → answers ≡ given_all batches ++ Err error ∷ [] → GivesFrom d file offset answers
 
--- Why the file at `path` wasn't opened for reading: the file system has stopped; or it runs, and no file has the path,
--- or memory ran out.
+-- Why the file at `path` wasn't opened for reading: the file system has stopped. Or it runs, and no file has the path
+-- (`Io`) or memory ran out.
 abbrev pub IsReadOpenRefusal : List ℕ → Disk → Error → Type 0
 IsReadOpenRefusal path d (errors.Io kind) = IsAfterStop d kind ⊎ ((d.stopped ≡ false) × WrongName path d kind)
 IsReadOpenRefusal path d errors.Memory = d.stopped ≡ false

@@ -28,7 +28,8 @@ pub record GivesRest (d : Disk) (reader : BatchReader) (answers : List Answer) :
   pub of_later : GivesFiles d (files_of reader) later
   pub both : answers ≡ current ++ later
 
--- `first` was returned: if `new` will still return `rest`, then `old` would have returned `first` and then `rest`
+-- The step from `old` to `new` returned `first`: if `new` will still return `rest`, then `old` was still to return
+-- `first` and then `rest`.
 abbrev pub AnswersGoOn : {S : Type 0} → (S → List Answer → Type 0) → S → List Answer → S → Type 0
 AnswersGoOn gives old first new = (rest : List Answer) → gives new rest → gives old (first ++ rest)
 
@@ -37,7 +38,7 @@ abbrev pub most_behind : Option OpenFile → ℕ → ℕ
 most_behind None end = 0
 most_behind (Some file) end = suc (file.source.size - end)
 
--- how many bytes the file with this number has; 0 if there is none
+-- how many bytes the file with this node number has; 0 if there is none
 abbrev pub named_len : Disk → Option ℕ → ℕ
 named_len d None = 0
 named_len d (Some id) = length (bytes_in (d.files id))

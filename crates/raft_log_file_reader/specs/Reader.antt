@@ -40,7 +40,7 @@ pub record IsReadingFile (d : Disk) (reader : LogItemBatchFileReader) (file : Op
 abbrev pub IsReading : Disk → LogItemBatchFileReader → Type 0
 IsReading d reader = ForSome reader.file (IsReadingFile d reader)
 
--- the same, and all reads of the open file were honest
+-- `IsReading` holds for the reader, and all reads of the open file were honest
 pub record ReadsHonestly (d : Disk) (reader : LogItemBatchFileReader) : Type 0 where
   pub reading : IsReading d reader
   pub honest : IsTrue (honest_of reader)
@@ -70,8 +70,8 @@ pub record IsUnmoved (old new : LogItemBatchFileReader) : Type 0 where
   pub end : end_of new ≡ end_of old
   pub block : last_block new ≡ last_block old
 
--- What reading the next batch returns: the batch, and the reader's offset is at its end. Or `None` if no batch follows,
--- and the reader is unchanged.
+-- Reading the next batch of `file` took the reader from `old` to `new`, and returned `found`. A batch begins after the
+-- offset of `old`, and ends at that of `new`. `None`: no batch follows, and the reader is unmoved.
 abbrev pub AnswersBatch : Disk → OpenFile → LogItemBatchFileReader → LogItemBatchFileReader → Option ItemBatch
     → Type 0
 AnswersBatch d file old new found = MatchOption found

@@ -7,14 +7,15 @@ use Rattle.raft_log_record_base.specs.declared.errors.Error.{Error}
 use Rattle.raft_log_record_base.specs.declared.errors.Error.TheVariants as errors
 use Rattle.raft_log_file_reader.specs.Files.{told}
 
--- an `InvalidArgument` whose text has these words and the path, or out of memory
+-- the error is `InvalidArgument`, whose text has these words and the path; or it is `Memory`
 abbrev pub TellsInvalid : List ℕ → List ℕ → Error → Type 0
 TellsInvalid words path (errors.InvalidArgument text) = string_bytes text ≡ told words path
 TellsInvalid words path errors.Memory = Unit {0}
 TellsInvalid words path _ = ⊥
 
--- The error of a call on a path if the file system failed it with `kind`. After a stop it is `Io` with this kind.
--- Otherwise it is `InvalidArgument`, whose text has these words and the path, or `Memory`.
+-- The error of a call on a path if the file system failed it with `kind`:
+-- - after a stop, `Io` with this kind
+-- - before one, `Memory`; or `InvalidArgument`, whose text has these words and the path, if `kind` isn't `OutOfMemory`
 abbrev pub TellsAbsent : Bool → ErrorKind → List ℕ → List ℕ → Error → Type 0
 TellsAbsent stopped kind words path (errors.InvalidArgument text) =
     (stopped ≡ false) × (kind ≡ OutOfMemory → ⊥) × (string_bytes text ≡ told words path)

@@ -44,7 +44,7 @@ pub record SizesFit (s : Settings) : Type 0 where
   pub memory : SizeFits s.memory_limit
   pub prefill : SizeFits s.prefill_limit
 
--- the value of a row in the code as a TOML value
+-- the TOML value for an `Entry`, which is the value of a row in the code
 abbrev pub data_of : Entry → Data
 data_of (entries.Text text) = string text.now
 data_of (entries.Size size) = size_data size.0
@@ -134,7 +134,7 @@ IsUnprintable rows (errors.InvalidArgument text) =
 IsUnprintable rows errors.Memory = Unit {0}
 IsUnprintable rows _ = ⊥
 
--- the error for a number at `key` that TOML can't express, or out of memory
+-- the error says that TOML can't express the number at `key`, or it is `Memory`
 abbrev pub SaysTooLarge : List ℕ → Error → Type 0
 SaysTooLarge key (errors.InvalidArgument text) = string_bytes text ≡ too_large key
 SaysTooLarge key errors.Memory = Unit {0}

@@ -109,7 +109,7 @@ recycling_in usual t = do
   Ok (enable_log_recycle, prefill_for_recycle, prefill_limit)
 
 -- What a table sets for purges: the thresholds for the sizes of Append and of Rewrite, and the threshold for the share
--- of garbage.
+-- of garbage. A key that it leaves out has its value in `usual`.
 unfoldable pub purging_in : Settings → Members → Result (ℕ × Option ℕ × ℕ) (List ℕ)
 purging_in usual t = do
   threshold ← at (codes "purge-threshold") size_of usual.purge_threshold t
@@ -117,7 +117,8 @@ purging_in usual t = do
   garbage_ratio ← at (codes "purge-rewrite-garbage-ratio") ratio_of usual.purge_rewrite_garbage_ratio t
   Ok (threshold, rewrite, garbage_ratio)
 
--- What a table sets for recovery: how it handles damage, how many bytes it reads at once, and its number of threads.
+-- What a table sets for recovery: how it handles damage, how many bytes it reads at once, and its number of threads. A
+-- key that it leaves out has its value in `usual`.
 unfoldable pub recovery_in : Settings → Members → Result (RecoveryMode × ℕ × ℕ) (List ℕ)
 recovery_in usual t = do
   recovery_mode ← at (codes "recovery-mode") mode_of usual.recovery_mode t
@@ -126,7 +127,7 @@ recovery_in usual t = do
   Ok (recovery_mode, block, recovery_threads)
 
 -- What a table sets for new files: `bytes-per-sync`, which has no effect, their format, and the size at which they are
--- full.
+-- full. A key that it leaves out has its value in `usual`.
 unfoldable pub files_in : Settings → Members → Result (Option ℕ × Version × ℕ) (List ℕ)
 files_in usual t = do
   bytes_per_sync ← at (codes "bytes-per-sync") (maybe size_of) usual.bytes_per_sync t
@@ -169,11 +170,12 @@ settings_in = settings_over default_settings
 
 -- What reading returns.
 
--- the front of the error text for a wrong value of `key`
+-- the words with which the error text for a wrong value of `key` begins
 abbrev pub wrong_value : List ℕ → List ℕ
 wrong_value key = codes "wrong value of " ++ key
 
--- what the error text says after the key: for the garbage ratio the value, as it is shown, and what is allowed
+-- what the error text says after the key: for the garbage ratio, the value as `shown` and what is allowed; for any
+-- other key, nothing
 abbrev pub note_of : List ℕ → List ℕ → List ℕ
 note_of key shown =
     if bytes_eq key (codes "purge-rewrite-garbage-ratio")
@@ -184,7 +186,7 @@ note_of key shown =
 abbrev pub IsNote : List ℕ → List ℕ → Type 0
 IsNote key note = (shown : List ℕ) × (note ≡ note_of key shown)
 
--- the error text for a wrong value of `key`
+-- `text` is an error text for a wrong value of `key`
 abbrev pub SaysWrongValue : List ℕ → List ℕ → Type 0
 SaysWrongValue key text = (shown : List ℕ) × (text ≡ wrong_value key ++ note_of key shown)
 
@@ -192,49 +194,49 @@ SaysWrongValue key text = (shown : List ℕ) × (text ≡ wrong_value key ++ not
 abbrev pub no_toml : List ℕ
 no_toml = codes "settings are no TOML"
 
--- the error for a text that isn't TOML, or out of memory
+-- the error says that a text isn't TOML, or it is `Memory`
 abbrev pub SaysNoToml : Error → Type 0
 SaysNoToml (errors.InvalidArgument text) = string_bytes text ≡ no_toml
 SaysNoToml errors.Memory = Unit {0}
 SaysNoToml _ = ⊥
 
--- the error for a wrong value of `key`, or out of memory
+-- the error says that the value of `key` is wrong, or it is `Memory`
 abbrev pub NamesKey : Error → List ℕ → Type 0
 NamesKey (errors.InvalidArgument text) key = SaysWrongValue key (string_bytes text)
 NamesKey errors.Memory key = Unit {0}
 NamesKey _ key = ⊥
 
--- What the code returns for `key`: the value that `reading` has; or the error for a wrong value, if `reading` is one.
--- Or memory ran out.
+-- The code's result for `key` is the value in `reading`. If `reading` is an error instead, the code's error says that
+-- the value of `key` is wrong. Memory may run out in either case.
 abbrev pub GivesAt : {X : Type 0} → Result X Error → List ℕ → Result X (List ℕ) → Type 0
 GivesAt (Ok x) key reading = reading ≡ Ok x
 GivesAt (Err errors.Memory) key reading = Unit {0}
 GivesAt (Err e) key reading = (reading ≡ Err key) × NamesKey e key
 
--- What the code returns for several keys: the values that `reading` has; or the error for the key that `reading` names.
--- Or memory ran out.
+-- The code's result for several keys is the values in `reading`. If `reading` is a key instead, the code's error says
+-- that this key's value is wrong. Memory may run out in either case.
 abbrev pub GivesKeys : {X : Type 0} → Result X Error → Result X (List ℕ) → Type 0
 GivesKeys (Ok x) reading = reading ≡ Ok x
 GivesKeys (Err errors.Memory) reading = Unit {0}
 GivesKeys (Err e) reading = (key : List ℕ) × (reading ≡ Err key) × NamesKey e key
 
--- What the code returns for `key`, as a borrowed text: the text that `reading` has; or the error for a wrong value, if
--- `reading` is one. Or memory ran out.
+-- The code's result for `key`, a borrowed text, is the text in `reading`. If `reading` is an error instead, the code's
+-- error says that the value of `key` is wrong. Memory may run out in either case.
 abbrev pub GivesText : Result (Bor (List ℕ)) Error → List ℕ → Result (List ℕ) (List ℕ) → Type 0
 GivesText (Ok x) key reading = reading ≡ Ok x.now
 GivesText (Err errors.Memory) key reading = Unit {0}
 GivesText (Err e) key reading = (reading ≡ Err key) × NamesKey e key
 
--- What the code returns for `key`, as a borrowed text, or `None` if there is none: what `reading` has; or the error for
--- a wrong value, if `reading` is one. Or memory ran out.
+-- The code's result for `key`, a borrowed text or `None`, is what `reading` has. If `reading` is an error instead, the
+-- code's error says that the value of `key` is wrong. Memory may run out in either case.
 abbrev pub GivesTextIfAny : Result (Option (Bor (List ℕ))) Error → List ℕ
     → Result (Option (List ℕ)) (List ℕ) → Type 0
 GivesTextIfAny (Ok x) key reading = reading ≡ Ok (option_map (λ text. text.now) x)
 GivesTextIfAny (Err errors.Memory) key reading = Unit {0}
 GivesTextIfAny (Err e) key reading = (reading ≡ Err key) × NamesKey e key
 
--- What the code returns for a table: the settings that `reading` has; or the error for the key that `reading` names. Or
--- memory ran out.
+-- The code's result for a table is the settings in `reading`. If `reading` is a key instead, the code's error says that
+-- this key's value is wrong. Memory may run out in either case.
 abbrev pub GivesSettings : Result Config Error → Result Settings (List ℕ) → Type 0
 GivesSettings (Ok config) reading = reading ≡ Ok (settings_of config)
 GivesSettings (Err errors.Memory) reading = Unit {0}
@@ -248,8 +250,8 @@ SaysSettings text s = (table : Members) × (parse_document text ≡ Some table) 
 abbrev pub HasWrongKey : List ℕ → List ℕ → Type 0
 HasWrongKey text key = (table : Members) × (parse_document text ≡ Some table) × (settings_in table ≡ Err key)
 
--- What the code returns for a text: the settings that its table sets. Or an error: the text isn't TOML, or a key has a
--- wrong value, or memory ran out.
+-- The code's result for a text: the settings that its table sets, or an error. The error says that the text isn't TOML
+-- or that a key has a wrong value, or it is `Memory`.
 abbrev pub GivesSettingsOf : Result Config Error → List ℕ → Type 0
 GivesSettingsOf (Err errors.Memory) text = Unit {0}
 GivesSettingsOf (Err (errors.InvalidArgument why)) text =
@@ -285,8 +287,8 @@ dropped_keys t = filter (λ key. not (is_setting key)) (keys_of t)
 abbrev pub texts_of : Vec (String Global) Global → List (List ℕ)
 texts_of texts = map string_bytes texts.items
 
--- What the code returns for a text: the keys of its table that aren't those of settings. Or an error: the text isn't
--- TOML, or memory ran out.
+-- The code's result for a text: the keys of its table that aren't those of settings, or an error. The error says that
+-- the text isn't TOML, or it is `Memory`.
 abbrev pub GivesDroppedKeys : Result (Vec (String Global) Global) Error → List ℕ → Type 0
 GivesDroppedKeys (Ok keys) text =
     (table : Members) × (parse_document text ≡ Some table) × (texts_of keys ≡ dropped_keys table)

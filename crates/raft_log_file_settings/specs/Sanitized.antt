@@ -51,20 +51,22 @@ files_within limit target = min (limit / target * 3 / 2) (2 ^ 32 - 1)
 abbrev pub can_recycle : Settings → Bool
 can_recycle s = s.enable_log_recycle && is_signed s.format_version
 
--- how many files the log keeps for recycling
+-- how many files Append may have, those kept for recycling included: a purge recycles files only within this limit; 0
+-- if files can't be recycled, or if the target size is above the purge threshold
 abbrev pub recycle_capacity : Settings → ℕ
 recycle_capacity s =
     if can_recycle s && nat_le s.target_file_size s.purge_threshold
     then files_within s.purge_threshold s.target_file_size else 0
 
--- how many files an open prefills with zeros
+-- how many files an open may prefill with zeros; 0 if it may not, or if the limit on their bytes is below the target
+-- size
 abbrev pub prefill_capacity : Settings → ℕ
 prefill_capacity s =
     let limit = unwrap_or s.prefill_limit 0 in
     if can_recycle s && s.prefill_for_recycle && nat_le s.target_file_size limit
     then files_within limit s.target_file_size else 0
 
--- what is wrong with settings that have this fault
+-- the settings have this fault
 abbrev pub HasFault : Settings → ConfigFault → Type 0
 HasFault s faults.PurgeBelowTarget = s.purge_threshold < s.target_file_size
 HasFault s faults.NoTargetSize = s.target_file_size ≡ 0

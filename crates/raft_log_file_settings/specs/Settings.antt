@@ -8,7 +8,7 @@ use Rattle.raft_log_file_settings.specs.declared.recovery_mode.RecoveryMode.{Rec
 use Rattle.raft_log_file_settings.specs.declared.recovery_mode.RecoveryMode.TheVariants.{TolerateTailCorruption}
 use Rattle.raft_log_file_settings.specs.declared.config.Config.{Config}
 
--- sizes are in bytes, and the garbage ratio is in thousandths
+-- The settings of a log. Sizes are in bytes, and the garbage ratio is in thousandths.
 pub record Settings : Type 0 where
   pub dir : List ℕ
   pub spill_dir : Option (List ℕ)

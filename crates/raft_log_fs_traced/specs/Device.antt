@@ -11,7 +11,7 @@ use Rattle.raft_log_fs_traced.specs.declared.device.Attempt.TheVariants as attem
 use Rattle.raft_log_fs.specs.Calls.{with_change, after_change, flushed, deleted, renamed, with_directory}
 
 -- A call on a device. A new file gets a number, and later calls name it by that number. A change of a file's bytes is a
--- write, a truncation or a growth. A change is undone if it found no room: it was tried, and the file was truncated
+-- write, a truncation or a growth. A change is undone if space was lacking: it was tried, and the file was truncated
 -- to its old length. A write-back writes bytes that the file already has at that offset.
 pub data DeviceCall : Type 0 where
   Created : (path : List ℕ) (file : ℕ) → DeviceCall
@@ -84,8 +84,8 @@ changed_by (Undone file change) d = with_next (d.files file) (undone_change chan
 changed_by (WroteBack file at bytes) d = d
 changed_by (Synced file) d = with_next (d.files file) flushed file d
 
--- The device after a call that changes names: calls see the change at once. The directories `homes` have to be synced
--- now; a crash keeps the change once no directory has to be.
+-- The device after a call that changes names. Later calls see the change at once. The directories `homes` have to be
+-- synced now; a crash keeps the change only once no directory has to be synced any more.
 abbrev pub with_names : DeviceCall → List (List ℕ) → Held → Held
 with_names call homes held =
     record { seen = changed_by call held.seen; kept = held.kept; owed = homes ++ held.owed }
@@ -104,8 +104,7 @@ owing (path ∷ paths) held = record { seen = held.seen; kept = held.kept; owed 
 abbrev pub but_for : List ℕ → List (List ℕ) → List (List ℕ)
 but_for path owed = filter (λ other. not (bytes_eq path other)) owed
 
--- What a call makes of a device: of the disk that calls see, of the disk that a crash leaves, and of the directories to
--- sync.
+-- the device after one more call: the disk that calls see, the disk that a crash leaves, and the directories to sync
 abbrev pub after : DeviceCall → Held → Held
 after (Created path file) held = with_names (Created path file) (home path ∷ []) held
 after (Deleted path) held = with_names (Deleted path) (home path ∷ []) held
@@ -135,7 +134,7 @@ abbrev pub HasBytes : ℕ → ℕ → List ℕ → Disk → Type 0
 HasBytes file at bytes d = (state : File) → d.files file ≡ Some state
     → (at + length bytes ≤ length state.content) × (take (length bytes) (drop at state.content) ≡ bytes)
 
--- the call that an attempt to change a file ended as: the change, or the change undone
+-- the call that the trace notes for an attempt to change a file: the change, or the change undone
 abbrev pub attempted : ℕ → Change → Attempt → DeviceCall
 attempted file change attempt.Made = Changed file change
 attempted file change (attempt.Undone kind) = Undone file change

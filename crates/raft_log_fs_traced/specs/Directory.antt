@@ -17,8 +17,8 @@ use Rattle.raft_log_fs_traced.specs.declared.directory.DirectoryFileSystem.{Dire
 abbrev pub with_failures : ℕ → List ErrorKind → Disk → Disk
 with_failures failures kinds d = record d { failures = failures; kinds = kinds }
 
--- A failure of this kind was counted, and `error` is its kind. Or the file system stopped, and `error` is that of a
--- stop. Nothing else changed.
+-- A failure of this kind was counted, and `error` is its kind. Or the file system stopped in a device call that failed
+-- with this kind, and `error` is the one for such a stop. Nothing else changed.
 abbrev pub FailsOnce : ErrorKind → ErrorKind → Disk → Disk → Type 0
 FailsOnce kind error old new =
     ((error ≡ kind) × (new ≡ counted error old)) ⊎ (IsToldAtStop kind error × (new ≡ at_stop old))

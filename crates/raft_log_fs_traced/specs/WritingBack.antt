@@ -20,7 +20,7 @@ abbrev pub WritesBack : ℕ → ℕ → Trace → Trace → Type 0
 WritesBack file size old new =
     (between : Trace) × WrotePieces file size old between × (new ≡ noted (Synced file) between)
 
--- `new` has the same disk at its opening as `old`, and calls and a crash find the same after both
+-- both traces begin with the same disk, and after either, calls find the same, and so does a crash
 abbrev pub LeavesBytes : Trace → Trace → Type 0
 LeavesBytes old new = (new.found ≡ old.found) × (held_by new ≡ held_by old)
 

@@ -11,15 +11,15 @@ use Rattle.raft_log_file_reader.specs.Opening.{SaysFormat}
 use Rattle.raft_log_file_reader.specs.declared.open_file.OpenFile.{OpenFile}
 use Rattle.raft_log_recovery_read.specs.Reading.{FileReading, ReadsBytes}
 
--- Which files are written anew.
+-- Which files are rewritten.
 
--- The file has an alignment. A last file with an alignment and no whole record doesn't count: its header is taken for
--- a torn one.
+-- The file has an alignment. A queue's last file without a whole record doesn't count: its header is taken for a torn
+-- one.
 abbrev pub IsPadded : Bool → FileId → List ℕ → Type 0
 IsPadded last id content =
     (read : FileReading) × ReadsBytes last id content read × (IsUnaligned read.format → ⊥)
 
--- the file has no alignment, or no header
+-- the file has no alignment or no header, or it is a queue's last file and has no whole record
 abbrev pub IsUnpadded : Bool → FileId → List ℕ → Type 0
 IsUnpadded last id content = (read : FileReading) × ReadsBytes last id content read × IsUnaligned read.format
 
@@ -42,8 +42,8 @@ abbrev pub joined : List (List ℕ) → List ℕ
 joined [] = []
 joined (bytes ∷ more) = bytes ++ joined more
 
--- What follows the last record at `end`: nothing if only padding is left. If the next record is broken, it is all
--- bytes from `end` on, unchanged.
+-- `rest` is what the file's bytes without padding have after the last record, which ends at `end`. If only padding is
+-- left there, it is empty. If the next record is broken, it is all bytes from `end` on, unchanged.
 abbrev pub IsRest : OpenFile → List ℕ → ℕ → List ℕ → Type 0
 IsRest file content end rest = (HasNoMore file content end × (rest ≡ []))
     ⊎ ((fault : Fault) × IsBroken file content end fault × (rest ≡ drop end content))

@@ -18,7 +18,7 @@ use Rattle.raft_log_recovery.specs.Unaligned.{AreUnaligned}
 use Rattle.raft_log_recovery.specs.declared.builder.DualPipesBuilder.{DualPipesBuilder}
 use Rattle.raft_log_open.specs.Unpadding.{FailsToUnpad, Unpads}
 
--- The files that a builder found were read on the disk. One of them has an alignment, so there may be padding between
+-- All files that a builder found can be read on the disk. One of them has an alignment, so there may be padding between
 -- its records.
 pub record HasPadding (b : DualPipesBuilder) (d : Disk) : Type 0 where
   pub append : MemTableRecoverContext
@@ -63,7 +63,7 @@ IsNoPadding error = (text : String Global) → error ≡ errors.InvalidArgument 
 
 -- Why reading a log without its padding fails:
 -- - `still_padded`: writing the files without padding failed.
--- - `unfound`: that succeeded, and finding the files again failed.
+-- - `unfound`: that succeeded, and the second scan of the directories failed.
 -- - `unread`: the files were found again, and reading a queue or truncating its damaged files failed.
 pub data FailsToReadAnew (was : DualPipesBuilder) (error : Error) (old new : Disk) : Type 0 where
   still_padded : FailsToUnpad (directories_of (settings_of was.config)) error old new

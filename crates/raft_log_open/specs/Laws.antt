@@ -57,16 +57,17 @@ pub record AreMoved (content new : List ℕ) (items others : List LogItem) : Typ
   pub same_len : to.len ≡ from.len
   pub same : placed_bytes to new ≡ placed_bytes from content
 
--- What is read is the same as before, without an alignment and with other offsets: the same batches in the same order.
--- There is a fault after them exactly if there was one.
+-- `old` was read of `content`, and `read` of `new`: the same batches in the same order, with entry blocks at other
+-- offsets. The format has the same version, without an alignment. A fault follows in `read` exactly if one does in
+-- `old`.
 pub record ReadsMoved (content new : List ℕ) (old read : FileReading) : Type 0 where
   pub plain : read.format ≡ plain_format old.format
   pub batches : AllZip (AreMoved content new) old.batches read.batches
   pub header : (end : ℕ) × (read.end ≡ Some end)
   pub damage : is_some read.fault ≡ is_some old.fault
 
--- Reading a file with padding, and reading its bytes without padding, give the same result, except for the locations
--- of the entries.
+-- Reading a file with padding, and reading its bytes without padding, give the same result, except for the alignment
+-- and the locations of the entries.
 abbrev pub FilesReadTheSame : Type 0
 FilesReadTheSame = (last : Bool) (id : FileId) (content new : List ℕ) (old read : FileReading)
     → IsPadded last id content → IsWithoutPadding id content new → ReadsBytes last id content old
@@ -74,8 +75,8 @@ FilesReadTheSame = (last : Bool) (id : FileId) (content new : List ℕ) (old rea
 
 -- On the disk.
 
--- After a file was written without padding, reading it gives the same result as before, except for the locations of
--- the entries.
+-- After a file was written without padding, reading it gives the same result as before, except for the alignment and
+-- the locations of the entries.
 abbrev pub WrittenFilesReadTheSame : Type 0
 WrittenFilesReadTheSame =
     (file : PlacedFile) (d new : Disk) (handle : Handle) (old read : FileReading) (writes : WritesAnew file d new)

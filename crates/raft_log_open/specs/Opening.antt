@@ -33,7 +33,7 @@ pub record OpensDirectory {F : Type 0} (disk : F → Disk) (tells : F → List �
 -- Why opening a log fails:
 -- - `ended`: the file system had stopped; this comes before all other reasons.
 -- - `unsound`: its settings have a fault.
--- - `unfound`: its files weren't found.
+-- - `unfound`: the scan of its directories failed.
 -- - `unread`: reading a queue or truncating its damaged files failed; the error isn't the one for an alignment.
 -- - `unread_anew`: one of its files has an alignment, and reading the log without its padding failed.
 -- - `unmerged`: out of memory for the tables.

@@ -17,11 +17,11 @@ use Rattle.raft_log_open.specs.declared.content.Next.TheVariants as nexts
 abbrev pub content_of : ListedFile → Disk → List ℕ
 content_of file d = bytes_in (d.files file.handle.file)
 
--- the file has no padding, so it is not written anew
+-- the file has no alignment that counts (`IsUnpadded`), so it isn't rewritten
 abbrev pub NeedsNothing : Disk → ListedFile → Type 0
 NeedsNothing d file = IsUnpadded file.is_last file.id (content_of file d)
 
--- the file has padding, and these are its bytes without it
+-- the file has an alignment (`IsPadded`), and `bytes` are its bytes without the padding between its records
 pub record NeedsBytes (d : Disk) (file : ListedFile) (bytes : List ℕ) : Type 0 where
   pub padded : IsPadded file.is_last file.id (content_of file d)
   pub without : IsWithoutPadding file.id (content_of file d) bytes

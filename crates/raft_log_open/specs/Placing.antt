@@ -35,7 +35,8 @@ pub record IsListed (count : ℕ) (found : FoundFile) : Type 0 where
   pub listed : found.path_id < count
   pub small : found.seq < 10 ^ 16
 
--- `file` is the file `found` of this queue, with its paths; `last` is the number of the queue's last file
+-- `file` is the file `found` of this queue, with its path and the path of its temporary file; `last` is the number of
+-- the queue's last file
 pub record IsPlaced (queue : LogQueue) (directories : List (List ℕ)) (last : ℕ) (found : FoundFile)
     (file : PlacedFile) : Type 0 where
   pub is : file.id ≡ record { queue = queue; seq = found.seq }

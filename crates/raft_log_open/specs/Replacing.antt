@@ -16,7 +16,7 @@ pub record StaysAt (path : List ℕ) (old new : Disk) : Type 0 where
   pub named : new.names path ≡ old.names path
   pub file : (id : ℕ) → old.names path ≡ Some id → new.files id ≡ old.files id
 
--- the path names a new file with these bytes, all of them synced, and nothing else changed
+-- the path names a file with these bytes, all of them synced, and nothing else changed
 pub record MakesFile (path bytes : List ℕ) (old new : Disk) : Type 0 where
   pub made : IsAtRest path bytes new
   pub others : TouchesOnlyNames (λ other. other ≡ path) old new

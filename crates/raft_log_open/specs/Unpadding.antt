@@ -27,7 +27,7 @@ abbrev pub FindsAt : List ℕ → Disk → Option Handle → Type 0
 FindsAt path d None = d.names path ≡ None
 FindsAt path d (Some handle) = IsOpened path ReadOnly handle d
 
--- why opening the file at this path fails: the file system has stopped, or is out of memory
+-- why opening the file at this path fails: the file system has stopped, no file has the path, or memory ran out
 abbrev pub FailsToLookAt : List ℕ → Disk → Error → Type 0
 FailsToLookAt path d (errors.Io kind) = IsNotOpened path d kind
 FailsToLookAt path d errors.Memory = IsNotOpened path d OutOfMemory
@@ -70,11 +70,11 @@ pub record FailsToClearAll (directories : List (List ℕ)) (error : Error) (old 
 abbrev pub IsApart : PlacedFile → Type 0
 IsApart file = string_bytes file.path ≡ string_bytes file.temporary → ⊥
 
--- the file with this handle, as it is read
+-- the file as a `ListedFile`, which is read by this handle
 abbrev pub listed_as : PlacedFile → Handle → ListedFile
 listed_as file handle = record { id = file.id; handle = handle; is_last = file.is_last }
 
--- the file isn't written: no file has its path, or it has no padding
+-- the file isn't rewritten, and nothing changed: no file has its path, or it has no padding
 pub data LeavesAlone (file : PlacedFile) (old new : Disk) : Type 0 where
   absent : old.names (string_bytes file.path) ≡ None → new ≡ old → LeavesAlone file old new
   plain : (handle : Handle) → IsOpened (string_bytes file.path) ReadOnly handle old
@@ -113,8 +113,8 @@ UnpadsAll (file ∷ files) written old new = (mid : Disk)
     × ((LeavesAlone file old mid × UnpadsAll files written mid new)
     ⊎ ((more : List FileId) × (written ≡ file.id ∷ more) × WritesAnew file old mid × UnpadsAll files more mid new))
 
--- Writing one of the files without padding failed, after those before it were done. Or it was written, and memory ran
--- out for listing it.
+-- Writing one of the files without padding failed, after the files before it were done. Or the file was written, and
+-- memory ran out for its id in the list of written files.
 pub record FailsToUnpadAll (files : List PlacedFile) (error : Error) (old new : Disk) : Type 0 where
   pub before : List PlacedFile
   pub file : PlacedFile
@@ -141,7 +141,7 @@ pub record Unpads (directories : List (List ℕ)) (written : List FileId) (old n
 -- - `unbegun`: out of memory; nothing changed.
 -- - `unfound`: finding the log's files failed; nothing changed.
 -- - `uncleared`: deleting the temporary files of an earlier call failed.
--- - `cut_short`: one of the files wasn't done.
+-- - `cut_short`: writing one of the files without padding failed.
 pub data FailsToUnpad (directories : List (List ℕ)) (error : Error) (old new : Disk) : Type 0 where
   ended : old.stopped ≡ true → error ≡ errors.Io Other → new ≡ old → FailsToUnpad directories error old new
   unbegun : error ≡ errors.Memory → new ≡ old → FailsToUnpad directories error old new

@@ -26,7 +26,8 @@ abbrev pub Copies : Place → String Global → Disk → Disk → Type 0
 Copies place target old new =
     (copied : List (List ℕ)) × Forks (kept_settings place) (string_bytes target) copied old new
 
--- Either copying the log failed; or it was copied, and writing the output failed.
+-- Why copying the log failed. `Log`: making the copy failed. `Output`: the log was copied, and writing the output
+-- failed.
 abbrev pub FailsToCopy : Place → String Global → CommandFault → Disk → Disk → Type 0
 FailsToCopy place target (Log error) old new = FailsToFork (kept_settings place) (string_bytes target) error old new
 FailsToCopy place target (Output _) old new = Copies place target old new
@@ -37,19 +38,20 @@ abbrev pub TakesPadding : Place → Disk → Disk → Type 0
 TakesPadding place old new =
     (written : List FileId) × Unpads (directories_of (kept_settings place)) written old new
 
--- Either removing the padding failed; or it was removed, and writing the output failed.
+-- Why removing the padding failed. `Log`: rewriting the files failed. `Output`: they were rewritten, and writing the
+-- output failed.
 abbrev pub FailsToTakePadding : Place → CommandFault → Disk → Disk → Type 0
 FailsToTakePadding place (Log error) old new = FailsToUnpad (directories_of (kept_settings place)) error old new
 FailsToTakePadding place (Output _) old new = TakesPadding place old new
 FailsToTakePadding place _ old new = ⊥
 
--- what a task that succeeds does to the disk: only `Fork` and `Unpad` change it
+-- what a task that succeeds did to the disk: only `Fork` and `Unpad` change it
 abbrev pub Does : Place → Task → Disk → Disk → Type 0
 Does place (Fork target) old new = Copies place target old new
 Does place Unpad old new = TakesPadding place old new
 Does place _ old new = new ≡ old
 
--- what a task that fails does to the disk: only `Fork` and `Unpad` may change it
+-- what a task that failed with this fault did to the disk: only `Fork` and `Unpad` may change it
 abbrev pub FailsToDo : Place → Task → CommandFault → Disk → Disk → Type 0
 FailsToDo place (Fork target) fault old new = FailsToCopy place target fault old new
 FailsToDo place Unpad fault old new = FailsToTakePadding place fault old new

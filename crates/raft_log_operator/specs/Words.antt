@@ -46,12 +46,12 @@ words_of (On place task) = task_words place task
 abbrev pub NamesNoGroup : List ℕ → Type 0
 NamesNoGroup word = (group : ℕ) → group < 2 ^ 64 → word ≢ decimal group
 
--- in these arguments of a dump, the word for the group's number is this one, and it names no group
+-- in these arguments of a dump, `word` is the one for the group's number, and it isn't the number of a group
 abbrev pub MisnamesGroup : List (List ℕ) → List ℕ → Type 0
 MisnamesGroup words word = (directory : List ℕ) × (rest : List (List ℕ))
     × (words ≡ directory ∷ codes "--group" ∷ word ∷ rest) × NamesNoGroup word
 
--- these arguments request a dump, and the word for its group's number is this one, which names no group
+-- these arguments request a dump, and `word` is the one for its group's number, and isn't the number of a group
 abbrev pub MisnamesDumpedGroup : List (List ℕ) → List ℕ → Type 0
 MisnamesDumpedGroup words word =
     (rest : List (List ℕ)) × (words ≡ codes "dump" ∷ rest) × MisnamesGroup rest word

@@ -14,9 +14,9 @@ use Rattle.raft_log_purge_copy.specs.Parts.{Remains, StaysInFile}
 use Rattle.raft_log_purge_copy.specs.Reasons.{HasReason}
 use Rattle.raft_log_purge_copy.specs.Refusals.{IsOverlong}
 
--- A batch that isn't empty was written to Rewrite at `block`, and the tables applied it under the number of its file.
--- The log has the same contents, if no batch was pending, the items are copies, and they are no part of an atomic
--- group.
+-- The batch was written to Rewrite at `block`, and the tables have its entries and values there now. The copies come
+-- from files of Append up to the gate, or from Rewrite if there is no gate. The log has the same contents if no batch
+-- was pending, and the items are copies and no part of an atomic group.
 pub record MovesCopies (gate : Option ℕ) (b : Batch) (s t : EngineState) : Type 0 where
   pub block : FileBlockHandle
   pub alive : has_failed t ≡ false
@@ -28,15 +28,14 @@ pub record MovesCopies (gate : Option ℕ) (b : Batch) (s t : EngineState) : Typ
   pub holds : marking_of_items b.items ≡ Unmarked → (home : LogDirectories) (m : LogMap) → Represents home s m []
       → HasCopies gate b s.tables m → Represents home t m []
 
--- the batch was written, or it is empty, and nothing was done
+-- the batch was written to Rewrite and applied to the tables; or it is empty, and nothing was done
 abbrev pub WritesCopies : Option ℕ → Batch → EngineState → EngineState → Type 0
 WritesCopies gate b s t = ((b.items ≡ []) × (t ≡ s)) ⊎ (((b.items ≡ []) → ⊥) × MovesCopies gate b s t)
 
--- A batch of copies wasn't written, and the tables are unchanged. If it is no part of an atomic group, and no batch
--- was pending:
--- - its record would be too long, or the error has a reason that any part may have
--- - if its items are copies, the log has the same contents, or the engine has failed and its files can be opened with
---   them
+-- The batch wasn't written, and the tables are unchanged. If it is no part of an atomic group, and no batch was
+-- pending:
+-- - Its record would be too long, or the error has a reason that any part of a purge may have.
+-- - If its items are copies, the log has the same contents; or the error is `Failed`, and an open finds them.
 pub record FailsToCopy (gate : Option ℕ) (b : Batch) (error : Error) (s t : EngineState) : Type 0 where
   pub same : t ≡ record s { pipes = t.pipes }
   pub tells : has_failed s ≡ false → IsTrue (has_failed t) ↔ (error ≡ errors.Failed)

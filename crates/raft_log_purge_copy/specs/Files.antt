@@ -18,14 +18,15 @@ use Rattle.raft_log_engine_laws.specs.Holding.{IsRecoverableAs}
 use Rattle.raft_log_engine_laws.specs.Settled.{HoldsSettled}
 use Rattle.raft_log_purge_copy.specs.Reasons.{HasFileReason}
 
--- what the tables must show before files leave the live range of a queue: for Append, that no tombstone is owed
+-- what the tables must show before files leave the live range of a queue: that no tombstone is owed, if the queue is
+-- Append; nothing, if it is Rewrite
 abbrev pub MayLoseFiles : Which → (ℕ → Shown) → Type 0
 MayLoseFiles InAppend v = (g : ℕ) → OwesNothing (whereabouts (v g))
 MayLoseFiles InRewrite v = Unit {0}
 
--- Files left the queue's live range, and no block is cached. If nothing was pending, the range begins at `least` now,
--- or where it began if that is later. `least` is the lowest file in which any group has an entry or value, or `limit`
--- if that is lower. The log then keeps its contents, for Append only if no tombstone is owed.
+-- `count` files left the queue's live range, and no block is cached. `least` is the lowest file of the queue that any
+-- group needs, or `limit` if that is lower. If nothing was pending, the live range begins at `least` now, or where it
+-- began if that is later. The log then keeps its contents, if no tombstone is owed or the queue is Rewrite.
 pub record LosesFiles (queue : LogQueue) (limit : ℕ) (m : MemTables) (count : ℕ) (s t : EngineState) : Type 0 where
   pub least : ℕ
   pub is : IsLeastOf queue limit m least
@@ -39,8 +40,9 @@ pub record LosesFiles (queue : LogQueue) (limit : ℕ) (m : MemTables) (count : 
   pub keeps : (home : LogDirectories) (log : LogMap) → HoldsSettled home s log
       → MayLoseFiles (which_of queue) s.tables → HoldsSettled home t log
 
--- After the files failed to leave the live range: if the error is `Failed`, the engine has failed, and its files can
--- be opened with the contents `m`. Else the log has these contents. Nothing is pending in either case.
+-- What is left after files failed to leave the live range, by the error:
+-- - `Failed`: an open of the log's files finds the contents `m`, no batch pending
+-- - any other: the engine's log has the contents `m`, nothing pending in either queue
 abbrev pub RemainsSettled : LogDirectories → LogMap → EngineState → Error → Type 0
 RemainsSettled home m t errors.Failed = IsRecoverableAs home t.pipes.disk m []
 RemainsSettled home m t _ = HoldsSettled home t m
@@ -51,8 +53,9 @@ IsNoLimit queue limit (errors.Other fault) s =
     IsInSpan limit (pipe_at (which_of queue) (files_of s.pipes)) → ⊥
 IsNoLimit queue limit _ s = ⊥
 
--- The files below `limit` failed to leave the queue's live range, and the error says why. A log with nothing pending
--- keeps its contents; if the engine has failed, its files can be opened with them.
+-- Files below `limit` failed to leave the queue's live range: the error says why, or `limit` isn't in that range. A
+-- log with nothing pending keeps its contents, or an open finds them if the error is `Failed`. For Append, this
+-- requires that no tombstone is owed.
 pub record FailsToLoseFiles (queue : LogQueue) (limit : ℕ) (error : Error) (s t : EngineState) : Type 0 where
   pub tells : has_failed s ≡ false → IsTrue (has_failed t) ↔ (error ≡ errors.Failed)
   pub later : IsLater s.pipes.disk t.pipes.disk

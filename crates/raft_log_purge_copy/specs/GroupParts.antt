@@ -18,14 +18,15 @@ use Rattle.raft_log_purge_copy.specs.declared.parts.RestatedPart.{RestatedPart}
 use Rattle.raft_log_purge_copy.specs.Pieces.{IsPiece}
 use Rattle.raft_log_purge_copy.specs.Restated.{last_file}
 
--- each part has one piece of the entries of group `g`, from index `f` on, and no piece is empty
+-- Each part has one of the pieces, in order, and no other items. The pieces are the bytes of entries of group `g` with
+-- consecutive indexes from `f` on, and none is empty.
 abbrev pub SayPieces : ℕ → ℕ → List (List (List ℕ)) → List WrittenPart → Type 0
 SayPieces g f [] [] = Unit {0}
 SayPieces g f (es ∷ more) (p ∷ ps) =
     (0 < length es) × IsPiece g f es [] p.batch × SayPieces g (f + length es) more ps
 SayPieces g f pieces ps = ⊥
 
--- for each written part, what is kept in memory: its location, and its items with the locations of their entries
+-- the first list keeps, for each written part, its location, and its items with the locations of their entries
 abbrev pub ArePartsKept : List RestatedPart → List WrittenPart → Type 0
 ArePartsKept [] [] = Unit {0}
 ArePartsKept (x ∷ xs) (p ∷ ps) =
@@ -38,8 +39,8 @@ abbrev pub items_of_all : List RestatedPart → List LogItem
 items_of_all [] = []
 items_of_all (x ∷ xs) = x.items.items ++ items_of_all xs
 
--- The batch is being filled as a part of atomic group `number`. Its items are a piece of the entries of group `g`,
--- keys with their values, and the group's mark.
+-- The batch is being filled as a part of atomic group `number`. Its items are entries of group `g` with these bytes
+-- from index `f` on, and these keys with their values. The last item is the atomic group's mark, with this status.
 pub record IsMarkedPiece (g f number : ℕ) (status : AtomicGroupStatus) (bytes : List (List ℕ))
     (pairs : List (List ℕ × List ℕ)) (b : Batch) : Type 0 where
   pub state : b.state ≡ Filling
@@ -48,8 +49,8 @@ pub record IsMarkedPiece (g f number : ℕ) (status : AtomicGroupStatus) (bytes 
   pub part : marking_of_items b.items ≡ Part number status
   pub some : b.items ≡ [] → ⊥
 
--- An atomic group is open, and its parts have the first `done` of the entries that group `g` has in Rewrite. None of
--- its parts counts yet, and the tables are unchanged.
+-- Atomic group `number` is open in `t`, and its parts have the first `done` of the entries that group `g` has in
+-- Rewrite. None of its parts counts yet: the tables are those of `s`, from before it began.
 pub record HasParts (g number done : ℕ) (parts : List RestatedPart) (s t : EngineState) : Type 0 where
   pub group : UnendedGroup
   pub numbered : group.number ≡ number

@@ -14,8 +14,8 @@ use Rattle.raft_log_purge_copy.specs.Moving.{IsPartlyRewritten, IsRewrittenTo}
 use Rattle.raft_log_purge_copy.specs.Reasons.{GivesReason}
 use Rattle.raft_log_purge_copy.specs.Rewriting.{OweNothing, StaysHeld, StaysOrIsLeft}
 
--- For each group that passes the test, some of what it had in Append, in files up to the gate, is in Rewrite now.
--- Other groups are unchanged.
+-- For each group that passes the test, a part of what it had in Append, in files up to the gate, moved to Rewrite:
+-- perhaps nothing, perhaps all. Other groups are unchanged.
 pub record RewritesPart (test : ℕ → Bool) (gate : ℕ) (s t : EngineState) : Type 0 where
   pub parts : (g : ℕ) → IsPartlyRewritten gate (s.tables g) (t.tables g)
   pub others : (g : ℕ) → test g ≡ false → t.tables g ≡ s.tables g
@@ -30,14 +30,15 @@ pub record Rewrites (test : ℕ → Bool) (gate : ℕ) (s t : EngineState) : Typ
   pub stays : StaysInFile s.pipes t.pipes
   pub holds : StaysHeld s t
 
--- Rewriting the groups failed after a part of it. If no tombstone is owed, the error says why.
+-- Rewriting the groups that pass the test failed; a part of what was to move may be in Rewrite. If no tombstone is
+-- owed, the error says why.
 pub record StopsRewriting (test : ℕ → Bool) (gate : ℕ) (error : Error) (s t : EngineState) : Type 0 where
   pub part : RewritesPart test gate s t
   pub tells : has_failed s ≡ false → IsTrue (has_failed t) ↔ (error ≡ errors.Failed)
   pub remains : StaysOrIsLeft error s t
   pub cause : OweNothing s.tables → GivesReason error s t
 
--- all entries that the group has in Append, in files up to the gate, were copied to Rewrite
+-- all entries that the group had in Append, in files up to the gate, were copied to Rewrite
 pub record RewritesEntries (group gate : ℕ) (s t : EngineState) : Type 0 where
   pub part : RewritesPart (λ g. group == g) gate s t
   pub none : passing gate (drop (t.tables group).rewritten (t.tables group).places) ≡ 0
@@ -49,7 +50,7 @@ pub record RewritesEntries (group gate : ℕ) (s t : EngineState) : Type 0 where
 abbrev pub RewritesGroup : ℕ → ℕ → EngineState → EngineState → Type 0
 RewritesGroup group gate s t = Rewrites (λ g. group == g) gate s t
 
--- rewriting this one group failed after a part of it
+-- rewriting this one group failed
 abbrev pub StopsAtGroup : ℕ → ℕ → Error → EngineState → EngineState → Type 0
 StopsAtGroup group gate error s t = StopsRewriting (λ g. group == g) gate error s t
 
@@ -57,7 +58,7 @@ StopsAtGroup group gate error s t = StopsRewriting (λ g. group == g) gate error
 abbrev pub RewritesGroups : List ℕ → ℕ → EngineState → EngineState → Type 0
 RewritesGroups groups gate s t = Rewrites (λ g. list_any (λ k. k == g) groups) gate s t
 
--- rewriting these groups failed after a part of it
+-- rewriting these groups failed
 abbrev pub StopsAtGroups : List ℕ → ℕ → Error → EngineState → EngineState → Type 0
 StopsAtGroups groups gate error s t = StopsRewriting (λ g. list_any (λ k. k == g) groups) gate error s t
 

@@ -14,7 +14,8 @@ use Rattle.raft_log_purge_copy.specs.Moving.{MovesKeys}
 use Rattle.raft_log_purge_copy.specs.Reasons.{GivesReason}
 use Rattle.raft_log_purge_copy.specs.Rewriting.{StaysHeld, StaysOrIsLeft}
 
--- the batch is being filled, puts these values of the group's keys, and has no mark of an atomic group
+-- The batch is being filled, and its items put these values under these keys of group `g`. It has no entries and no
+-- mark of an atomic group.
 pub record IsKeysBatch (g : ℕ) (pairs : List (List ℕ × List ℕ)) (b : Batch) : Type 0 where
   pub state : b.state ≡ Filling
   pub none : b.entries ≡ []
@@ -22,7 +23,7 @@ pub record IsKeysBatch (g : ℕ) (pairs : List (List ℕ × List ℕ)) (b : Batc
   pub plain : AreNoMarks b.items
 
 -- All values that the group has in Append, in files up to the gate, were copied to Rewrite in one record. Nothing else
--- changed in the tables. If there are none, nothing was written.
+-- changed in the tables. If there were none, nothing was written.
 pub record CopiesKeys (group gate : ℕ) (s t : EngineState) : Type 0 where
   pub pairs : List (List ℕ × List ℕ)
   pub all : ListsAll (appended_values gate (s.tables group)) pairs

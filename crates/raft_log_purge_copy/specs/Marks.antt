@@ -1,4 +1,5 @@
--- A purge writes the owed tombstones to Rewrite. Names call a tombstone a mark; an atomic group's marks are others.
+-- A purge writes the owed tombstones to Rewrite. The names of these definitions call a tombstone a mark. The marks of
+-- an atomic group are something else.
 use Rattle.std.specs.Prelude.{◌≡◌, ℕ, Bool, false, List, []}
 use Rattle.raft_log_fs.specs.Causes.{IsLater}
 use Rattle.raft_log_record_base.specs.declared.errors.Error.{Error}
@@ -19,8 +20,8 @@ use Rattle.raft_log_purge_copy.specs.Parts.{PartIsRefused, StaysInFile}
 abbrev pub showing : LogPipes → (ℕ → Shown) → (ℕ → Bool) → BlockCache → EngineState
 showing v tables counts cache = record { tables = tables; counts = counts; pipes = v; cache = cache }
 
--- The tombstones that these tables owe were written to Rewrite. If the log had the contents `m` with nothing pending,
--- it has them with tables that owe none.
+-- The tombstones that these tables owe were written to Rewrite; the pipes were `v` before, and are `w` now. If the log
+-- had the contents `m` with no batch pending, it has them still, with tables that owe no tombstone any more.
 pub record WritesMarks (tables : ℕ → Shown) (v w : LogPipes) : Type 0 where
   pub alive : is_failed v ≡ false → is_failed w ≡ false
   pub later : IsLater v.disk w.disk

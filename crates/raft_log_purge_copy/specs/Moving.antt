@@ -31,8 +31,8 @@ pub record MovesKeys (group gate : ℕ) (v w : ℕ → Shown) : Type 0 where
   pub file : ℕ
   pub moved : w group ≡ with_copied_values gate file (v group)
 
--- The group has nothing in files of Append up to the gate. Its first entry in Append, if it has one, is in a later
--- file, and so is each value there.
+-- The group's first entry in Append, if it has one, is in a file after the gate. So is each of its values in Append.
+-- Since file numbers never fall as indexes rise, the group has nothing in files of Append up to the gate.
 pub record IsRewrittenTo (gate : ℕ) (v : Shown) : Type 0 where
   pub entries : passing gate (drop v.rewritten v.places) ≡ 0
   pub values : (k : List ℕ) (h : KeyValue) → v.held k ≡ Some h → h.appended ≡ true → gate < h.file
@@ -43,8 +43,8 @@ ValueMayMove gate old new =
     (new ≡ old) ⊎ ((h : KeyValue) × (old ≡ Some h) × (is_asked (Some gate) h ≡ true)
     × ((n : ℕ) × (new ≡ Some (record { bytes = h.bytes; appended = false; file = n }))))
 
--- Some of the group's first entries in Append and some of its values there, in files up to the gate, are in Rewrite
--- now. All else is unchanged, and so are the tombstones that the group owes.
+-- From `v` to `w`, some of the group's first entries in Append and some of its values there moved to Rewrite, perhaps
+-- none. They were in files up to the gate. All else is unchanged, also the tombstones that the group owes.
 pub record IsPartlyRewritten (gate : ℕ) (v w : Shown) : Type 0 where
   pub first : w.first ≡ v.first
   pub all : length w.places ≡ length v.places

@@ -18,13 +18,15 @@ abbrev pub AreNoMarks : List LogItem → Type 0
 AreNoMarks [] = Unit {0}
 AreNoMarks (x ∷ xs) = (has_mark_key x ≡ false) × AreNoMarks xs
 
--- the batch is being filled, and its items say the same as `items`
+-- The batch is being filled. Its items make the same changes to the same groups as `items`, and none of them is a mark
+-- of an atomic group.
 pub record SaysSame (items : List LogItem) (b : Batch) : Type 0 where
   pub state : b.state ≡ Filling
   pub plain : AreNoMarks b.items
   pub said : tagged_items {E = EntryIndex} (λ e. e) b.items ≡ tagged_items (λ e. e) items
 
--- one item was added to the batch, which says the same as `x`
+-- One item was added to the batch `old`, which is `new` now. The added item makes the same change as `x`, and neither
+-- is a mark of an atomic group.
 pub record AddsSame (old new : Batch) (x : LogItem) : Type 0 where
   pub added : LogItem
   pub items : new.items ≡ old.items ++ added ∷ []

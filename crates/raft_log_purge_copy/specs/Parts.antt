@@ -1,4 +1,4 @@
--- What is true after a part of a purge failed, and of the record of a batch that a purge writes.
+-- What a part of a purge leaves if it fails, and what the record of a batch that a purge writes must be.
 use Rattle.std.specs.Prelude.{◌≡◌, ◌↔◌, IsTrue, ℕ, false, []}
 use Rattle.raft_log_fs.specs.Causes.{IsLater}
 use Rattle.raft_log_record_base.specs.declared.errors.Error.{Error}
@@ -12,22 +12,24 @@ use Rattle.raft_log_engine_laws.specs.EngineState.{LogDirectories, IsLaidOut, Lo
 use Rattle.raft_log_engine_laws.specs.Holding.{Represents, IsRecoverableAs}
 use Rattle.raft_log_purge_copy.specs.Reasons.{HasPurgeReason}
 
--- What is true after a part of a purge failed, by the error. `Failed`: the engine has failed, and its log's files can
--- be opened with the contents `m`, nothing pending. Any other error: the log has these contents, and no batch is
--- pending.
+-- What a failed part of a purge left in the engine `t`, by the error. In both cases, no batch is pending.
+-- - `Failed`: an open of the log's files finds the contents `m`.
+-- - Any other error: the engine's log has the contents `m`.
 abbrev pub Remains : LogDirectories → LogMap → EngineState → Error → Type 0
 Remains home m t errors.Failed = IsRecoverableAs home t.pipes.disk m []
 Remains home m t _ = Represents home t m []
 
--- The part that writes the owed tombstones failed, and `error` says why. The engine has failed now exactly if the
--- error is `Failed`. If no batch was pending, the log keeps its contents.
+-- The part that writes the owed tombstones failed, and `error` says why. If the engine hadn't failed before, it has
+-- failed now exactly if the error is `Failed`. If no batch was pending, the log, or an open of its files, has the same
+-- contents.
 pub record PartIsRefused (error : Error) (s t : EngineState) : Type 0 where
   pub tells : has_failed s ≡ false → IsTrue (has_failed t) ↔ (error ≡ errors.Failed)
   pub later : IsLater s.pipes.disk t.pipes.disk
   pub remains : (home : LogDirectories) (m : LogMap) → Represents home s m [] → Remains home m t error
   pub cause : (home : LogDirectories) (m : LogMap) → Represents home s m [] → HasPurgeReason home m error s t
 
--- the record of batch `b` was encoded as `made`; it has the contents of `b`, whichever file it is then signed for
+-- `made` has the items and entries of batch `b`. Unless `b` is empty, its bytes for any file are read there as one
+-- record with its contents.
 pub record IsRecordMade (b made : Batch) : Type 0 where
   pub items : made.items ≡ b.items
   pub entries : made.entries ≡ b.entries
@@ -38,7 +40,8 @@ pub record IsRecordMade (b made : Batch) : Type 0 where
 abbrev pub append_file : LogPipes → ℕ
 append_file v = (pipe_at InAppend (files_of v)).active.seq
 
--- Append's active file has the same number, and if `v` ran over a log, `w` runs over one in the same directories.
+-- If the pipes `v` run over a log, the pipes `w` run over one in the same directories. Append's active file then has
+-- the same number in both.
 abbrev pub StaysInFile : LogPipes → LogPipes → Type 0
 StaysInFile v w = (home : LogDirectories) (s : State) → RunsOn (sense home) v s
     → ((next : State) × RunsOn (sense home) w next) × (append_file w ≡ append_file v)

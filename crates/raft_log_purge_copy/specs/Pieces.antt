@@ -46,14 +46,15 @@ abbrev pub BeginsAt : ℕ → List ℕ → Type 0
 BeginsAt f [] = Unit {0}
 BeginsAt f (i ∷ is) = i ≡ f
 
--- items that put these values of the group's keys were added to the batch `old`
+-- items that put these values under these keys of group `g` were added to the batch `old`; none is a mark of an atomic
+-- group
 pub record AddsKeys (g : ℕ) (pairs : List (List ℕ × List ℕ)) (old new : Batch) : Type 0 where
   pub state : new.state ≡ Filling
   pub items : new.items ≡ old.items ++ map (λ e. put_item g e.0 e.1) pairs
   pub entries : new.entries ≡ old.entries
   pub plain : AreNoMarks (map (λ e. put_item g e.0 e.1) pairs)
 
--- The entries `es` were read, and the batch has them, and then the group's keys with their values.
+-- The entries `es` of group `g` were read. Batch `b` has their bytes as one run, and then these keys with their values.
 pub record BuildsPiece (g : ℕ) (es : List EntryIndex) (pairs : List (List ℕ × List ℕ)) (v : LogPipes)
     (old new : BlockCache) (b : Batch) : Type 0 where
   pub read : List RawMessage

@@ -11,11 +11,12 @@ use Rattle.raft_log_memtables.specs.Rewriting.{entries_of}
 use Rattle.raft_log_purge_copy.specs.declared.parts.RestatedPart.{RestatedPart}
 use Rattle.raft_log_purge_copy.specs.GroupParts.{items_of_all}
 
--- no table has room reserved for entries that are to move; what was reserved for copies was used, or released
+-- no table has room reserved for entries that are to move to Rewrite
 abbrev pub PromisesNoMoves : MemTables → Type 0
 PromisesNoMoves m = (g : ℕ) → (promise_of m g).moves ≡ 0
 
--- if no room was reserved for moves before the call, none is after it, unless the call failed and so have the pipes
+-- Let the tables `old`, before a call, have no room reserved for moves. Then `new`, those after it, have none if the
+-- call succeeded, or if the pipes `w` haven't failed.
 abbrev pub LeavesNoMoves : {A E : Type 0} → Result A E → LogPipes → MemTables → MemTables → Type 0
 LeavesNoMoves result w old new = OnErr result (is_failed w ≡ false) → PromisesNoMoves old → PromisesNoMoves new
 
@@ -29,6 +30,7 @@ abbrev pub IsInAllOrNone : ℕ → List RestatedPart → List LogItem → Type 0
 IsInAllOrNone g parts items = (AllMention g parts × (mentions g items ≡ true))
     ⊎ (entries_of g (tagged_items {E = EntryIndex} (λ e. e) (items_of_all parts ++ items)) ≡ 0)
 
--- the parts and `items` restate one group: each group has items in all of them, or has no entries in any
+-- Each group has items in all the parts and in `items`, or has no entries in any of them. This is so if the parts and
+-- `items` restate one group.
 abbrev pub AreOfOne : List RestatedPart → List LogItem → Type 0
 AreOfOne parts items = (g : ℕ) → IsInAllOrNone g parts items

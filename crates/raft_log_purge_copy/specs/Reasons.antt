@@ -33,11 +33,10 @@ IsOneUnread home m t error =
 abbrev pub HasMarkValue : LogMap → Type 0
 HasMarkValue m = (value : List ℕ) × (m 0 (Key mark_key) ≡ Some (Value value))
 
--- An append of a batch's record to Rewrite failed with `error`, and was the last step. The error comes from the pipe's
--- file system calls:
--- - `Io`, `TryAgain`: the write failed, and what it had written was truncated, and the rest synced
--- - `Io`: the error kind of the file system, any but lack of space
--- - `TryAgain`: lack of space, and the pipe rotated
+-- The last step from `s` to `t` was an append of a batch's record to Rewrite, which failed with `error`. If that is
+-- `Io` or `TryAgain`, what was written of the record was truncated away.
+-- - `Io` has the error kind of the file system.
+-- - `TryAgain`: space was lacking, and the pipe rotated.
 pub record RecordIsRefused (error : Error) (s t : EngineState) : Type 0 where
   pub before : LogPipes
   pub batch : Batch
@@ -69,7 +68,7 @@ HasReason home m (errors.InvalidArgument text) s t = HasMarkValue m
 HasReason home m errors.Memory s t = Unit {0}
 HasReason home m _ s t = ⊥
 
--- if the log had the contents `m` with nothing pending, `error` has one of the reasons in `HasReason`
+-- if the log had the contents `m` in `s`, with no batch pending, `error` has one of the reasons in `HasReason`
 abbrev pub GivesReason : Error → EngineState → EngineState → Type 0
 GivesReason error s t = (home : LogDirectories) (m : LogMap) → Represents home s m [] → HasReason home m error s t
 
@@ -86,7 +85,8 @@ HasFileReason errors.NumberRange s t = EndsItsNumbers t.pipes
 HasFileReason errors.Memory s t = Unit {0}
 HasFileReason _ s t = ⊥
 
--- The reason why a later part failed is also one of the whole purge: the earlier steps don't remove the cause.
+-- A purge went from `s` to `t`, and then a part of it failed, which left `u`. The reason of this part is also a reason
+-- of the whole purge: failures on a disk are counted, and no step takes one back.
 abbrev pub LaterReasonsAreReasons : Type 0
 LaterReasonsAreReasons = (home : LogDirectories) (m : LogMap) (error : Error) (s t u : EngineState)
     → IsLater s.pipes.disk t.pipes.disk → HasReason home m error t u → HasReason home m error s u

@@ -17,8 +17,8 @@ use Rattle.raft_log_engine_laws.specs.EngineState.{IsLaidOut}
 use Rattle.raft_log_purge_copy.specs.Refusals.{IsUnrecorded}
 use Rattle.raft_log_purge_copy.specs.Syncing.{MaySync}
 
--- The batch's record was written to Rewrite at `block`, perhaps after a sync. `items` are the batch's items with the
--- locations of their entries there.
+-- The batch's record was written to Rewrite at `block`, perhaps after a sync; the pipes were `v` before, and are `w`
+-- now. `items` are the batch's items with the locations of their entries there.
 pub record WritesToRewrite (b : Batch) (block : FileBlockHandle) (items : List LogItem) (v w : LogPipes)
     : Type 0 where
   pub synced : LogPipes
@@ -50,7 +50,8 @@ IsUnwritten b error v w = (IsUnrecorded b error × (w ≡ v))
     ⊎ (((error ≡ errors.Failed) × FailsToSyncQueue InRewrite v w)
     ⊎ RefusesRecord b error v w)
 
--- the batch's record wasn't written; the pipes have failed now exactly if the error is `Failed`
+-- The batch's record wasn't written. If the pipes hadn't failed before, they have failed now exactly if the error is
+-- `Failed`.
 pub record FailsToWriteRecord (b : Batch) (error : Error) (v w : LogPipes) : Type 0 where
   pub why : IsUnwritten b error v w
   pub tells : is_failed v ≡ false → IsTrue (is_failed w) ↔ (error ≡ errors.Failed)

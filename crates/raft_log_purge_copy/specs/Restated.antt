@@ -28,7 +28,7 @@ IsNotedFrom n (Some files) = n ≤ files.from
 -- From `v` to `w` the group was restated: all entries and values that it has in Rewrite are in file `n` and later
 -- ones.
 -- - The files noted for atomic groups begin no earlier than the lower of `n` and where they began before.
--- - If they began past a file below `n`, or ended at or before it, they still do.
+-- - If they began after a file below `n`, or ended at or before it, one of the two still holds.
 -- - The group owes the same tombstones.
 pub record IsRestatedFrom (n : ℕ) (v w : Shown) : Type 0 where
   pub entries : LieFrom n (take w.rewritten w.places)
@@ -41,12 +41,12 @@ pub record IsRestatedFrom (n : ℕ) (v w : Shown) : Type 0 where
 abbrev pub last_file : EngineState → ℕ
 last_file s = written_file Rewrite s.pipes
 
--- if the log had the contents `m` with nothing pending, it still has them
+-- if the log had the contents `m` in `s`, with no batch pending, it still has them in `t`
 abbrev pub StaysHeld : EngineState → EngineState → Type 0
 StaysHeld s t = (home : LogDirectories) (m : LogMap) → Represents home s m [] → Represents home t m []
 
--- Let the log have the contents `m`, with nothing pending. It still has them; or the engine has failed, and its files
--- can be opened with them.
+-- Let the log have the contents `m` in `s`, with no batch pending. It still has them in `t`; or the error is `Failed`,
+-- and an open of its files finds them.
 abbrev pub StaysOrIsLeft : Error → EngineState → EngineState → Type 0
 StaysOrIsLeft error s t = (home : LogDirectories) (m : LogMap) → Represents home s m []
     → Represents home t m [] ⊎ ((error ≡ errors.Failed) × IsRecoverableAs home t.pipes.disk m [])
@@ -79,7 +79,7 @@ pub record FailsToRestate (error : Error) (s t : EngineState) : Type 0 where
 abbrev pub RestatesEach : List ℕ → EngineState → EngineState → Type 0
 RestatesEach groups s t = Restates (λ g. list_any (λ k. k == g) groups) s t
 
--- Not all of these groups were restated, and other groups are unchanged. The error says why.
+-- Restating these groups failed, perhaps after some were restated. Other groups are unchanged. The error says why.
 pub record StopsRestating (groups : List ℕ) (error : Error) (s t : EngineState) : Type 0 where
   pub others : (g : ℕ) → list_any (λ k. k == g) groups ≡ false → t.tables g ≡ s.tables g
   pub counts : t.counts ≡ s.counts

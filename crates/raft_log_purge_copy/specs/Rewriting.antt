@@ -19,18 +19,18 @@ use Rattle.raft_log_purge_copy.specs.Reasons.{GivesReason}
 abbrev pub OweNothing : (ℕ → Shown) → Type 0
 OweNothing v = (g : ℕ) → OwesNothing (whereabouts (v g))
 
--- if the log had the contents `m` with nothing pending and no tombstone owed, it still has them
+-- if the log had the contents `m` in `s`, with no batch pending and no tombstone owed, it still has them in `t`
 abbrev pub StaysHeld : EngineState → EngineState → Type 0
 StaysHeld s t = OweNothing s.tables → (home : LogDirectories) (m : LogMap) → Represents home s m [] → Represents home t m []
 
--- Let the log have the contents `m`, with nothing pending and no tombstone owed. It still has them; or the engine has
--- failed, and its files can be opened with them.
+-- Let the log have the contents `m` in `s`, with no batch pending and no tombstone owed. It still has them in `t`; or
+-- the error is `Failed`, and an open of its files finds them.
 abbrev pub StaysOrIsLeft : Error → EngineState → EngineState → Type 0
 StaysOrIsLeft error s t = OweNothing s.tables → (home : LogDirectories) (m : LogMap) → Represents home s m []
     → Represents home t m [] ⊎ ((error ≡ errors.Failed) × IsRecoverableAs home t.pipes.disk m [])
 
--- The first entries that the group has in Append, at least one and all in files up to the gate, were copied to
--- Rewrite. Nothing else changed in the tables.
+-- The first entries that the group has in Append, at least one, were copied to Rewrite in one record. They were in
+-- files up to the gate. Nothing else changed in the tables.
 pub record CopiesEntries (group gate : ℕ) (s t : EngineState) : Type 0 where
   pub entries : List EntryIndex
   pub next : AreNext gate (s.tables group) entries
@@ -42,8 +42,8 @@ pub record CopiesEntries (group gate : ℕ) (s t : EngineState) : Type 0 where
   pub advances : Advances group (length entries) s.tables t.tables
   pub holds : StaysHeld s t
 
--- the first entries that the group has in Append, in files up to the gate, were copied; or there were none, and
--- nothing was done
+-- `true`: the first entries that the group has in Append, in files up to the gate, were copied to Rewrite. `false`:
+-- there are none, and nothing was done.
 abbrev pub CopiesIfAny : ℕ → ℕ → Bool → EngineState → EngineState → Type 0
 CopiesIfAny group gate true s t = CopiesEntries group gate s t
 CopiesIfAny group gate false s t = (t ≡ s) × AreNext gate (s.tables group) []

@@ -1,5 +1,5 @@
--- A purge of all stale files: each queue rotates. Then all its files below the lowest in which a group has an entry or
--- value leave its live range.
+-- A purge of all stale files: each queue rotates, and then all its files below the lowest that a group needs leave its
+-- live range.
 use Rattle.std.specs.Prelude.{◌≡◌, ◌↔◌, ◌⊎◌, IsTrue, ℕ, List, false}
 use Rattle.raft_log_model_laws.specs.Groups.{taken}
 use Rattle.raft_log_fs.specs.Causes.{IsLater}
@@ -24,8 +24,9 @@ use Rattle.raft_log_purge_copy.specs.Reasons.{HasFileReason, HasPurgeReason}
 abbrev pub written_file : LogQueue → LogPipes → ℕ
 written_file queue v = (pipe_at (which_of queue) (files_of v)).active.seq
 
--- The queue rotated. Then the files before the new active one left its live range, up to the lowest in which any group
--- has an entry or value. A log with nothing pending keeps its contents, for Append only if no tombstone is owed.
+-- The queue rotated. Then its files below the lowest that any group needs left its live range. If no group needs one,
+-- all below the new active file left it. A log with nothing pending keeps its contents, if no tombstone is owed or the
+-- queue is Rewrite.
 pub record TurnsAndLoses (queue : LogQueue) (m : MemTables) (count : ℕ) (s t : EngineState) : Type 0 where
   pub turned : LogPipes
   pub turns : RotatesQueue (which_of queue) s.pipes turned
@@ -36,7 +37,8 @@ pub record TurnsAndLoses (queue : LogQueue) (m : MemTables) (count : ℕ) (s t :
       → MayLoseFiles (which_of queue) s.tables → HoldsSettled home t log
 
 -- The queue's rotation failed, or its files failed to leave the live range; the error says why. A log with nothing
--- pending keeps its contents; if the engine has failed, its files can be opened with them.
+-- pending keeps its contents, or an open finds them if the error is `Failed`. For Append, this requires that no
+-- tombstone is owed.
 pub record FailsToTurn (queue : LogQueue) (error : Error) (s t : EngineState) : Type 0 where
   pub tells : has_failed s ≡ false → IsTrue (has_failed t) ↔ (error ≡ errors.Failed)
   pub later : IsLater s.pipes.disk t.pipes.disk
@@ -45,8 +47,8 @@ pub record FailsToTurn (queue : LogQueue) (error : Error) (s t : EngineState) : 
   pub cause : (home : LogDirectories) (log : LogMap) → HoldsSettled home s log → HasFileReason error s t
 
 -- All stale files were purged. Append was synced, and the owed tombstones were written to Rewrite. Then each queue,
--- Rewrite first, rotated and lost the files below the lowest in which a group has an entry or value. The log has the
--- same contents, and nothing is pending in either queue.
+-- Rewrite first, rotated, and its files below the lowest that a group needs left its live range. The log's contents
+-- are those with the batches that were pending, and nothing is pending in either queue.
 pub record PurgesAllStale (m : MemTables) (s t : EngineState) : Type 0 where
   pub synced : LogPipes
   pub syncs : SyncsQueue InAppend s.pipes synced
@@ -62,8 +64,9 @@ pub record PurgesAllStale (m : MemTables) (s t : EngineState) : Type 0 where
   pub settles : (home : LogDirectories) (log : LogMap) (pending : List LogRecordValue) → Represents home s log pending
       → HoldsSettled home t (taken log pending)
 
--- A purge of all stale files failed, and the error says why. The log has the same contents. If the engine has failed,
--- its files can be opened, with the batches that were pending now durable or still pending.
+-- A purge of all stale files failed, and the error says why:
+-- - `Failed`: the log's files can be opened, with the batches that were pending now durable or still pending.
+-- - Any other error: the log has its contents with these batches, and none is pending.
 pub record FailsToPurgeAll (error : Error) (s t : EngineState) : Type 0 where
   pub tells : has_failed s ≡ false → IsTrue (has_failed t) ↔ (error ≡ errors.Failed)
   pub later : IsLater s.pipes.disk t.pipes.disk

@@ -1,4 +1,5 @@
--- The steps by which a group's entries and keys in Rewrite are restated as an atomic group.
+-- The steps by which a group's entries and keys in Rewrite are restated as an atomic group. `v` and `old` are the
+-- pipes and the cached block before a step, `w` and `new` those after it.
 use Rattle.std.specs.Prelude.{◌≡◌, ◌+◌, ◌<◌, ℕ, List, [], ◌∷◌, length, take, drop}
 use Rattle.raft_log_record_base.specs.declared.errors.Error.{Error}
 use Rattle.raft_log_record_items.specs.declared.entry.EntryIndex.{EntryIndex}
@@ -59,8 +60,8 @@ GivesUpLast g number es done parts pairs error v old new = (m : MemTables) (s : 
     → ListsAll (rewritten_values (s.tables g)) pairs → HasParts g number done parts s (shows v m old)
     → FailsToRestate error s (shows v m new)
 
--- The batch may end atomic group `number`. It has the remaining entries that group `g` has in Rewrite after the first
--- `done`, at least one. It also has all keys that the group has there, with their values.
+-- The batch can end atomic group `number`. It has the entries that group `g` has in Rewrite after the first `done`, at
+-- least one, and these keys with their values.
 pub record IsLastPart (g number done : ℕ) (pairs : List (List ℕ × List ℕ)) (b : Batch) (s : EngineState) : Type 0 where
   pub bytes : List (List ℕ)
   pub is : IsMarkedPiece g ((s.tables g).first + done) number End bytes pairs b
@@ -70,7 +71,7 @@ pub record IsLastPart (g number done : ℕ) (pairs : List (List ℕ × List ℕ)
   pub says : (home : LogDirectories) (m : LogMap) → Represents home s m []
       → AreEntryBytes m g ((s.tables g).first + done) bytes
 
--- a batch was made that may end the atomic group, which is still open with the same parts
+-- a batch was made that can end the atomic group, which is still open with the same parts
 abbrev pub MakesLast : ℕ → ℕ → List EntryIndex → ℕ → List RestatedPart → List (List ℕ × List ℕ) → Batch
     → LogPipes → BlockCache → BlockCache → Type 0
 MakesLast g number es done parts pairs b v old new = (m : MemTables) (s : EngineState)

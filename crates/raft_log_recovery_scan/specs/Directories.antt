@@ -31,7 +31,7 @@ TellsNoDirectory path (errors.Other why) = HasMessage (Some (told_no_directory p
 TellsNoDirectory path errors.Memory = Unit {0}
 TellsNoDirectory path _ = ⊥
 
--- Why a call that makes a directory, unless it is there, fails, and the disk after it:
+-- Why a call fails that makes a directory if it is missing, and the disk after it:
 -- - `Other`: a file has the path, which is in the message; nothing changed
 -- - `Io`: the file system failed to make it, or had stopped
 -- - `Memory`: memory ran out; nothing changed
@@ -61,8 +61,9 @@ pub record FailsToHaveAll (directories : List (List ℕ)) (error : Error) (old n
 
 -- Reading them.
 
--- The errors for a call that changes nothing, and that the file system failed with `kind`. `Io` has this kind, which
--- isn't `OutOfMemory` unless the file system has stopped. `Memory` is returned only if it hasn't stopped.
+-- The error for a call that changes nothing, if the file system failed it with `kind`:
+-- - after a stop, `Io` with this kind
+-- - before one, `Memory`; or `Io` with this kind, if it isn't `OutOfMemory`
 abbrev pub TellsRefusal : Bool → ErrorKind → Error → Type 0
 TellsRefusal stopped kind (errors.Io told) = (told ≡ kind) × ((stopped ≡ true) ⊎ (kind ≡ OutOfMemory → ⊥))
 TellsRefusal stopped kind errors.Memory = stopped ≡ false

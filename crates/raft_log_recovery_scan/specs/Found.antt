@@ -12,7 +12,7 @@ use Rattle.raft_log_recovery_scan.specs.declared.scanning.found.FoundFile.{Found
 -- Among names.
 
 -- `files` are the log files of this kind among `names`, in the order of the names. `place` is the position of their
--- directory in the settings. No name is misnamed: with a number and more text before its suffix.
+-- directory in the settings. No name is misnamed (`IsMisnamed`).
 abbrev pub AreAmong : FileKind → ℕ → List (List ℕ) → List FoundFile → Type 0
 AreAmong kind place [] files = files ≡ []
 AreAmong kind place (name ∷ names) files = (IsOther kind name × AreAmong kind place names files)

@@ -65,7 +65,8 @@ FailsToFindFiles directories d (errors.Corruption text) = TellsMisnamedIn direct
 FailsToFindFiles directories d errors.Memory = Unit {0}
 FailsToFindFiles directories d _ = ⊥
 
--- the directories are there, nothing else changed, and `scanned` has their files
+-- the directories are there, nothing else changed, and `scanned` has their files after the last break in the numbers,
+-- open
 pub record Scans (directories : List (List ℕ)) (mode : RecoveryMode) (scanned : ScannedFiles)
     (old new : Disk) : Type 0 where
   pub made : HasDirectories directories old new

@@ -1,4 +1,4 @@
--- Answers that the model explains, with no word on engines or files.
+-- Runs and answers that the model explains.
 use Rattle.std.specs.Prelude.{◌≡◌, List, [], ◌∷◌}
 use Rattle.raft_log_world.specs.declared.event.Answer.{Answer}
 use Rattle.raft_log_world.specs.declared.event.Event.{Event}
@@ -9,9 +9,9 @@ use Rattle.raft_log_world.specs.Model.{Answers, BatchRecord, ModelLog}
 use Rattle.raft_log_world.specs.Logs.{Asks, LogOf, Stands}
 use Rattle.raft_log_world.specs.Run.{IsLogRun, Moment}
 
--- From moment to moment the model gives the same answers. At first, `at` is known to be the log `log`, and after each
--- moment the engine or the files are known to be the log that the model becomes. After a CRC collision nothing is
--- claimed.
+-- From `log` on, which `at` represents, the model gives each moment's answer in turn. After each moment, the engine or
+-- the files represent the log that the model becomes. Nothing is claimed from a CRC collision on, nor from a copy on
+-- whose target isn't clear.
 abbrev pub Goes :
     {S F B C : Type 0}
     → (l : LogOf S F B C) (at : Storage S F) (log : ModelLog) → Stands l at log → List (Moment S F B C) → Type 0
@@ -21,7 +21,8 @@ Goes l at log known (m ∷ ms) =
     → (next : ModelLog) × Answers l.says log m.event m.answer next
     × ((still : Stands l m.now next) × Goes l m.now next still ms)
 
--- If the first files of a run are known to represent a model log, it goes on from there through all moments of the run.
+-- Let the files with which a run begins represent a model log. From that log on, the model explains all moments of the
+-- run, as `Goes` says.
 abbrev pub AllGoOn : {S F B C : Type 0} → LogOf S F B C → Type 0
 AllGoOn {S} {F} {B} {C} l =
     (files : F) (events : List (Event B C)) (report : LogReport S F) (run : IsLogRun l files events report)
@@ -35,14 +36,16 @@ Explains says log (event ∷ events) (answer ∷ answers) last =
     (next : ModelLog) × Answers says log event answer next × Explains says next events answers last
 Explains says log events answers last = ⊥
 
--- none of these moments meets a CRC collision, whichever log it happens to, and each copy has a clear target
+-- none of these moments meets a CRC collision, whichever model log is represented before it, and each copy has a clear
+-- target
 abbrev pub NoneCollides : {S F B C : Type 0} → LogOf S F B C → Storage S F → List (Moment S F B C) → Type 0
 NoneCollides l at [] = Unit {0}
 NoneCollides l at (m ∷ ms) =
     ((log : ModelLog) (is : l.is at log) → Asks l at log is m.event m.now) × NoneCollides l m.now ms
 
--- If the files are a log of the model, and no moment of a run meets a CRC collision, the model explains the report's
--- answers. What is left is the log that it has become.
+-- Let the files with which a run begins represent a model log. If no moment meets a CRC collision, and each copy has a
+-- clear target, the model explains the report's answers. The report's engine or files represent the log that the model
+-- has become.
 abbrev pub AllExplained : {S F B C : Type 0} → LogOf S F B C → Type 0
 AllExplained {S} {F} {B} {C} l =
     (files : F) (events : List (Event B C)) (report : LogReport S F) (run : IsLogRun l files events report)

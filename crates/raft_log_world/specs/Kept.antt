@@ -24,28 +24,29 @@ pending_in (left m pending) = pending
 pending_in (running m pending) = pending
 pending_in (failed m pending) = pending
 
--- the records of the batches that these events write, a compaction's among them
+-- the records of all batches that these events ask to write, those of compactions included, whether or not the events
+-- succeed
 abbrev pub written_in : {B C : Type 0} → (B → BatchRecord) → List (Event B C) → List BatchRecord
 written_in says [] = []
 written_in says (Serve (Write batch sync) ∷ events) = says batch ∷ written_in says events
 written_in says (Serve (Compact group index) ∷ events) = compacts group index ∷ written_in says events
 written_in says (event ∷ events) = written_in says events
 
--- the first list is a part of the second: its elements are elements of it, in the same order
+-- the first list is a subsequence of the second: its elements occur there in the same order
 abbrev pub IsPart : {A : Type 0} → List A → List A → Type 0
 IsPart [] ys = Unit {0}
 IsPart (x ∷ xs) [] = ⊥
 IsPart (x ∷ xs) (y ∷ ys) = ((x ≡ y) × IsPart xs ys) ⊎ IsPart (x ∷ xs) ys
 
--- The durable contents of `last` are those of `log`, and then the batches `done`, whole and in order. These, and those
--- that are pending in `last`, are a part of `batches`.
+-- The durable contents of `last` are those of `log`, and then the batches `done`, whole and in order. `done`, followed
+-- by the batches that are pending in `last`, is a subsequence of `batches`.
 pub record GrowsBy (log : ModelLog) (batches : List BatchRecord) (last : ModelLog) : Type 0 where
   pub done : List BatchRecord
   pub contents : durable last ≡ taken (durable log) done
   pub part : IsPart (done ++ pending_in last) batches
 
--- Whatever happens to a log: its durable contents stay. To these some of the batches are added that were pending, or
--- that the events wrote, each of them whole.
+-- Whatever happens to a log, its durable contents stay. Only batches are added to them, whole and in order: some of
+-- those that were pending or that the events asked to write.
 abbrev pub KeepsDurable : Type 0 → Type 0 → Type 0
 KeepsDurable B C =
     (says : B → BatchRecord) (log last : ModelLog) (events : List (Event B C)) (answers : List Answer)

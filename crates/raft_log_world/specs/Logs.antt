@@ -1,5 +1,5 @@
--- What it means that an engine, or the files of a log, are a log of the model; and that an event leads from one to
--- another.
+-- What it means that an engine, or the files of a log, represent a log of the model, and that the model explains an
+-- event.
 use Rattle.std.specs.Prelude.{◌≡◌, ℕ, Bool, true, false, List}
 use Rattle.std.specs.String.{string_bytes}
 use Rattle.raft_log_world.specs.declared.event.Answer.{Answer}
@@ -11,10 +11,10 @@ use Rattle.raft_log_world.specs.Model.{Answers, BatchRecord, ModelLog, is_open}
 use Rattle.raft_log_world.specs.Model.ModelLog.{resting, left}
 
 -- What an implementation of a log defines. `S` are engines, `F` files, `B` batches, and `C` says what a crash leaves:
--- - `is`: an engine, or the files, may be this log of the model;
+-- - `is`: an engine, or the files, represent this log of the model;
 -- - `says`: the record of a batch;
--- - `read_spared`: given that, there is no CRC collision in the files as they are;
--- - `crash_spared`: given that, there is none in the files that a crash left;
+-- - `read_spared`: they represent the log, and there is no CRC collision in the files;
+-- - `crash_spared`: they represent the log, and there is no CRC collision in the files that a crash left;
 -- - `is_clear`: files may be copied into this directory.
 pub record LogOf (S F B C : Type 0) : Type 1 where
   pub is : Storage S F → ModelLog → Type 0
@@ -28,23 +28,23 @@ abbrev pub has_engine : {S F : Type 0} → Storage S F → Bool
 has_engine (Closed files) = false
 has_engine (Open engine) = true
 
--- an engine or files are this log of the model, which an engine has open or not
+-- `at` represents this log of the model; it is an engine exactly if the log is one that an engine has open
 abbrev pub Stands : {S F B C : Type 0} → LogOf S F B C → Storage S F → ModelLog → Type 0
 Stands l at log = (is_open log ≡ has_engine at) × l.is at log
 
--- `P`, if a close or a failed open left the log
+-- `P` holds, if the log is one that a close or a failed open left
 abbrev pub IfLeft : ModelLog → Type 0 → Type 0
 IfLeft (left m pending) P = P
 IfLeft log P = Unit {0}
 
--- `P`, unless a crash left the log
+-- `P` holds, unless the log is one that a crash or a copy left
 abbrev pub UnlessResting : ModelLog → Type 0 → Type 0
 UnlessResting (resting m) P = Unit {0}
 UnlessResting log P = P
 
--- What an event asks of chance, if it leads to `now`. An open and a copy ask it of the files, if a close or a failed
--- open left them. A crash asks it of the files that it leaves. If a crash left the log, nothing is asked. A copy also
--- asks for a clear target.
+-- The premise under which the model explains an event that leads to `now`. An open or a copy: no CRC collision in the
+-- files, if a close or a failed open left them. A crash: none in the files that it leaves, unless a crash or a copy had
+-- left the log before. A copy also: its target is clear. Any other event has no premise.
 abbrev pub Asks :
     {S F B C : Type 0}
     → (l : LogOf S F B C) (at : Storage S F) (log : ModelLog) → l.is at log → Event B C → Storage S F → Type 0
@@ -53,8 +53,8 @@ Asks l at log is (Fork target) now = l.is_clear at (string_bytes target) × IfLe
 Asks l at log is (Crash what) (Closed files) = UnlessResting log (l.crash_spared at log is what files)
 Asks l at log is event now = Unit {0}
 
--- The event had this answer, and led from `at` to `now`. Whichever log of the model `at` is, the model gives this
--- answer too, and `now` is the log that it becomes. After a CRC collision nothing is claimed.
+-- The model explains that the event had this answer and led from `at` to `now`: whichever log of the model `at`
+-- represents, the model gives this answer too, and `now` represents the log that it becomes. The premise is `Asks`.
 abbrev pub Follows :
     {S F B C : Type 0} → LogOf S F B C → Storage S F → Event B C → Answer → Storage S F → Type 0
 Follows l at event answer now =

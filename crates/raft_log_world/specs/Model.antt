@@ -21,7 +21,7 @@ BatchRecord = Record (List ℕ) (List ℕ)
 
 -- A log: its durable contents, and the batches that were written after them and aren't synced yet, in order.
 -- - `resting`: no engine has it open, and all of it is durable. A crash leaves it so.
--- - `left`: no engine has it open. A close or an open that failed left it so.
+-- - `left`: no engine has it open. A close, or a failed open, left it so.
 -- - `running`: an engine has it open.
 -- - `failed`: an engine has it open, and has failed.
 pub data ModelLog : Type 0 where
@@ -37,7 +37,8 @@ is_open (left m pending) = false
 is_open (running m pending) = true
 is_open (failed m pending) = true
 
--- The engine runs, and no batch of these is lost. The first few are durable, and the others are pending.
+-- The engine runs on durable contents that were `m`, and none of these batches is lost. The first few are durable now,
+-- and the others are pending.
 pub record RunsOn (m : Contents) (batches : List BatchRecord) (next : ModelLog) : Type 0 where
   pub done : List BatchRecord
   pub rest : List BatchRecord
@@ -53,7 +54,7 @@ abbrev pub HasWritten : Bool → Contents → List BatchRecord → ModelLog → 
 HasWritten true m batches next = next ≡ running (taken m batches) []
 HasWritten false m batches next = RunsOn m batches next
 
--- the batch is written after the pending ones; one that changes nothing need not be
+-- the batch is written after the pending ones; a batch without items need not be written
 abbrev pub Adds : Bool → Contents → List BatchRecord → BatchRecord → ModelLog → Type 0
 Adds sync m pending batch next = HasWritten sync m (pending ++ batch ∷ []) next
     ⊎ ((items_of batch ≡ []) × HasWritten sync m pending next)
@@ -73,7 +74,8 @@ FailsAt m pending batch next = (next ≡ failed m pending) ⊎ (next ≡ failed 
 
 -- How an engine that runs answers a call, and what the log is afterwards. Before the call its durable contents are `m`,
 -- and `pending` are the pending batches. `says` gives the record of a batch.
--- - A write that succeeds adds its batch, and a compaction its record. A sync, and a purge, make all batches durable.
+-- - A write that succeeds adds its batch, and a compaction its record. A sync that succeeds makes all batches durable,
+--   and so does a purge after which the engine runs on.
 -- - A read returns what the contents have once all batches are applied. A read of the first or last index doesn't fail.
 -- - If a call fails and the engine runs on, the call leaves no trace of its batch, and loses no other batch.
 -- - If the engine fails in a write or a compaction, the batch or the record of the compaction may be written or not.
@@ -107,7 +109,8 @@ Serves says m pending (Purge kind) Refused next = next ≡ running (taken m pend
 Serves says m pending (Purge kind) Failed next = (next ≡ failed m pending) ⊎ (next ≡ failed (taken m pending) [])
 Serves says m pending call answer next = ⊥
 
--- a call or a close does nothing if no engine has the log open, and an open or a copy if one has
+-- the event does nothing: it is a call or a close, and no engine has the log open; or it is an open or a copy, and an
+-- engine has the log open
 abbrev pub IsIdle : {B C : Type 0} → Bool → Event B C → Type 0
 IsIdle opened (Open workers) = opened ≡ true
 IsIdle opened (Serve call) = opened ≡ false
@@ -117,8 +120,8 @@ IsIdle opened (Crash what) = ⊥
 IsIdle opened (Arm fault) = ⊥
 
 -- How the log answers an event, and what it is then:
--- - After an open the engine runs. What was pending is durable, or its last few batches are lost. If the open fails,
---   the log is as before, or as the open would have found it.
+-- - After an open that succeeds, the engine runs. The last few pending batches may be lost, and the others are durable.
+--   If the open fails, the log is as before, or has what a successful open would have found.
 -- - A close that succeeds makes all batches durable. One that fails leaves them pending.
 -- - A copy that succeeds is the log from then on. All of it is durable, but the last few pending batches may be
 --   missing. One that fails leaves the log as before.

@@ -34,8 +34,8 @@ Syncs (Serve (PurgeCall kind)) = Unit {0}
 Syncs Close = Unit {0}
 Syncs event = ⊥
 
--- A write with a sync succeeded, or a sync, a purge or a close. Whatever happens after it: the contents are those
--- before it with the batch that it wrote, and then some of the batches that were written later.
+-- Let a write with a sync, a sync, a purge or a close succeed. Whatever happens later, the contents are those before
+-- this event, with its batch if it wrote one. After them come some of the batches that later events asked to write.
 abbrev pub SyncedBatchesAreKept : Type 0 → Type 0 → Type 0
 SyncedBatchesAreKept B C =
     (says : B → BatchRecord) (log next last : ModelLog) (event : Event B C)
@@ -43,15 +43,16 @@ SyncedBatchesAreKept B C =
     → Syncs event → Answers says log event Done next → Explains says next events answers last
     → Continues (taken (contents_of log) (written_in says (event ∷ []))) (written_in says events) last
 
--- After any events the contents are the durable ones of the beginning, and then some of the batches that were pending
--- or were written. Each of these is there whole.
+-- After any events, the contents are the durable ones of the beginning, and then whole batches, in order: some of those
+-- that were pending or that the events asked to write.
 abbrev pub BatchesAreWhole : Type 0 → Type 0 → Type 0
 BatchesAreWhole B C =
     (says : B → BatchRecord) (log last : ModelLog) (events : List (Event B C)) (answers : List Answer)
     → Explains says log events answers last
     → Continues (durable log) (pending_in log ++ written_in says events) last
 
--- Whatever happens to `log`: until something is written, the contents are `m` and then the first few of these batches.
+-- Whatever happens to `log`, until an event asks to write a batch or to compact: the contents are `m`, and then the
+-- first few of these batches.
 abbrev pub ShowsFirst : {B : Type 0} → Type 0 → (B → BatchRecord) → ModelLog → Contents → List BatchRecord → Type 0
 ShowsFirst {B} C says log m batches =
     (events : List (Event B C)) (answers : List Answer) (last : ModelLog)
@@ -59,8 +60,8 @@ ShowsFirst {B} C says log m batches =
 
 -- What a write that fails leaves of its batch:
 -- - `refused`: if the engine runs on, the contents are those before the write.
--- - `failed`: if the engine fails, later contents are the durable ones and the first few of the pending batches and
---   this one, until something is written. So this batch is there whole, after all others, or not at all.
+-- - `failed`: if the engine fails, the contents until the next write are the durable ones, and then the first few of
+--   these batches: the pending ones, and this one last. So this one is there whole, after all others, or not at all.
 pub record LeavesNoTrace {B : Type 0} (C : Type 0) (says : B → BatchRecord) (log next : ModelLog) (batch : B)
     (sync : Bool) : Type 0 where
   pub refused : Answers {C = C} says log (Serve (Write batch sync)) Refused next → contents_of next ≡ contents_of log

@@ -18,7 +18,8 @@ abbrev pub behind : {S F B C : Type 0} → Storage S F → List (Moment S F B C)
 behind at [] = at
 behind at (m ∷ ms) = behind m.now ms
 
--- at each of these moments the model gives the same answer, and the engine or the files are the log that it becomes
+-- the model explains each of these moments (`Follows`): the first begins at `at`, and each other one with the engine or
+-- the files that the moment before it left
 abbrev pub FollowAll : {S F B C : Type 0} → LogOf S F B C → Storage S F → List (Moment S F B C) → Type 0
 FollowAll l at [] = Unit {0}
 FollowAll l at (m ∷ ms) = Follows l at m.event m.answer m.now × FollowAll l m.now ms

@@ -7,12 +7,13 @@ use Rattle.std.specs.declared.alloc.Global.{Global}
 abbrev pub Gains : String Global → String Global → List ℕ → Type 0
 Gains old new more = string_bytes new ≡ string_bytes old ++ more
 
--- XML can't contain this character: it is below the space, or is U+FFFE or U+FFFF
+-- The character is left out of the XML: it is below the space, or is U+FFFE or U+FFFF. XML allows none of these except
+-- tab, line feed and carriage return.
 abbrev pub has_no_place : ℕ → Bool
 has_no_place c = nat_lt c 32 || (c == 0xFFFE || c == 0xFFFF)
 
--- The bytes of a character in XML: an entity for `&`, `<`, `>` and the quotes, U+FFFD for one that XML can't contain,
--- and otherwise its UTF-8.
+-- The bytes of a character in the XML: an entity for `&`, `<`, `>` and the quotes, U+FFFD for one that is left out
+-- (`has_no_place`), and otherwise its UTF-8.
 unfoldable pub escaped : ℕ → List ℕ
 escaped c =
     if c == 38 then codes "&amp;"

@@ -52,13 +52,13 @@ abbrev pub fates : List ℕ → Mark → ℕ → List (ℕ × Request) → List 
 fates refused mark place [] = []
 fates refused mark place (q ∷ qs) = fate refused mark place ∷ fates refused mark (place + 1) qs
 
--- the mark of a round's first line: it got replies, or was cut off
+-- the mark of a round's first line, which says whether the round got replies or was cut off
 abbrev pub head_mark : Outcome → Mark
 head_mark (outcomes.Answered replies) = marks.Answered
 head_mark outcomes.Cut = marks.CutOff
 
 -- The mark of the line after the requests that were taken. If the round got replies, it says whether the round wrote,
--- and so synced before it replied. If the round was cut off, its cut is there.
+-- and so synced before it replied. If the round was cut off, the line shows its cut.
 abbrev pub end_mark : Outcome → Bool → Mark
 end_mark (outcomes.Answered replies) true = marks.Durable
 end_mark (outcomes.Answered replies) false = marks.Unchanged
@@ -71,8 +71,8 @@ round_marks round wrote up_to =
     head_mark round.outcome ∷ fates round.refused marks.Taken 0 (take up_to round.requests)
     ++ end_mark round.outcome wrote ∷ fates round.refused marks.Lost up_to (drop up_to round.requests)
 
--- The position up to which a round of `count` requests was taken. This is `count` if it got replies, and otherwise the
--- first of `cuts`, at most `count`.
+-- The position up to which a round of `count` requests was taken. This is `count` if it got replies. Otherwise it is
+-- the first of `cuts`, at most `count`, or 0 if there are no cuts.
 abbrev pub place_of : Outcome → List ℕ → ℕ → ℕ
 place_of (outcomes.Answered replies) cuts count = count
 place_of outcomes.Cut [] count = 0
@@ -92,9 +92,9 @@ behind_outcome outcomes.Cut (cut ∷ cuts) = cuts
 abbrev pub cuts_behind : Round → List ℕ → List ℕ
 cuts_behind round cuts = behind_outcome round.outcome cuts
 
--- The marks of a picture, from top to bottom, one for each event. Each round's event is replaced by the marks of the
--- next of `rounds`. The next of `writes` says whether that round wrote. The first of `cuts` is its cut if it was cut
--- off.
+-- The marks of a picture, from top to bottom: the first argument has one for each event, and each round's mark there is
+-- replaced by the marks of the next of `rounds`. The next of `writes` says whether that round wrote. If the round was
+-- cut off, the next of `cuts` is its cut.
 abbrev pub all_marks : List Mark → List Round → List Bool → List ℕ → List Mark
 all_marks [] rounds writes cuts = []
 all_marks (marks.Round ∷ ms) (round ∷ rounds) (wrote ∷ writes) cuts =

@@ -10,14 +10,14 @@ use Rattle.raft_voter_outline.specs.State.{State}
 use Rattle.raft_voter.specs.Rounds.{World, after, after_one, taken_below}
 use Rattle.raft_voter_timeline.specs.Marks.{cuts_behind, taken_up_to}
 
--- at least one of these requests, taken in order, changes its group's voter
+-- `W` has the groups' voters; at least one of these requests, taken in order, changes its group's voter
 abbrev pub Changes : World → List (ℕ × Request) → Type 0
 Changes W [] = ⊥
 Changes W (q ∷ qs) = (next (W q.0) q.1 ≢ W q.0) ⊎ Changes (after_one W q) qs
 
--- For each round, whether it writes: exactly if a request that it takes changes its group's voter. W has the voters
--- before the first round. Each round takes its requests up to its cut, except those at refused places, and a round with
--- replies has no cut. A reply alone doesn't show a write: a vote that is granted again changes nothing.
+-- `writes` says for each round whether it writes: whether a request that it takes changes its group's voter. `W` has
+-- the voters before the first round. A round takes its requests before its cut, or all if it got replies, except those
+-- at refused places. A reply alone doesn't show a write: a vote that is granted again changes nothing.
 abbrev pub AreWrites : World → List Round → List ℕ → List Bool → Type 0
 AreWrites W [] cuts writes = writes ≡ []
 AreWrites W (round ∷ rounds) cuts [] = ⊥
@@ -25,17 +25,18 @@ AreWrites W (round ∷ rounds) cuts (wrote ∷ writes) =
     Decides wrote (Changes W (taken_below round (taken_up_to round cuts)))
     × AreWrites (after W (taken_below round (taken_up_to round cuts))) rounds (cuts_behind round cuts) writes
 
--- these are the outlines of the groups' voters
+-- `outlines` has the outline of each group's voter in `W`
 abbrev pub AreOutlines : (ℕ → State) → World → Type 0
 AreOutlines outlines W = (g : ℕ) → outlines g ≡ without_bytes (W g)
 
--- outlines of voters become those after these requests, and it is known whether a voter changed
+-- if `old` has the outlines of the groups' voters, `new` has those after these requests, and `wrote` says whether one
+-- of the requests changed a voter
 abbrev pub Takes : (ℕ → State) → (ℕ → State) → List (ℕ × Request) → Bool → Type 0
 Takes old new qs wrote =
     (W : World) → AreOutlines old W → Decides wrote (Changes W qs) × AreOutlines new (after W qs)
 
--- outlines of voters become those after a request, if it is taken; `now` says whether this or an earlier request
--- changed a voter
+-- `new` has the outlines after the request if it is taken, and those of `old` otherwise. `wrote` says whether an
+-- earlier request changed a voter, and `now` whether this one or an earlier one did.
 pub record TakesIf (old new : ℕ → State) (q : ℕ × Request) (taken wrote now : Bool) : Type 0 where
   pub changed : Bool
   pub takes : Takes old new (if taken then q ∷ [] else []) changed

@@ -19,8 +19,8 @@ use Rattle.raft_log_engine_laws.specs.Settled.{HoldsSettled}
 abbrev pub AppendMayBegin : ℕ → (ℕ → Shown) → Type 0
 AppendMayBegin n v = (g : ℕ) → OwesNothing (whereabouts (v g)) × IsLeastInAppend (v g) n
 
--- Rewrite's live range may begin at file `n`: no entry or value that the tables show in Rewrite is in an earlier file.
--- What came with an atomic group counts as if it were in the group's first file.
+-- Rewrite's live range may begin at file `n`: no entry or value that the tables show in Rewrite is in an earlier file,
+-- and no atomic group that may have written them begins in one.
 abbrev pub RewriteMayBegin : ℕ → (ℕ → Shown) → Type 0
 RewriteMayBegin n v =
     (g : ℕ) → (least : ℕ) × IsLeastInRewrite (v g) least × (n ≤ start_of least (v g).noted)

@@ -26,7 +26,7 @@ use Rattle.raft_log_engine_laws.specs.EngineState.{LogDirectories, IsLaidOut, Ke
 use Rattle.raft_log_engine_laws.specs.Holding.{Represents, IsRecoverableAs}
 use Rattle.raft_log_engine_laws.specs.Settled.{HoldsSettled, SameTables}
 
--- the batch may be written to Rewrite, and counts by itself: it isn't empty, and no part of an atomic group
+-- the batch may be written to Rewrite and counts by itself: it isn't empty, and it has no mark of an atomic group
 pub record CountsAlone (b : Batch) : Type 0 where
   pub some : b.items ≡ [] → ⊥
   pub plain : marking_of_items b.items ≡ Unmarked

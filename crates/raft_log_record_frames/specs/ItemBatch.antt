@@ -111,8 +111,8 @@ abbrev pub FindsPlaced : Result ItemBatch Error → Option ℕ → FileBlockHand
 FindsPlaced result signature handle bytes =
     IfOk result (λ batch. IsPlacedFooter signature handle bytes batch.items)
 
--- If `bytes` is a footer of items whose entries fill the block, the call returns these items with their places, or fails
--- with `Memory`.
+-- If `bytes` is a footer of items whose entries fill the block, the call returns these items with their places, or
+-- fails with `Memory`.
 abbrev pub OnlyPlaced : Result ItemBatch Error → Option ℕ → FileBlockHandle → List ℕ → Type 0
 OnlyPlaced result signature handle bytes =
     (items : List LogItem) → IsFooterOf signature handle.len bytes items

@@ -33,8 +33,8 @@ pub record AreMeant {E : Type 0} (at : Located → E) (v : ℕ → Shown) (m : M
 abbrev pub LieIn : ℕ → List (Tagged Place (List ℕ)) → Type 0
 LieIn n xs = (g : ℕ) → AreInFile n (of_group g xs)
 
--- Applying `xs` to the tables changes the view as the record `y` does, appended to file `n` of Append. The tables
--- then represent the contents after `y`.
+-- Applying the items `xs` to the tables changes the view as appending the record `y` to file `n` of Append does. The
+-- tables then represent the contents after `y`.
 pub record ViewGrows {E : Type 0} (at : Located → E) (n : ℕ) (v : ℕ → Shown) (m : Map E (List ℕ))
     (xs : List (Tagged Place (List ℕ))) (y : Record E (List ℕ)) : Type 0 where
   pub grows : GrowsTo y n (view_of v m) (view_of (all_shown n v xs) (taken m (y ∷ [])))
@@ -99,8 +99,9 @@ pub record MayEnd {E : Type 0} (at : Located → E) (e : GroupEnd) (v : ℕ → 
   pub about : (g : ℕ) → e.about g ≡ true → MayEndIn at e v items g
   pub others : (g : ℕ) → e.about g ≡ false → of_group g items ≡ []
 
--- Changing the tables from `v` to `u` changes the view as the end of an atomic group does that began in file `n`. The
--- new tables represent the same contents `m`.
+-- Changing the tables from `v` to `u` changes the view as the end of an atomic group does. The group began in file `n`.
+-- Its earlier records have the items `first` and `more`, its last one `xs`. The new tables represent the same contents
+-- `m`.
 pub record ViewEnds {E : Type 0} (at : Located → E) (n : ℕ) (v u : ℕ → Shown) (m : Map E (List ℕ))
     (first : List (Tagged E (List ℕ))) (more : List (List (Tagged E (List ℕ))))
     (xs : List (Tagged E (List ℕ))) : Type 0 where

@@ -55,8 +55,8 @@ pub record EndsWhole (file : OpenFile) (content : List ℕ) (offset : ℕ) (batc
   pub first : HasBatches file content offset before between
   pub record_last : HasRecord file content between last end
 
--- What is read of a file before the last one, from `offset` on. It is the batches up to the file's end or to a broken
--- frame, if the record of the last batch is whole. If that record's entry block is torn, it is the batches before it.
+-- What is read of a file that isn't its queue's last, from `offset` on: the batches up to the file's end or to a broken
+-- frame. If the last of these has a torn entry block, it isn't read, and the batches end before it.
 pub data ReadsEarlier (file : OpenFile) (content : List ℕ) (offset : ℕ) (batches : List (List LogItem))
     (end : ℕ) (fault : Option Fault) : Type 0 where
   none : batches ≡ [] → end ≡ offset → StopsGood file content end fault

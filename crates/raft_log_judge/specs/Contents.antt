@@ -43,13 +43,13 @@ abbrev pub IsListed : Contents → ℕ → Option (List ℕ) → Option (List �
 IsListed m group start end pairs k = is_from start k && is_below end k ≡ true
     → (m group (Key k) ≡ None) ⊎ (is_some (lookup (bytes_eq k) pairs) ≡ true)
 
--- the key that an item puts is listed so
+-- if the item puts a key, `IsListed` holds for this key
 abbrev pub ListsPut : Contents → ℕ → Option (List ℕ) → Option (List ℕ) → List (List ℕ × List ℕ)
     → Item (List ℕ) (List ℕ) → Type 0
 ListsPut m group start end pairs (Put key value) = IsListed m group start end pairs key
 ListsPut m group start end pairs item = Unit {0}
 
--- all keys of the group that these items put are listed so
+-- `IsListed` holds for each key of the group that these items put
 abbrev pub ListsPuts : Contents → ℕ → Option (List ℕ) → Option (List ℕ) → List (List ℕ × List ℕ)
     → List (Tagged (List ℕ) (List ℕ)) → Type 0
 ListsPuts m group start end pairs [] = Unit {0}

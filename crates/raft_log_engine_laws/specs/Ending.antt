@@ -41,8 +41,8 @@ abbrev pub whole_end : {E : Type 0} {at : Located → E} {gate : Option ℕ} {ps
 whole_end files k w =
     record { files = files; about = k.about; moves = λ g. whole_moves (w g); least = k.least }
 
--- An atomic group of copies may end, with the moves of all its parts, if the parts are in these files and have these
--- items.
+-- An atomic group of copies may end, with the moves of all its parts. The parts are in the files `files`, and `items`
+-- are their items, with the bytes of each entry.
 abbrev pub WholeGroupsMayEnd : Type 0 → Type 0
 WholeGroupsMayEnd E = (at : Located → E) (gate : Option ℕ) (ps : List WrittenPart) (v : ℕ → Shown)
     (files : GroupFiles) (items : List (Tagged E (List ℕ))) (k : TakesWhole gate ps v)

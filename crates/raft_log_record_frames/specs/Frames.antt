@@ -64,8 +64,8 @@ FramesTakeBytes =
 abbrev pub BlockIsRead : Type 0
 BlockIsRead = (bytes entries : List ℕ) → ((block_of bytes ≡ Ok entries) ↔ IsBlock bytes entries)
 
--- Reading `bytes` as a footer succeeds with `items` if and only if `bytes` is a footer of `items`, and their entries
--- fill a block of `len` bytes.
+-- Reading `bytes` as a footer succeeds with `items` if and only if `bytes` is a footer of `items` whose entries fill a
+-- block of `len` bytes.
 abbrev pub FooterIsRead : Type 0
 FooterIsRead =
     (signature : Option ℕ) (len : ℕ) (bytes : List ℕ) (items : List LogItem)

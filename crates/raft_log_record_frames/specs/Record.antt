@@ -64,7 +64,7 @@ pub record IsHeader (bytes : List ℕ) (len offset : ℕ) : Type 0 where
   pub length_spelled : IsU64 first (256 * len)
   pub offset_spelled : IsU64 second offset
 
--- In `header` (the footer's offset, the compression, the record's length), the offset is at least 16, the length of a
+-- `header` has the footer's offset, the compression and the record's length. The offset is at least 16, the length of a
 -- header, and at most the record's length.
 abbrev pub IsInside : ℕ × CompressionType × ℕ → Type 0
 IsInside header = (16 ≤ header.0) × (header.0 ≤ header.2)

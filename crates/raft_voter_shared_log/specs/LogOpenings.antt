@@ -59,9 +59,9 @@ pub record ReadsClosed {F : Type 0} (disk : F → Disk) (shows : LogStore F → 
   pub closes : ClosesProperly (shows x.shared.settled).pipes (disk x.closed)
   pub found : IsThatOrItsImage (disk x.closed) (disk next.found)
 
--- If the opening `x` began with the voters of a world, the files that its close left can be opened, with voters that
--- are possible after `x`. The next opening `next` opens these files, or a crash image of them, and there is no CRC
--- collision in what it opens.
+-- Suppose the opening `x` began with the voters of a world. Then the files that its close left can be opened, with
+-- voters that are possible after `x`. The next opening `next` opens these files, or a crash image of them, and there is
+-- no CRC collision in what it opens.
 abbrev pub ReadsLeft : {F : Type 0} → (F → Disk) → (LogStore F → EngineState) → LogSharing F → LogSharing F → Type 0
 ReadsLeft disk shows x next = (W : World) → IsOpenAt (log_service shows) x.shared.opened W
     → ∥ ((left : IsLeftAmong (home_behind x) (disk x.closed) (MayFollow (behind W x.shared.session)))

@@ -65,8 +65,8 @@ abbrev pub lost_from : {S F : Type 0} → ℕ → List (List (Moment S F)) → L
 lost_from event [] = []
 lost_from event (ms ∷ mss) = lost_at event ms ++ lost_from (event + 1) mss
 
--- Each store that was opened, and whose voters were read, hasn't failed, serves the voters of some world, and leaves
--- exactly these to the next open.
+-- Each store whose voters were read at its open hasn't failed, and serves the voters of some world. It leaves exactly
+-- these to the next open.
 abbrev pub ServeSome : {S F : Type 0} → Service S → List (Moment S F) → Type 0
 ServeSome v [] = Unit {0}
 ServeSome v (opened workers store voters place now ∷ ms) = ((W : World) × IsOpenAt v store W) × ServeSome v ms

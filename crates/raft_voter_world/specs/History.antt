@@ -72,7 +72,7 @@ abbrev pub behind_all : {S F : Type 0} → Storage S F → List (Moment S F) →
 behind_all storage [] = storage
 behind_all storage (m ∷ ms) = behind_all (behind m) ms
 
--- the round of this moment, if it is one
+-- the round of this moment, if the moment is a round
 abbrev pub rounds_of : {S F : Type 0} → Moment S F → List Round
 rounds_of (answered round now) = round ∷ []
 rounds_of (cut_off round cause now) = round ∷ []
@@ -148,7 +148,7 @@ Keeps v u d (arms fault) (Closed old) (Closed new) = d.arms fault old new × Sta
 Keeps v u d (copies target) (Closed old) (Closed new) = d.forks target old new × StaysInFiles v d old new
 Keeps v u d change old new = ⊥
 
--- `given` are the files of this storage; if a store is open in it, a close of that store may leave them
+-- `given` are the files of this storage; or, if a store is open in it, files that a close of this store may leave
 abbrev pub IsClosedAs : {S F : Type 0} → Service S → Disk S F → Storage S F → F → Type 0
 IsClosedAs v d (Closed files) given = given ≡ files
 IsClosedAs v d (Open store) given = d.closes store given × LeavesInFiles v d store given
@@ -240,8 +240,8 @@ abbrev pub Opens :
 Opens u d workers gone files ms =
     Either (d.has_stopped files) (Falls u d gone (Closed files) ms) (One u d gone (IsOpening u workers gone) ms)
 
--- This event makes the moments `ms` in this storage. An event that the storage can't have, as a purge if no store is
--- open, does nothing. If the disk stops in a moment, a crash follows at once. `gone` is what that crash leaves of the
+-- This event makes the moments `ms` in this storage. An event that doesn't fit the storage, such as a purge if no store
+-- is open, does nothing. If the disk stops in a moment, a crash follows at once. `gone` is what that crash leaves of the
 -- unsynced changes, as the last event that armed a stop asks.
 abbrev pub Turns :
     {S F : Type 0} → Upkeep S → Disk S F → Left → Storage S F → Event → List (Moment S F) → Type 0

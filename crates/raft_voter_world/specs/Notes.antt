@@ -42,8 +42,8 @@ pub record Settles (old : Notes) (place : ℕ) (new : Notes) : Type 0 where
   pub rounds : new.rounds.items ≡ all_rounds old
   pub cuts : new.cuts.items ≡ all_cuts old place
 
--- the list of `event`, if its open lost voters: it found no position at which they fit the last cut-off round; else
--- the empty list
+-- The list with `event` alone if the open in this event lost voters: there was no position at which they fit the last
+-- cut-off round. Else the empty list.
 abbrev pub lost_by : Option ℕ → ℕ → List ℕ
 lost_by None event = event ∷ []
 lost_by (Some place) event = []

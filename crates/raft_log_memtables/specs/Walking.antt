@@ -53,7 +53,7 @@ IsLeastInTable queue t n = (min_file queue t ≡ Some n) × IsMinFile queue (sho
 abbrev pub IsLeastIn : LogQueue → MemTables → ℕ → ℕ → Type 0
 IsLeastIn queue m g n = (least_in queue (raw_of m g) ≡ Some n) × IsMinFile queue (shown_of m g) (Some n)
 
--- `least` is the lowest file of `queue` that any group needs, or `limit` if that is lower
+-- `least` is the lowest file of `queue` that any group needs, or `limit` if `limit` is lower or no group needs a file
 pub record IsLeastOf (queue : LogQueue) (limit : ℕ) (m : MemTables) (least : ℕ) : Type 0 where
   pub limited : least ≤ limit
   pub below : (g n : ℕ) → least_in queue (raw_of m g) ≡ Some n → least ≤ n

@@ -97,8 +97,8 @@ BeginsBare disk (x ∷ xs) = IsSound (disk x.found) × IsBare x.shared.opened.co
 abbrev pub stores_of : {F : Type 0} → List (LogSharing F) → List (Sharing (LogStore F))
 stores_of xs = map (λ x. x.shared) xs
 
--- Voters that never fail give exactly the replies in all journals, one after another. The cuts are the positions that
--- the next opens show.
+-- If the first opening found no log, voters that never fail give exactly the replies in all journals, one after
+-- another. The cuts are those of `JoinedOpeningsAreExplained`.
 abbrev pub LogOpeningsAreExplained :
     {F : Type 0} → (F → Disk) → (F → List ℕ → ℕ → Type 0) → (LogStore F → EngineState) → Type 0
 LogOpeningsAreExplained {F} disk tells shows = (xs : List (LogSharing F)) → BeginsBare disk xs
@@ -122,9 +122,9 @@ abbrev pub ClosedImagesMean : LogDirectories → Disk → CutRound → Type 0
 ClosedImagesMean home d cut = (left : IsLeftAmong home d (MayFollow cut))
     × ((image : Disk) → IsCrashOf home left.left.1.lies.state d image → RestsMeaning home image (MayFollow cut))
 
--- A store was settled. Take a crash image of it from before or after its close, without a CRC collision. The image has
--- the voters that the store served when it was opened, after all records with replies. If the store failed in rounds
--- that it served together, the voters also took the requests of these rounds before some position.
+-- A store was settled. Take a crash image of its disk, from before or after its close, without a CRC collision. The
+-- image has the voters that the store served when it was opened, after all records with replies. If the store failed in
+-- rounds that it served together, the voters also took the requests of these rounds before some position.
 abbrev pub SettledStoresMean : {F : Type 0} → (LogStore F → EngineState) → Type 0
 SettledStoresMean {F} shows = (x : Sharing (LogStore F)) (W : World) → Settles (log_service shows) x
     → IsOpenAt (log_service shows) x.opened W

@@ -51,8 +51,8 @@ pub record StopsAt (qs : List (ℕ × Request)) (told : List Reply) (s t : Engin
   pub at : slice_get qs (length told) ≡ Some request
   pub broke : Broke request mid t outlines
 
--- If the log of `s` stored voters with the outlines `os`, the round got the replies `told`. It ended in the state `t`,
--- with the outlines `us`.
+-- If the log of `s` stored voters with the outlines `os`, the round `qs` got the replies `told`. It ended in the state
+-- `t`, with the outlines `us`.
 abbrev pub RoundIsAnswered : List (ℕ × Request) → List Reply → EngineState → EngineState → (ℕ → State) → (ℕ → State) → Type 0
 RoundIsAnswered qs told s t os us =
     (home : LogDirectories) (V : World) → Keeps home s V → AreOutlines os V → Answered home V qs told s t us

@@ -257,7 +257,7 @@ IsWriteFault e = (kind : ErrorKind) × (e ≡ Io kind)
 abbrev pub IsShort : {X : Type 0} → Result X Error → Type 0
 IsShort result = result ≡ Err (Io UnexpectedEof)
 
--- the call fails with `InvalidData`: the number doesn't fit
+-- the call fails with `InvalidData`: the varint is longer than ten bytes, or its number is 2 ^ 64 or more
 abbrev pub IsInvalid : {X : Type 0} → Result X Error → Type 0
 IsInvalid result = result ≡ Err (Io InvalidData)
 
@@ -270,7 +270,8 @@ AllGoOn (b ∷ bs) = (128 ≤ b) × AllGoOn bs
 abbrev pub EndsFirst : List ℕ → Type 0
 EndsFirst bytes = AllGoOn bytes × (length bytes ≤ 9)
 
--- `bytes` begins with nine bytes of 128 or more and a tenth above 1: a varint of 2 ^ 64 or more
+-- `bytes` begins with nine bytes of 128 or more and a tenth above 1: a varint of more than ten bytes, or a number of
+-- 2 ^ 64 or more
 abbrev pub RunsOver : List ℕ → Type 0
 RunsOver bytes = (front : List ℕ) × (tenth : ℕ) × (rest : List ℕ)
     × (bytes ≡ front ++ tenth ∷ rest) × (length front ≡ 9) × AllGoOn front × (1 < tenth)

@@ -1,6 +1,5 @@
--- Laws of records. A frame is what a reader sees that reads only the header and the footer. A record is a frame whose
--- entry block is valid too. The records of a file follow one another without gaps. At most one record can therefore
--- be at each offset, and decoders read back what a writer wrote there.
+-- Laws of records. A frame is what a reader sees if it reads only the header and the footer. A record is a frame whose
+-- entry block is valid too. At most one record can begin at an offset, and decoders read back what a writer wrote there.
 use Rattle.std.specs.Prelude.{replicate, ◌⊎◌, ◌≡◌, ◌↔◌, ℕ, ◌+◌, ◌≤◌, List, ◌++◌, length, take, Option, Ok}
 use Rattle.raft_log_record_items.specs.declared.item.LogItem.{LogItem}
 use Rattle.raft_log_record_base.specs.declared.pipe_log.FileBlockHandle.{FileBlockHandle}

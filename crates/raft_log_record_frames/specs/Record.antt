@@ -26,7 +26,7 @@ signed signature bytes = bit_xor (crc32_of bytes) (unwrap_or signature 0)
 
 -- Footers.
 
--- a footer in a file with this signature: the items, then their signed checksum, four bytes in little-endian order
+-- `bytes` is a footer in a file with this signature: the items, then their signed checksum, four bytes, little-endian
 pub record IsFooter (signature : Option ℕ) (bytes : List ℕ) (items : List LogItem) : Type 0 where
   pub body : List ℕ
   pub checksum : List ℕ
@@ -176,12 +176,13 @@ whole_of len sum rest =
 unfoldable pub whole_items : ℕ → List LogItem → List ℕ → Result (List LogItem) Fault
 whole_items len items rest = whole_of len (entries_len items) rest >>= λ whole. Ok items
 
--- a decoder of a whole slice returned the part of it that `reading` returns, unless memory ran out
+-- a decoder of a whole slice returned the part of the slice that `reading` returns, or failed as `reading` does, unless
+-- memory ran out
 abbrev pub GivesSlice : Result (Bor (List ℕ)) Error → Result (List ℕ) Fault → Type 0
 GivesSlice (Ok x) reading = reading ≡ Ok x.now
 GivesSlice (Err e) reading = FailsOrMemory e reading
 
--- a decoder of a vector returned the items of `reading`, unless memory ran out
+-- a decoder of a vector returned the items of `reading`, or failed as `reading` does, unless memory ran out
 abbrev pub GivesItems : {X : Type 0} → Result (Vec X) Error → Result (List X) Fault → Type 0
 GivesItems (Ok x) reading = reading ≡ Ok x.items
 GivesItems (Err e) reading = FailsOrMemory e reading

@@ -52,8 +52,8 @@ TablesTakeWholeGroups E = (at : Located → E) (gate : Option ℕ) (a : ℕ) (ps
     → ShowsWhole gate ps files (shown_of old) (shown_of new)
 
 -- A purge ends an atomic group. Its batches restate raft group `group` (`RestatesGroup`), and have no items of other
--- groups. If the record with the end was written, and the tables moved the items of all parts and noted the files, the
--- log has the same contents.
+-- groups. Let the record with the end be written, and the tables move the items of all parts and note the files. Then
+-- the log has the same contents.
 abbrev pub EndsOverTables : Type 0
 EndsOverTables = (home : LogDirectories) (v w : LogPipes) (old m new : MemTables) (cache after : BlockCache)
     (gate : Option ℕ) (o : UnendedGroup) (b : Batch) (block : FileBlockHandle) (map : LogMap) (group : ℕ)

@@ -114,9 +114,8 @@ MovedFilesRise E = (at : Located → E) (gate : Option ℕ) (a r n : ℕ) (v : S
 abbrev pub batches_of : List WrittenPart → List Batch
 batches_of ps = map (λ p. p.batch) ps
 
--- If the batches `bs` are the parts of one atomic group, they are copies of what the tables show of the contents `m`.
--- The gate lets these copies move. This holds wherever the batches are written, and whatever bytes are at other
--- locations.
+-- Taken as the parts of one atomic group, the batches `bs` are copies of what the tables show of the contents `m`. The
+-- gate lets these copies move. This holds wherever the batches are written, and whatever bytes are at other locations.
 abbrev pub HasWhole : Option ℕ → List Batch → (ℕ → Shown) → LogMap → Type 0
 HasWhole gate bs v m = (ps : List WrittenPart) (at : Located → List ℕ) → batches_of ps ≡ bs → AreMeant at v m
     → Each (SaysPart at) ps → (g : ℕ) → IsWholeCopy at gate (v g) (filed_items g ps)

@@ -1,5 +1,5 @@
 -- Laws of records. A frame is what a reader sees if it reads only the header and the footer. A record is a frame whose
--- entry block is valid too. At most one record can begin at an offset, and decoders read back what a writer wrote there.
+-- entry block is valid too. At most one record can begin at an offset. Decoders read back what a writer wrote there.
 use Rattle.std.specs.Prelude.{replicate, ◌⊎◌, ◌≡◌, ◌↔◌, ℕ, ◌+◌, ◌≤◌, List, ◌++◌, length, take, Option, Ok}
 use Rattle.raft_log_record_items.specs.declared.item.LogItem.{LogItem}
 use Rattle.raft_log_record_base.specs.declared.pipe_log.FileBlockHandle.{FileBlockHandle}
@@ -63,8 +63,8 @@ FramesTakeBytes =
 abbrev pub BlockIsRead : Type 0
 BlockIsRead = (bytes entries : List ℕ) → ((block_of bytes ≡ Ok entries) ↔ IsBlock bytes entries)
 
--- Reading `bytes` as a footer succeeds with `items` if and only if `bytes` is a footer of `items` whose entries fill a
--- block of `len` bytes.
+-- Reading `bytes` as a footer returns `items` if and only if `bytes` is a footer of `items`, whose entries fill a block
+-- of `len` bytes.
 abbrev pub FooterIsRead : Type 0
 FooterIsRead =
     (signature : Option ℕ) (len : ℕ) (bytes : List ℕ) (items : List LogItem)

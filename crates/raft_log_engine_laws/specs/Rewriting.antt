@@ -60,6 +60,7 @@ WrittenMarksKeepTheMap = (home : LogDirectories) (e t : EngineState) (b : Batch)
     → t.tables ≡ (λ g. unmarked (e.tables g)) → KeepsOrForgets e t → Represents home t m []
 
 -- If an append of the owed tombstones to Rewrite failed, and the tables still owe them, the log has the same contents.
+-- If the engine has failed, the log's files can be opened with these contents.
 abbrev pub RefusedMarksKeepTheMap : Type 0
 RefusedMarksKeepTheMap = (home : LogDirectories) (e t : EngineState) (b : Batch) (m : LogMap) (error : Error)
     → Represents home e m [] → SaysOwed b e.tables → SameTables e t
@@ -90,7 +91,8 @@ WrittenCopiesKeepTheMap = (home : LogDirectories) (e t : EngineState) (gate : Op
     → AppendsTo InRewrite (signed_for b) block e.pipes t.pipes → t.tables ≡ moved_to gate block b e.tables
     → KeepsOrForgets e t → Represents home t m []
 
--- If an append of copies to Rewrite failed, and the tables are unchanged, the log has the same contents.
+-- If an append of copies to Rewrite failed, and the tables are unchanged, the log has the same contents. If the engine
+-- has failed, the log's files can be opened with these contents.
 abbrev pub RefusedCopiesKeepTheMap : Type 0
 RefusedCopiesKeepTheMap = (home : LogDirectories) (e t : EngineState) (gate : Option ℕ) (b : Batch) (m : LogMap)
     (error : Error) → Represents home e m [] → CountsAlone b → HasCopies gate b e.tables m → SameTables e t

@@ -85,7 +85,7 @@ rounds_in ms = flat_map rounds_of ms
 
 -- When each moment may happen.
 
--- the round was cut off and has no refused positions, as if no store is open
+-- the round was cut off and has no refused positions, as happens if no store is open
 abbrev pub IsIdle : Round → Type 0
 IsIdle round = (round.outcome ≡ Cut) × (round.refused ≡ [])
 

@@ -103,7 +103,7 @@ AnswersTakenAsModel {S} {T} model v =
     → IsOpenAt model old W → AreServed model (taken_in rounds heard) told old new
     → TellsTaken model v told heard new last
 
--- if store `model` can only refuse the requests out of range, then it replies as store `v` to the requests that `v`
--- took
+-- Suppose store `model` can only refuse the requests out of range. Then, to the requests that store `v` took, it gives
+-- the replies that `v` gave.
 abbrev pub StoresAnswerTakenAsModels : {S T : Type 0} → Service S → Service T → Type 0
 StoresAnswerTakenAsModels model v = RefusesOutOfRange model → AnswersTakenAsModel model v

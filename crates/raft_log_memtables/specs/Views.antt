@@ -84,8 +84,8 @@ abbrev pub ended : GroupEnd → (ℕ → Shown) → ℕ → Shown
 ended e v g = if e.about g then with_note (all_moved (v g) (e.moves g)) (e.least g) e.files else v g
 
 -- In raft group `g`, the copies of the atomic group are allowed, and are in files up to its last one. After them, the
--- raft group has nothing of Rewrite in a file below `least`. The items of all its records have the same effect as
--- these copies.
+-- raft group has nothing of Rewrite in a file below `least`. The items of all records of the atomic group have the same
+-- effect as these copies.
 pub record MayEndIn {E : Type 0} (at : Located → E) (e : GroupEnd) (v : ℕ → Shown)
     (items : List (Tagged E (List ℕ))) (g : ℕ) : Type 0 where
   pub can : CanAllMove at (v g) (e.moves g)

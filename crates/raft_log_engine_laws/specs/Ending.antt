@@ -41,8 +41,8 @@ abbrev pub whole_end : {E : Type 0} {at : Located → E} {gate : Option ℕ} {ps
 whole_end files k w =
     record { files = files; about = k.about; moves = λ g. whole_moves (w g); least = k.least }
 
--- An atomic group of copies may end, with the moves of all its parts, if the parts are in these files and have these
--- items.
+-- An atomic group of copies may end, with the moves of all its parts. The parts are in the files `files`, and `items`
+-- are their items, with the bytes of each entry.
 abbrev pub WholeGroupsMayEnd : Type 0 → Type 0
 WholeGroupsMayEnd E = (at : Located → E) (gate : Option ℕ) (ps : List WrittenPart) (v : ℕ → Shown)
     (files : GroupFiles) (items : List (Tagged E (List ℕ))) (k : TakesWhole gate ps v)
@@ -51,14 +51,14 @@ WholeGroupsMayEnd E = (at : Located → E) (gate : Option ℕ) (ps : List Writte
     → ((g : ℕ) → of_group g items ≡ filed_copies at (filed_items g ps))
     → MayEnd at (whole_end files k w) v items
 
--- Assume that a table's file numbers never fall as the index rises. Noting an atomic group's files in it is the same
--- as noting them with some `least`, a file below which it has nothing in Rewrite.
+-- Assume that in each queue, a table's file numbers never fall as the index rises. Noting an atomic group's files in
+-- it is the same as noting them with some `least`, a file below which it has nothing in Rewrite.
 abbrev pub WholeGroupsAreNoted : Type 0
 WholeGroupsAreNoted = (t : Raw) (files : GroupFiles) (a r : ℕ) → IsOrderly (shown t) → FilesRise a r (shown t)
     → (least : ℕ) × IsLeastInRewrite (shown t) least × (with_group t files ≡ with_note (shown t) least files)
 
--- What the tables show after they applied a whole atomic group. In each group that changes, the items of the parts
--- moved to Rewrite, and the atomic group's files are noted.
+-- The tables showed `v` before they applied a whole atomic group, and show `u` after. In each raft group that changes,
+-- the items of the parts moved to Rewrite, and the atomic group's files are noted.
 pub record ShowsWhole (gate : Option ℕ) (ps : List WrittenPart) (files : GroupFiles) (v u : ℕ → Shown)
     : Type 0 where
   pub took : TakesWhole gate ps v

@@ -53,7 +53,7 @@ pub record LogDirectories : Type 0 where
   pub rewrite : List (List ℕ)
 
 -- What a record says when it is read, with the bytes of each entry. If its marks of an atomic group are broken, its
--- items count as those of an unmarked record, as in Append. No engine writes such a record.
+-- items count as if it had no marks. No engine writes such a record.
 abbrev pub said_by : LogRecord → LogRecordValue
 said_by r = unwrap_or (record_of (entry_bytes (block_bytes r.entries)) (placed no_block r.items))
     (Plain (tagged_items (entry_bytes (block_bytes r.entries)) (placed no_block r.items)))
@@ -66,7 +66,7 @@ sense home = record { says = said_by; append = home.append; rewrite = home.rewri
 abbrev pub log_in : LogDirectories → TwoQueues LogRecord (List ℕ) (List ℕ)
 log_in home = queues (sense home)
 
--- what the record of a batch says, with the bytes that were added for each entry
+-- what the record of a batch says, with the bytes that were added for each entry; nothing if its marks are broken
 abbrev pub said_of : Batch → LogRecordValue
 said_of b = unwrap_or (record_of (entry_bytes b.entries) b.items) (Plain [])
 
@@ -75,11 +75,12 @@ pub record IsLaidOut (b : Batch) : Type 0 where
   pub laid : laid_out 0 b.items ≡ b.items
   pub adds : entries_len b.items ≡ length b.entries
 
--- the batch has no broken marking: at most one mark of an atomic group, and a whole one
+-- the batch's marks aren't broken: it has at most one mark of an atomic group, and this mark is valid
 abbrev pub IsWellMarked : Batch → Type 0
 IsWellMarked b = marking_of_items b.items ≡ Broken → ⊥
 
--- a batch in this state may be written: its record may be encoded already, but is not signed for a file yet
+-- A batch in this state may be written. Its record may be encoded already, but it is neither signed for a file nor
+-- written yet.
 abbrev pub IsWritable : BatchState → Type 0
 IsWritable Filling = Unit {0}
 IsWritable Populated = Unit {0}

@@ -39,7 +39,8 @@ abbrev pub AreEntriesOf : {M : Type 0} → (List ℕ → Option M) → LogMap �
 AreEntriesOf reading m g i [] = Unit {0}
 AreEntriesOf reading m g i (x ∷ xs) = IsEntryOf reading m g i x × AreEntriesOf reading m g (i + 1) xs
 
--- An entry, or none, was returned: that of the log's contents after the pending batches.
+-- A read of index `i` of group `g` returned the message of the entry there, or none if there is no entry. The entry is
+-- that of the log's contents after the pending batches. At most the cached block changed.
 pub record TellsEntry {M : Type 0} (reading : List ℕ → Option M) (g i : ℕ) (s t : EngineState) (message : Option M)
     : Type 0 where
   pub lived : has_failed s ≡ false
@@ -47,8 +48,8 @@ pub record TellsEntry {M : Type 0} (reading : List ℕ → Option M) (g i : ℕ)
   pub exact : (home : LogDirectories) (m : LogMap) (pending : List LogRecordValue) → Represents home s m pending
       → IsEntryTold reading (taken m pending) g i message
 
--- Why a read of an entry that the log has fails: its file can't be read, memory ran out, or its bytes don't parse as a
--- message. The error never reports damage.
+-- Why a read of an entry that the log has fails: its file can't be read (`Io`), memory ran out (`Memory`), or its bytes
+-- don't parse as a message (`Message`). No error reports damaged bytes.
 pub record IsUntold {M : Type 0} (reading : List ℕ → Option M) (g i : ℕ) (s : EngineState) (m : LogMap) (error : Error)
     : Type 0 where
   pub entry : EntryIndex
@@ -72,14 +73,14 @@ pub record FailsToTell {M : Type 0} (reading : List ℕ → Option M) (g i : ℕ
   pub why : (home : LogDirectories) (m : LogMap) (pending : List LogRecordValue) → Represents home s m pending
       → IsUntold reading g i s (taken m pending) error
 
--- the entries that a fetch reads, from `begin` on and below `end`, as many as `max` bytes allow; none if the group
--- doesn't count
+-- `es` are the entries that a fetch reads, from index `begin` on and below `end`: always the first, and more while
+-- their total length is at most `max`. There are none if the group doesn't count.
 abbrev pub AreToRead : EngineState → ℕ → ℕ → ℕ → Option ℕ → List EntryIndex → Type 0
 AreToRead s g begin end max es = ((s.counts g ≡ false) × (es ≡ []))
     ⊎ ((s.counts g ≡ true) × AreIn (s.tables g) begin end × (es ≡ fetched (s.tables g) begin end max))
 
--- Entries from `begin` on were read, as many as the greatest size allows, and their messages were appended to `old`.
--- They are those of the log's contents after the pending batches.
+-- The entries of `AreToRead` were read, and their messages were appended to `old`. They are the entries of the log's
+-- contents after the pending batches.
 pub record FetchesTo {M : Type 0} (reading : List ℕ → Option M) (g begin end : ℕ) (max : Option ℕ) (s t : EngineState)
     (old new : List M) (count : ℕ) : Type 0 where
   pub lived : has_failed s ≡ false
@@ -97,8 +98,8 @@ abbrev pub IsOneUntold : {M : Type 0} → (List ℕ → Option M) → ℕ → �
 IsOneUntold reading g begin end s m error = (error ≡ errors.Memory)
     ⊎ ((i : ℕ) × (begin ≤ i) × (i < end) × IsUntold reading g i s m error)
 
--- A fetch failed. Either the group counts, and its table doesn't have all of the requested entries; or they couldn't
--- be read. The engine hadn't failed, and at most the cached block changed.
+-- A fetch failed, though the engine hadn't failed. Either the group's table doesn't have all of the requested entries,
+-- or memory ran out, or reading an entry failed. At most the cached block changed.
 pub record FailsToFetch {M : Type 0} (reading : List ℕ → Option M) (g begin end : ℕ) (s t : EngineState) (error : Error)
     : Type 0 where
   pub lived : has_failed s ≡ false

@@ -17,8 +17,8 @@ use Rattle.raft_log_block_cache.specs.raft_log_dual_pipes.specs.Pipes.{LogPipes,
 use Rattle.raft_log_block_cache.specs.Blocks.{IsOfLog}
 use Rattle.raft_log_engine_laws.specs.EngineState.{LogDirectories, LogMap, EngineState, log_in, sense}
 
--- As the index of a group's entries rises, their file numbers never fall, in Append or in Rewrite. No number is above
--- that of the queue's last file.
+-- In each queue, the file numbers of a group's entries never fall as the index rises. None is above that of the
+-- queue's last file.
 abbrev pub FilesRiseIn : State → (ℕ → Shown) → Type 0
 FilesRiseIn s v = (g : ℕ) → FilesRise s.append.files.last s.rewrite.files.last (v g)
 
@@ -31,7 +31,7 @@ NotesEndIn s v =
 -- written after them, not yet synced:
 -- - its pipes run over that log
 -- - each location that its tables have is that of an entry in the log
--- - as the index of a group's entries rises, their file numbers never fall
+-- - in each queue, the file numbers of a group's entries never fall as the index rises
 -- - no file that is noted for an atomic group is after the last file of Rewrite
 -- - its tables, with the bytes at their locations, give the contents after the pending batches
 -- - the cached block has the bytes that were written at its location
@@ -54,16 +54,16 @@ pub record RunsAs (home : LogDirectories) (v : LogPipes) (m : LogMap) (pending :
   pub runs : RunsOn (sense home) v state
   pub at : IsAt (Ties (log_in home) state) view m pending
 
--- The pipes run over a log. Its durable contents are `m` and then `done`, the first of the batches `pending`. The other
--- ones, `rest`, are written after them and not synced.
+-- The pipes run over a log in these directories. Its durable contents are `m` and then `done`, a prefix of the batches
+-- `pending`. The other batches, `rest`, are written after them and not synced.
 pub record RunsEnding (home : LogDirectories) (v : LogPipes) (m : LogMap) (pending : List LogRecordValue) : Type 0 where
   pub done : List LogRecordValue
   pub rest : List LogRecordValue
   pub splits : done ++ rest ≡ pending
   pub runs : RunsAs home v (taken m done) rest
 
--- The durable contents of engine `e`'s log are `m` and then `done`, the first of the batches `pending`. The other ones,
--- `rest`, are written after them and not synced.
+-- The durable contents of engine `e`'s log are `m` and then `done`, a prefix of the batches `pending`. The other
+-- batches, `rest`, are written after them and not synced.
 pub record EndsAt (home : LogDirectories) (e : EngineState) (m : LogMap) (pending : List LogRecordValue) : Type 0 where
   pub done : List LogRecordValue
   pub rest : List LogRecordValue

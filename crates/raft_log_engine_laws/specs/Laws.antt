@@ -19,8 +19,8 @@ use Rattle.raft_log_engine_laws.specs.EngineState.{LogDirectories, IsLaidOut, Is
 use Rattle.raft_log_engine_laws.specs.Holding.{EndsAt, Represents, IsRecoverableAs, RunsAs}
 use Rattle.raft_log_engine_laws.specs.Writing.{Leaves, items_at}
 
--- the batch may be written: it isn't empty, its marks are whole, its entries leave no hole, and its record is read
--- back with its contents
+-- The batch may be written: it isn't empty, its marks aren't broken, and its record is read back with its contents. Its
+-- entries leave no hole and no index too high.
 pub record MayBeWritten (e : EngineState) (b : Batch) : Type 0 where
   pub some : b.items ≡ [] → ⊥
   pub marked : IsWellMarked b
@@ -29,7 +29,7 @@ pub record MayBeWritten (e : EngineState) (b : Batch) : Type 0 where
   pub laid : IsLaidOut b
 
 -- After the pipes wrote a batch and the tables applied it under the number of its file, it is the last batch of the
--- log. A prefix of the pending batches may be durable.
+-- log. A prefix of the log's batches may be durable.
 abbrev pub BatchesAreWritten : Type 0
 BatchesAreWritten = (home : LogDirectories) (e t : EngineState) (b : Batch) (block : FileBlockHandle) (m : LogMap)
     (pending : List LogRecordValue) → Represents home e m pending → MayBeWritten e b
@@ -50,15 +50,15 @@ SyncsAreHeld = (home : LogDirectories) (e t : EngineState) (m : LogMap) (pending
     → t.tables ≡ e.tables → KeepsOrForgets e t → SyncsQueue InAppend e.pipes t.pipes
     → Represents home t (taken m pending) []
 
--- After a failed sync of Append, the log's files can be opened, with the same contents and pending batches. A file
--- system call has failed.
+-- After a failed sync of Append, the log's files can be opened, with the same contents and batches. A prefix of the
+-- batches may be durable. A file system call has failed.
 abbrev pub FailuresLeaveLogs : Type 0
 FailuresLeaveLogs = (home : LogDirectories) (v w : LogPipes) (m : LogMap) (pending : List LogRecordValue)
     → RunsAs home v m pending → FailsToSyncQueue InAppend v w
     → Fails v.disk w.disk × IsRecoverableAs home w.disk m pending
 
--- After a close, even a failed one, the log's files can be opened, with the same contents and the same batches still
--- pending.
+-- After a close, even a failed one, the log's files can be opened, with the same contents and batches. A prefix of the
+-- batches may be durable.
 abbrev pub ClosedEnginesAreLeft : Type 0
 ClosedEnginesAreLeft = (home : LogDirectories) (e : EngineState) (m : LogMap) (pending : List LogRecordValue) (d : Disk)
     → Represents home e m pending → ClosesLog e.pipes d → IsRecoverableAs home d m pending

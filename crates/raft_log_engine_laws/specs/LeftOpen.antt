@@ -1,4 +1,4 @@
--- Atomic groups that get no end: nothing of them counts, whatever records follow.
+-- Atomic groups that get no end: none of their items count.
 use Rattle.std.specs.Prelude.{◌≡◌, ℕ, ◌<◌, ◌≤◌, List, [], ◌∷◌, ◌++◌, None}
 use Rattle.raft_log_model_laws.specs.Item.{Record, Tagged}
 use Rattle.raft_log_model_laws.specs.Item.Mark.{Begin, End, Middle}
@@ -14,8 +14,8 @@ abbrev pub GroupsMayBeGivenUp : Type 0
 GroupsMayBeGivenUp = (home : LogDirectories) (e : EngineState) (m : LogMap) (o : UnendedGroup) → HoldsInGroup home e m o
     → Represents home e m []
 
--- If no later record continues an atomic group that is left open, all other records count as if the group's records
--- were not there.
+-- An atomic group `n` is begun between the records `front` and `back`. If no record of `back` continues it, all other
+-- records count as if the group's records were not there.
 abbrev pub GroupsLeftOpenCountNot : Type 0 → Type 0 → Type 0
 GroupsLeftOpenCountNot E V = (front back : List (Record E V)) (n : ℕ) (first : List (Tagged E V))
     (more : List (List (Tagged E V))) → UnbrokenFrom None back
@@ -33,8 +33,8 @@ AreNumberedFrom n (Part (Begin k) xs ∷ rs) = (n ≤ k) × AreNumberedFrom n rs
 AreNumberedFrom n (Part (Middle k) xs ∷ rs) = (n ≤ k) × AreNumberedFrom n rs
 AreNumberedFrom n (Part (End k) xs ∷ rs) = (n ≤ k) × AreNumberedFrom n rs
 
--- Let the atomic groups of `new` have numbers above all that `old` leaves open. Then the records of `new` count as if
--- none had been left open. They also leave those open, unchanged.
+-- The records `new` come after the records `old`, and their atomic groups have higher numbers than all that `old`
+-- leaves open. Then `new` counts as if none had been left open, and the groups that `old` leaves open stay as they are.
 abbrev pub NewGroupsEndNoOldOnes : Type 0 → Type 0 → Type 0
 NewGroupsEndNoOldOnes E V = (old new : List (Record E V)) (n : ℕ) → AreOpenBelow n (opened none_open old)
     → AreNumberedFrom n new

@@ -25,8 +25,8 @@ pub record RewriteSyncsKeepTheMap : Type 0 where
   pub settles : (home : LogDirectories) (e t : EngineState) (m : LogMap) → Represents home e m []
       → SameTables e t → SyncsQueue InRewrite e.pipes t.pipes → HoldsSettled home t m
 
--- After a failed sync of either queue, the log's files can be opened, with the same contents and pending batches. A
--- file system call has failed.
+-- After a failed sync of either queue, the log's files can be opened, with the same contents and batches. A prefix of
+-- the batches may be durable. A file system call has failed.
 abbrev pub FailedSyncsLeaveLogs : Type 0
 FailedSyncsLeaveLogs = (which : Which) (home : LogDirectories) (v w : LogPipes) (m : LogMap) (pending : List LogRecordValue)
     → RunsAs home v m pending → FailsToSyncQueue which v w
@@ -43,8 +43,8 @@ pub record RotationsKeepTheMap : Type 0 where
       → SameTables e t → RotatesQueue InRewrite e.pipes t.pipes → HoldsSettled home t m
 
 -- What is true after a failed rotation, by the error:
--- - `Memory`, `NumberRange`: the log's contents and pending batches are the same, and the engine runs on
--- - `Failed`: the log's files can be opened, with the same contents and pending batches
+-- - `Memory`, `NumberRange`: the log's contents and pending batches are the same, and the engine still runs
+-- - `Failed`: the log's files can be opened, with the same contents and batches; a prefix of these may be durable
 abbrev pub TurnLeavesHeld : LogDirectories → LogMap → List LogRecordValue → EngineState → Error → Type 0
 TurnLeavesHeld home m pending t errors.Memory = Represents home t m pending
 TurnLeavesHeld home m pending t errors.NumberRange = Represents home t m pending
@@ -52,7 +52,7 @@ TurnLeavesHeld home m pending t errors.Failed = IsRecoverableAs home t.pipes.dis
 TurnLeavesHeld home m pending t _ = ⊥
 
 -- After a failed rotation of either queue, the log has the same contents and pending batches. If the engine has
--- failed, its files can be opened with them.
+-- failed, its files can be opened with these, and a prefix of the batches may be durable.
 abbrev pub RefusedRotationsKeepTheMap : Type 0
 RefusedRotationsKeepTheMap = (which : Which) (home : LogDirectories) (e t : EngineState) (m : LogMap) (pending : List LogRecordValue)
     (error : Error) → Represents home e m pending → SameTables e t

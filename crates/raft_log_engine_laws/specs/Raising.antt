@@ -19,8 +19,8 @@ use Rattle.raft_log_engine_laws.specs.Settled.{HoldsSettled}
 abbrev pub AppendMayBegin : ℕ → (ℕ → Shown) → Type 0
 AppendMayBegin n v = (g : ℕ) → OwesNothing (whereabouts (v g)) × IsLeastInAppend (v g) n
 
--- Rewrite's live range may begin at file `n`: no entry or value that the tables show in Rewrite is in an earlier file.
--- What came with an atomic group counts as if it were in the group's first file.
+-- Rewrite's live range may begin at file `n`. No entry or value that the tables show in Rewrite is in an earlier file.
+-- No atomic group that may have written one of them begins in an earlier file.
 abbrev pub RewriteMayBegin : ℕ → (ℕ → Shown) → Type 0
 RewriteMayBegin n v =
     (g : ℕ) → (least : ℕ) × IsLeastInRewrite (v g) least × (n ≤ start_of least (v g).noted)
@@ -30,8 +30,8 @@ abbrev pub MayBegin : Which → ℕ → (ℕ → Shown) → Type 0
 MayBegin InAppend n v = AppendMayBegin n v
 MayBegin InRewrite n v = RewriteMayBegin n v
 
--- The files of a queue below `n` leave the live range, which may begin at `n`. Then the log keeps its contents,
--- nothing is pending, and no block is cached.
+-- The files of a queue below `n` left the live range, which may begin at `n`. The tables are the same, and no block is
+-- cached any more. If nothing was pending before, the log has the same contents, with nothing pending.
 abbrev pub PurgesKeepTheMap : Type 0
 PurgesKeepTheMap = (which : Which) (home : LogDirectories) (e t : EngineState) (m : LogMap) (n : ℕ) → HoldsSettled home e m
     → MayBegin which n e.tables → t.tables ≡ e.tables → t.cache.place ≡ None → PurgesQueue which n e.pipes t.pipes
@@ -47,8 +47,9 @@ PurgeLeavesHeld home m t errors.NumberRange = HoldsSettled home t m
 PurgeLeavesHeld home m t errors.Failed = IsRecoverableAs home t.pipes.disk m []
 PurgeLeavesHeld home m t _ = ⊥
 
--- Files below `n`, at which the queue may begin, failed to leave its live range. The log keeps its contents, with
--- nothing pending. If the engine has failed, its files can be opened with them.
+-- The files of a queue below `n`, at which its live range may begin, failed to leave it. The tables are the same, and
+-- no block is cached. If nothing was pending before, the log has the same contents, with nothing pending. If the engine
+-- has failed, its files can be opened with these contents.
 abbrev pub RefusedPurgesKeepTheMap : Type 0
 RefusedPurgesKeepTheMap = (which : Which) (home : LogDirectories) (e t : EngineState) (m : LogMap) (n : ℕ) (error : Error)
     → HoldsSettled home e m → MayBegin which n e.tables → t.tables ≡ e.tables → t.cache.place ≡ None

@@ -48,11 +48,12 @@ pub record ReadsValue (e : EngineState) (g : ℕ) (key : List ℕ) (value : Opti
   pub exact : (home : LogDirectories) (m : LogMap) (pending : List LogRecordValue) → Represents home e m pending
       → StandsUnder (taken m pending) g key value
 
--- whether key `k` is at or above `start`, and below `end`; without one of them the range is open on that side
+-- whether key `k` is at or above `start`, and below `end`; a bound that is missing excludes no key
 abbrev pub is_within : Option (List ℕ) → Option (List ℕ) → List ℕ → Bool
 is_within start end k = is_from start k && is_below end k
 
--- `es` has each key of group `g` in the range, with its value: each key once, in the order of their bytes
+-- `es` lists the keys of group `g` in the range that have a value in the contents `m`, with these values. Each key is
+-- there once, in the order of the keys' bytes.
 pub record AreKeysOf (m : LogMap) (g : ℕ) (start end : Option (List ℕ)) (es : List (List ℕ × List ℕ))
     : Type 0 where
   pub rising : IsStrictlySortedBy (slice_cmp nat_cmp) (keys_of es)

@@ -59,7 +59,7 @@ pub record RestatesGroup (g : ℕ) (bs : List Batch) (v : Shown) (m : Slot → O
   pub entries : RunStands m first (entries_of_pieces pieces)
   pub held : Each (HoldsRewritten v) keys
 
--- Batches that restate each group in this way are a whole atomic group of copies, whatever the gate.
+-- If the batches restate each group as `RestatesGroup` says, they are copies that may move together, whatever the gate.
 abbrev pub RestatedGroupsAreWhole : Type 0
 RestatedGroupsAreWhole = (gate : Option ℕ) (bs : List Batch) (v : ℕ → Shown) (m : LogMap)
     → ((g : ℕ) → RestatesGroup g bs (v g) (m g)) → HasWhole gate bs v m

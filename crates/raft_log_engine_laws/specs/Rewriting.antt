@@ -26,7 +26,7 @@ use Rattle.raft_log_engine_laws.specs.EngineState.{LogDirectories, IsLaidOut, Ke
 use Rattle.raft_log_engine_laws.specs.Holding.{Represents, IsRecoverableAs}
 use Rattle.raft_log_engine_laws.specs.Settled.{HoldsSettled, SameTables}
 
--- the batch may be written to Rewrite, and counts by itself: it isn't empty, and no part of an atomic group
+-- the batch may be written to Rewrite and counts by itself: it isn't empty, and it has no mark of an atomic group
 pub record CountsAlone (b : Batch) : Type 0 where
   pub some : b.items ≡ [] → ⊥
   pub plain : marking_of_items b.items ≡ Unmarked
@@ -53,13 +53,14 @@ pub record SaysOwed (b : Batch) (v : ℕ → Shown) : Type 0 where
   pub alone : CountsAlone b
   pub owed : (g : ℕ) → AreOwedAt (v g) (of_group g (tagged_items (λ e. e) b.items))
 
--- After the owed tombstones were written to Rewrite, the log has the same contents, and the tables owe no tombstone.
+-- If the owed tombstones were written to Rewrite, and the tables no longer owe them, the log has the same contents.
 abbrev pub WrittenMarksKeepTheMap : Type 0
 WrittenMarksKeepTheMap = (home : LogDirectories) (e t : EngineState) (b : Batch) (block : FileBlockHandle) (m : LogMap)
     → Represents home e m [] → SaysOwed b e.tables → AppendsTo InRewrite (signed_for b) block e.pipes t.pipes
     → t.tables ≡ (λ g. unmarked (e.tables g)) → KeepsOrForgets e t → Represents home t m []
 
--- If an append of the owed tombstones to Rewrite failed, the log has the same contents, and the tables still owe them.
+-- If an append of the owed tombstones to Rewrite failed, and the tables still owe them, the log has the same contents.
+-- If the engine has failed, the log's files can be opened with these contents.
 abbrev pub RefusedMarksKeepTheMap : Type 0
 RefusedMarksKeepTheMap = (home : LogDirectories) (e t : EngineState) (b : Batch) (m : LogMap) (error : Error)
     → Represents home e m [] → SaysOwed b e.tables → SameTables e t
@@ -90,7 +91,8 @@ WrittenCopiesKeepTheMap = (home : LogDirectories) (e t : EngineState) (gate : Op
     → AppendsTo InRewrite (signed_for b) block e.pipes t.pipes → t.tables ≡ moved_to gate block b e.tables
     → KeepsOrForgets e t → Represents home t m []
 
--- If an append of copies to Rewrite failed, the tables are unchanged, and the log has the same contents.
+-- If an append of copies to Rewrite failed, and the tables are unchanged, the log has the same contents. If the engine
+-- has failed, the log's files can be opened with these contents.
 abbrev pub RefusedCopiesKeepTheMap : Type 0
 RefusedCopiesKeepTheMap = (home : LogDirectories) (e t : EngineState) (gate : Option ℕ) (b : Batch) (m : LogMap)
     (error : Error) → Represents home e m [] → CountsAlone b → HasCopies gate b e.tables m → SameTables e t

@@ -26,7 +26,7 @@ pub record SyncsAppend (s t : EngineState) : Type 0 where
       → RunsAs home t.pipes (taken m pending) []
 
 -- A file system call failed in a sync, so the engine has failed. Its log's files can be opened, with the same contents
--- and pending batches.
+-- and batches. A prefix of the batches may be durable.
 pub record FailsToSyncAppend (s t : EngineState) : Type 0 where
   pub lived : has_failed s ≡ false
   pub failed : has_failed t ≡ true

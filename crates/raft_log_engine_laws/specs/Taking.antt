@@ -24,24 +24,24 @@ use Rattle.raft_log_engine_laws.specs.Whole.{IsWholeCopy, batches_of, filed_item
 use Rattle.raft_log_engine_laws.specs.Restating.{RestatesGroup, said_of_group}
 use Rattle.raft_log_engine_laws.specs.Ending.{ShowsWhole, files_of_group}
 
--- the tables changed only by the moves of these parts' items to Rewrite
+-- from `old` to `new`, what the tables show changed only by the moves of these parts' items to Rewrite
 abbrev pub MovedParts : Option ℕ → List WrittenPart → MemTables → MemTables → Type 0
 MovedParts gate ps old new = (g : ℕ) → shown_of new g ≡ parts_moved gate g ps (shown_of old g)
 
--- if the parts `ps` moved, and then the tables applied one more part, all of these parts moved
+-- if the items of the parts `ps` moved, and then the tables applied one more part, the items of all these parts moved
 abbrev pub MovesOnePart : Type 0
 MovesOnePart = (gate : Option ℕ) (ps : List WrittenPart) (block : FileBlockHandle) (b : Batch)
     (old m new : MemTables) → MovedParts gate ps old m
     → TakesRewritten gate block.id.seq m new (items_at block b)
     → MovedParts gate (ps ++ record { block = block; batch = b } ∷ []) old new
 
--- the files of an atomic group were noted in the table of `group`, and no other table changed
+-- an atomic group's files were noted in the table of raft group `group`, and no other table changed
 pub record NotesFiles (group : ℕ) (files : GroupFiles) (old new : MemTables) : Type 0 where
   pub noted : replayed_of new group ≡ noted_in files (raw_of old group)
   pub others : (g : ℕ) → (group == g) ≡ false → replayed_of new g ≡ replayed_of old g
 
--- All parts of an atomic group moved in the tables, and then its files were noted. Then the tables show the whole
--- group. The parts have items of `group` only, and it has a table.
+-- Let an atomic group have items of raft group `group` only, which has a table. If the tables moved the items of all
+-- its parts, and then noted its files, they show the whole atomic group.
 abbrev pub TablesTakeWholeGroups : Type 0 → Type 0
 TablesTakeWholeGroups E = (at : Located → E) (gate : Option ℕ) (a : ℕ) (ps : List WrittenPart)
     (files : GroupFiles) (group : ℕ) (old m new : MemTables) → ((g : ℕ) → IsOrderly (shown_of old g))
@@ -51,8 +51,8 @@ TablesTakeWholeGroups E = (at : Located → E) (gate : Option ℕ) (a : ℕ) (ps
     → MovedParts gate ps old m → NotesFiles group files m new
     → ShowsWhole gate ps files (shown_of old) (shown_of new)
 
--- A purge ends the atomic group that restates one group. The record with the end was written; the tables moved the
--- items of all parts, and noted the files. The batches say what Rewrite has of that group, and nothing of others. Then
+-- A purge ends an atomic group. Its batches restate raft group `group` (`RestatesGroup`), and have no items of other
+-- groups. Let the record with the end be written, and the tables move the items of all parts and note the files. Then
 -- the log has the same contents.
 abbrev pub EndsOverTables : Type 0
 EndsOverTables = (home : LogDirectories) (v w : LogPipes) (old m new : MemTables) (cache after : BlockCache)

@@ -12,12 +12,12 @@ use Rattle.raft_log_block_cache.specs.raft_log_dual_pipes.specs.Calls.{AppendsTo
 use Rattle.raft_log_block_cache.specs.raft_log_dual_pipes.specs.Numbers.{EndsNumbersAt}
 use Rattle.raft_log_block_cache.specs.raft_log_file_pipe.specs.Appending.{SaysTryAgain}
 
--- an append to Append failed with `TryAgain`, for lack of space
+-- an append to Append failed with `TryAgain`
 abbrev pub TriesInVain : (LogFileContext → List ℕ) → LogPipes → LogPipes → Type 0
 TriesInVain signed v w =
     (error : Error) × SaysTryAgain error × IsLater v.disk w.disk × FailsToAppendTo InAppend signed error v w
 
--- the record was appended at `block`: at the first try, or at the second after a first one without space
+-- the record was appended at `block`: at the first try, or at the second after the first failed with `TryAgain`
 abbrev pub WritesAt : (LogFileContext → List ℕ) → FileBlockHandle → LogPipes → LogPipes → Type 0
 WritesAt signed block v w = AppendsTo InAppend signed block v w
     ⊎ ((mid : LogPipes) × TriesInVain signed v mid × AppendsTo InAppend signed block mid w)
@@ -28,13 +28,13 @@ abbrev pub RefusesRecord : (LogFileContext → List ℕ) → Error → LogPipes 
 RefusesRecord signed error v w =
     FailsToAppendTo InAppend signed error v w × EndsNumbersAt InAppend signed error v w
 
--- The record wasn't written. Either the first try failed with an error other than `TryAgain`; or the first try had no
--- space, and the second failed.
+-- The record wasn't written. Either the first try failed with an error other than `TryAgain`, or the first failed with
+-- `TryAgain` and the second with `error`.
 abbrev pub RefusesAt : (LogFileContext → List ℕ) → Error → LogPipes → LogPipes → Type 0
 RefusesAt signed error v w = ((SaysTryAgain error → ⊥) × RefusesRecord signed error v w)
     ⊎ ((mid : LogPipes) × TriesInVain signed v mid × IsLater mid.disk w.disk
     × RefusesRecord signed error mid w)
 
--- both tries to append the record failed with `TryAgain`, for lack of space
+-- both tries to append the record failed with `TryAgain`
 abbrev pub TriesTwiceInVain : (LogFileContext → List ℕ) → LogPipes → LogPipes → Type 0
 TriesTwiceInVain signed v w = (mid : LogPipes) × TriesInVain signed v mid × TriesInVain signed mid w

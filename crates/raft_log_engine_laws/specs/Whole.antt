@@ -34,13 +34,13 @@ abbrev pub filed_items : ℕ → List WrittenPart → List Filed
 filed_items g [] = []
 filed_items g (p ∷ ps) = filed_in p.block.id.seq (of_group g (items_at p.block p.batch)) ++ filed_items g ps
 
--- what a table shows of group `g` after it applied the group's items of each part, one part after another
+-- what the table of group `g` shows, if it showed `v`, and then applied the group's items of each part in order
 abbrev pub parts_moved : Option ℕ → ℕ → List WrittenPart → Shown → Shown
 parts_moved gate g [] v = v
 parts_moved gate g (p ∷ ps) v =
     parts_moved gate g ps (all_rewritten gate p.block.id.seq v (of_group g (items_at p.block p.batch)))
 
--- the items with the bytes of each entry, where `at` gives the bytes at a location in Rewrite
+-- the items with each entry's bytes in place of its location; `at` gives the bytes at a location in Rewrite
 abbrev pub filed_copies : {E : Type 0} → (Located → E) → List Filed → List (Item E (List ℕ))
 filed_copies at [] = []
 filed_copies at (x ∷ xs) = renamed (λ p. at (in_queue false p)) x.item ∷ filed_copies at xs
@@ -50,7 +50,8 @@ abbrev pub filed_moves : List Filed → List Move
 filed_moves [] = []
 filed_moves (x ∷ xs) = moves_of x.file (x.item ∷ []) ++ filed_moves xs
 
--- each item is a copy of what the table shows after the earlier ones were applied, and the gate lets it move
+-- Each item is a copy that the gate lets move. It is a copy of what the table shows, if it showed `v`, and then
+-- applied the items before this one.
 abbrev pub AreFiledCopies : {E : Type 0} → (Located → E) → Option ℕ → Shown → List Filed → Type 0
 AreFiledCopies at gate v [] = Unit {0}
 AreFiledCopies at gate v (x ∷ xs) =
@@ -78,8 +79,8 @@ in_one f [] = []
 in_one f (p ∷ ps) = record { file = p.file; item = Run f (all_places (p ∷ ps)) } ∷ []
 
 -- The items `xs` are a run of entries in pieces, and then other items. If the pieces are put together as one run, each
--- item is a copy that the gate lets move. A single piece needn't reach the end of the entries in Rewrite, as a copy
--- has to.
+-- item is a copy that the gate lets move. (A run that is a copy reaches at least to the last entry in Rewrite. A single
+-- piece needn't.)
 pub record IsWholeCopy {E : Type 0} (at : Located → E) (gate : Option ℕ) (v : Shown) (xs : List Filed)
     : Type 0 where
   pub first : ℕ
@@ -101,9 +102,9 @@ WholeGroupsAreMoved E = (at : Located → E) (gate : Option ℕ) (v : Shown) (g 
     → (parts_moved gate g ps v ≡ all_moved v (whole_moves w)) × CanAllMove at v (whole_moves w)
     × IsJoined (filed_copies at (filed_items g ps)) (copies_of at v (whole_moves w))
 
--- After the items of the parts moved, file numbers still don't fall as the index of a group's entries rises. Those in
--- Rewrite are at most `n`, the last file of the parts. Before, they were at most `r`, a file no later than the first
--- part's.
+-- The parts are in files from `r` to `n` of Rewrite. In each queue, a group's file numbers don't fall as the index
+-- rises: at most `a` in Append, at most `r` in Rewrite. After the items of the parts moved, the same holds, with `n`
+-- for `r`.
 abbrev pub MovedFilesRise : Type 0 → Type 0
 MovedFilesRise E = (at : Located → E) (gate : Option ℕ) (a r n : ℕ) (v : Shown) (g : ℕ)
     (ps : List WrittenPart) → IsOrderly v → FilesRise a r v → FilesGoUp r n ps
@@ -113,8 +114,8 @@ MovedFilesRise E = (at : Located → E) (gate : Option ℕ) (a r n : ℕ) (v : S
 abbrev pub batches_of : List WrittenPart → List Batch
 batches_of ps = map (λ p. p.batch) ps
 
--- The batches are copies of what the tables show of the contents `m`. The gate lets them move at the end of an atomic
--- group. This holds wherever the batches are written, and whatever bytes are at other locations.
+-- Taken as the parts of one atomic group, the batches `bs` are copies of what the tables show of the contents `m`. The
+-- gate lets these copies move. This holds wherever the batches are written, and whatever bytes are at other locations.
 abbrev pub HasWhole : Option ℕ → List Batch → (ℕ → Shown) → LogMap → Type 0
 HasWhole gate bs v m = (ps : List WrittenPart) (at : Located → List ℕ) → batches_of ps ≡ bs → AreMeant at v m
     → Each (SaysPart at) ps → (g : ℕ) → IsWholeCopy at gate (v g) (filed_items g ps)

@@ -27,9 +27,9 @@ use Rattle.raft_log_engine_laws.specs.Holding.{EndsAt, Represents, IsRecoverable
 abbrev pub items_at : FileBlockHandle → Batch → List (Tagged Place (List ℕ))
 items_at block b = placed_items block b.items b.entries
 
--- A batch that isn't empty was written at `block`, and the tables applied it under the number of its file. It is
--- pending after the earlier batches, some of which a rotation may have synced. If a sync was asked for, all batches
--- are durable.
+-- A batch that isn't empty was written at `block`, and the tables applied it under the number of its file. It is the
+-- last batch of the log. A prefix of the pending batches and this one is durable. If a sync was asked for, all of them
+-- are.
 pub record Writes (b : Batch) (sync : Bool) (s t : EngineState) : Type 0 where
   pub block : FileBlockHandle
   pub some : b.items ≡ [] → ⊥
@@ -57,7 +57,7 @@ WritesBytes b sync len s t = ((b.items ≡ []) × (len ≡ 0) × WritesNothing s
     ⊎ (IsReadyForEach len b.items b.entries × Writes b sync s t)
 
 -- The errors with which a write rejects a batch before anything is done:
--- - `Hole`: its entries would leave a hole after those that the tables show
+-- - `Hole`: its entries would leave a hole after those that the tables show, or an index would be 2 ^ 64 - 1 or more
 -- - `Full`: its record would have 2 ^ 56 bytes or more
 -- - `InvalidArgument`: it was signed or written already, or its marks of an atomic group are broken
 -- - `Memory`: memory ran out
@@ -97,8 +97,10 @@ pub record PipesRefused (b : Batch) (error : Error) (s t : EngineState) : Type 0
   pub leaves : (home : LogDirectories) (m : LogMap) (pending : List LogRecordValue) → Represents home s m pending
       → Leaves home b m pending s t error
 
--- The batch wasn't written. Either it was rejected, or the engine had failed before; then nothing was done. Or an
--- append of it failed.
+-- A write of the batch failed with `error`. There are three cases:
+-- - it rejected the batch, and nothing changed
+-- - the engine had failed before, and nothing changed
+-- - an append of the batch failed
 abbrev pub NotWritten : Batch → Error → EngineState → EngineState → Type 0
 NotWritten b error s t = (IsUnfit b s.tables error × (t ≡ s))
     ⊎ ((error ≡ errors.Failed) × (has_failed s ≡ true) × (t ≡ s))
@@ -112,6 +114,6 @@ IsEmptied old new = ((old.items ≡ []) × (new ≡ old)) ⊎ IsButBuffer (empti
 abbrev pub IsBatchKept : Batch → Batch → Type 0
 IsBatchKept old new = new ≡ record old { state = new.state; buffer = new.buffer }
 
--- after a failed write the batch is kept, or the write failed with `Failed`, and the batch was emptied
+-- after a failed write the batch is kept; if the error is `Failed`, it may have been emptied instead
 abbrev pub IsKeptUnlessFailed : Error → Batch → Batch → Type 0
 IsKeptUnlessFailed error old new = IsBatchKept old new ⊎ ((error ≡ errors.Failed) × IsButBuffer (emptied old) new)

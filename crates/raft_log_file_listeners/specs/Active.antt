@@ -85,7 +85,8 @@ abbrev pub DropsFiles : LogQueue → ℕ → ActiveFiles → ActiveFiles → Typ
 DropsFiles Append seq old new = (seq < old.first + length old.waiting) × (new ≡ files_behind seq old)
 DropsFiles Rewrite seq old new = new ≡ old
 
--- the error `Hole` if `seq` is past the last listed file of Append: the list is not changed
+-- the error if the files up to `seq` of Append can't be removed from the list: `Hole`, because `seq` is past the last
+-- listed file
 abbrev pub IsDropRefusal : LogQueue → ℕ → ActiveFiles → Error → Type 0
 IsDropRefusal Append seq h error = (error ≡ errors.Hole) × (h.first + length h.waiting ≤ seq)
 IsDropRefusal Rewrite seq h error = ⊥

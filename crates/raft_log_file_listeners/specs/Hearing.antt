@@ -17,8 +17,8 @@ HookHears (Told.RecordApplied file) old new = new ≡ counted one_less file.queu
 HookHears (Told.FilesPurged file) old new = DropsListed file.queue file.seq old new
 
 -- After a write and its application to the tables, the hook pins the same files as before. The events of the write are
--- the files that the queue rotated to, the record written, and the record applied. This is stated only if no more
--- files are missing after the write.
+-- the files that the queue rotated to, the record written, and the record applied. The premise is that the first
+-- missing file is the same before and after.
 abbrev pub WritesHoldNothingBack : {L : Type 0} → (Told → L → L → Type 0) → (L → ActiveFiles) → Type 0
 WritesHoldNothingBack {L} hears hook_of = (queue : LogQueue) (n count : ℕ) (block : FileBlockHandle) (old new : L)
     → Hears hears (begun queue n count ++ Told.RecordWritten block ∷ Told.RecordApplied block.id ∷ []) old new

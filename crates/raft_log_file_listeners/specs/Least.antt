@@ -1,4 +1,4 @@
--- What several listeners pin together: from the least file number on that any of them returns.
+-- What several listeners pin together: all files from the least number on that one of them returns.
 use Rattle.std.specs.Prelude.{◌≡◌, ◌≤◌, ℕ, min, Option, Some, None, IfSome, List, [], ◌∷◌, All, Contains}
 use Rattle.std.specs.List.{AllZip}
 

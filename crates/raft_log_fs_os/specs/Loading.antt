@@ -15,7 +15,7 @@ pub record StartsFresh (d : Disk) : Type 0 where
   pub uncounted : d.failures ≡ 0
   pub untold : d.kinds ≡ []
 
--- if file `id` exists in `old`, then `new` has `bytes` as its content, all synced, and otherwise the same disk
+-- if file `id` exists in `old`, its content in `new` is `bytes`, all synced, and the rest of the disk is the same
 abbrev pub FillsFile : ℕ → List ℕ → Storage → Storage → Type 0
 FillsFile id bytes old new = (file : File) → (contents_of old).files id ≡ Some file
     → contents_of new ≡ with_file id (Some (at_rest bytes)) (contents_of old)
@@ -37,7 +37,7 @@ abbrev pub IsWrittenBack : List ℕ → Disk → Trace → Trace → Type 0
 IsWrittenBack path d old new =
     (file : ℕ) → d.names path ≡ Some file → WritesBack file (size_of (d.files file)) old new
 
--- If no directory had to be synced, then the calls made since left no effect. Calls see, and a crash leaves, the same
--- disk as before.
+-- Suppose that after the trace `old`, no directory has to be synced, and a crash leaves the disk that calls see. Then
+-- the calls from `old` to `new` changed neither what calls see nor what a crash leaves.
 abbrev pub StaysSettled : Trace → Trace → Type 0
 StaysSettled old new = (d : Disk) → held_by old ≡ settled d → LeavesBytes old new

@@ -36,12 +36,12 @@ contents_of c = taken no_contents (map says_of c.batches)
 abbrev pub log_of : Candidate → ModelLog
 log_of c = standing_log c.standing (durable_of c) (pending_of c)
 
--- the log that a candidate is with another standing; if it settles, all batches are durable
+-- the log of a candidate, with another standing; if the flag is true, all its batches are durable
 abbrev pub turned : Standing → Bool → Candidate → ModelLog
 turned standing false c = standing_log standing (durable_of c) (pending_of c)
 turned standing true c = standing_log standing (taken (durable_of c) (pending_of c)) []
 
--- the logs that an open may find: those after the first few pending batches
+-- the logs that an open may find after the contents `m`: one for each number of pending batches that are kept
 abbrev pub opened_logs : Contents → List BatchRecord → List ModelLog
 opened_logs m [] = running m [] ∷ []
 opened_logs m (batch ∷ pending) = running m [] ∷ opened_logs (taken m (batch ∷ [])) pending

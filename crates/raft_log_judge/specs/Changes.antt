@@ -8,7 +8,7 @@ use Rattle.raft_log_judge.specs.declared.change.Change.{Change}
 use Rattle.raft_log_judge.specs.declared.change.ChangeKind.{ChangeKind}
 use Rattle.raft_log_judge.specs.declared.change.ChangeKind.TheVariants.{Clean, Compact, Delete, Entries, Put}
 
--- the item that a change is in its group
+-- the log's item for a change of this kind
 abbrev pub item_of : ChangeKind → Item (List ℕ) (List ℕ)
 item_of (Entries first entries) = Run first entries
 item_of Clean = CleanItem

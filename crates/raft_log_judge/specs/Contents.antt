@@ -27,29 +27,29 @@ IsBefore (Some end) index = index < end
 abbrev pub NoneIn : Contents → ℕ → ℕ → Option ℕ → Type 0
 NoneIn m group begin end = (index : ℕ) → begin ≤ index → IsBefore end index → m group (Index index) ≡ None
 
--- the entries of the group that this item wrote from `begin` on, below `end` if there is one, are gone
+-- in the contents `m`, the group has no entry at the indexes of this item from `begin` on, below `end` if there is one
 abbrev pub IsGone : Contents → ℕ → ℕ → Option ℕ → Item (List ℕ) (List ℕ) → Type 0
 IsGone m group begin end (Run first entries) = (index : ℕ) → begin ≤ index → IsBefore end index → first ≤ index
     → index < first + length entries → m group (Index index) ≡ None
 IsGone m group begin end item = Unit {0}
 
--- all entries of the group that these items wrote within these bounds are gone
+-- `IsGone` holds for each of these items that is of the group
 abbrev pub AllGone : Contents → ℕ → ℕ → Option ℕ → List (Tagged (List ℕ) (List ℕ)) → Type 0
 AllGone m group begin end [] = Unit {0}
 AllGone m group begin end (x ∷ xs) = (x.group ≡ group → IsGone m group begin end x.item) × AllGone m group begin end xs
 
--- this key, if it is within the bounds, has no value, or is among the pairs
+-- if key `k` is within the bounds, it has no value in the contents `m`, or is among the pairs
 abbrev pub IsListed : Contents → ℕ → Option (List ℕ) → Option (List ℕ) → List (List ℕ × List ℕ) → List ℕ → Type 0
 IsListed m group start end pairs k = is_from start k && is_below end k ≡ true
     → (m group (Key k) ≡ None) ⊎ (is_some (lookup (bytes_eq k) pairs) ≡ true)
 
--- the key that an item puts is listed so
+-- if the item puts a key, `IsListed` holds for this key
 abbrev pub ListsPut : Contents → ℕ → Option (List ℕ) → Option (List ℕ) → List (List ℕ × List ℕ)
     → Item (List ℕ) (List ℕ) → Type 0
 ListsPut m group start end pairs (Put key value) = IsListed m group start end pairs key
 ListsPut m group start end pairs item = Unit {0}
 
--- all keys of the group that these items put are listed so
+-- `IsListed` holds for each key of the group that these items put
 abbrev pub ListsPuts : Contents → ℕ → Option (List ℕ) → Option (List ℕ) → List (List ℕ × List ℕ)
     → List (Tagged (List ℕ) (List ℕ)) → Type 0
 ListsPuts m group start end pairs [] = Unit {0}

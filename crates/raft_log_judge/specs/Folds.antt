@@ -17,7 +17,7 @@ is_same None (Some want) = false
 is_same (Some bytes) None = false
 is_same (Some bytes) (Some want) = bytes_eq bytes want
 
--- whether the entry at index `i` is `want` after an item, if `before` says whether it was so before
+-- whether the entry at index `i` is `want` after an item; `before` says whether it was `want` before the item
 abbrev pub entry_step : ℕ → Option (List ℕ) → Bool → Item (List ℕ) (List ℕ) → Bool
 entry_step i want before (Run first entries) =
     if (length entries == 0) || nat_lt i first then before else is_same (slice_get entries (i - first)) want
@@ -26,7 +26,7 @@ entry_step i want before (Compact index) = if nat_lt i index then is_same None w
 entry_step i want before (Put key value) = before
 entry_step i want before (Del key) = before
 
--- whether the value of key `k` is `want` after an item, if `before` says whether it was so before
+-- whether the value of key `k` is `want` after an item; `before` says whether it was `want` before the item
 abbrev pub value_step : List ℕ → Option (List ℕ) → Bool → Item (List ℕ) (List ℕ) → Bool
 value_step k want before (Run first entries) = before
 value_step k want before Clean = is_same None want
@@ -38,12 +38,12 @@ value_step k want before (Del key) = if bytes_eq key k then is_same None want el
 abbrev pub in_group : ℕ → (Bool → Item (List ℕ) (List ℕ) → Bool) → Bool → Tagged (List ℕ) (List ℕ) → Bool
 in_group g step before x = if x.group == g then step before x.item else before
 
--- what the steps for these items make of a flag
+-- the flag `before`, changed by the step for each of these items in order
 abbrev pub folded : (Bool → Tagged (List ℕ) (List ℕ) → Bool) → Bool → List (Tagged (List ℕ) (List ℕ)) → Bool
 folded step before [] = before
 folded step before (x ∷ xs) = folded step (step before x) xs
 
--- what the steps for the changes of all these batches make of a flag
+-- the flag `before`, changed by the step for each change of these batches in order
 abbrev pub folded_all : (Bool → Tagged (List ℕ) (List ℕ) → Bool) → Bool → List (List Change) → Bool
 folded_all step before [] = before
 folded_all step before (batch ∷ batches) = folded_all step (folded step before (map tagged batch)) batches

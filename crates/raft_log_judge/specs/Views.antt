@@ -18,48 +18,48 @@ use Rattle.raft_log_judge.specs.declared.outcome.Outcome.TheVariants.{Adds, Neve
 use Rattle.raft_log_judge.specs.declared.outcome.Standing.{Standing}
 use Rattle.raft_log_judge.specs.declared.outcome.Standing.TheVariants.{Broken, Closed, Running}
 
--- A view of a log: whether an engine has it open, the contents `now` that readers see, and the contents `kept` that a
--- crash may leave.
+-- A view of a log: whether an engine has it open, the contents `now` that readers see, and `kept`, one of the contents
+-- that a crash may leave. A log has a view for each of these.
 pub record View : Type 0 where
   pub standing : Standing
   pub now : Contents
   pub kept : Contents
 
--- a view of a log that readers can't see
+-- the view of a log over which no engine runs: nobody reads it, so `now` is what a crash leaves
 abbrev pub unseen : Standing → Contents → View
 unseen standing kept = record { standing = standing; now = kept; kept = kept }
 
--- what readers of the log see if an engine runs, and otherwise what a crash leaves
+-- The view of a log from which a crash leaves `kept`. If an engine runs over it, readers see `now`.
 abbrev pub seen : Standing → Contents → Contents → View
 seen Running now kept = record { standing = Running; now = now; kept = kept }
 seen standing now kept = unseen standing kept
 
--- these are the contents after the first few of the pending batches
+-- `kept` are the contents `m` and then the first few of the batches `pending`, maybe none or all
 pub record Reaches (m : Contents) (pending : List BatchRecord) (kept : Contents) : Type 0 where
   pub front : List BatchRecord
   pub rest : List BatchRecord
   pub splits : front ++ rest ≡ pending
   pub is : kept ≡ taken m front
 
--- a view of a log with these durable contents and pending batches
+-- `view` is a view of a log with the durable contents `m` and the pending batches `pending`
 pub record Sees (standing : Standing) (m : Contents) (pending : List BatchRecord) (view : View) : Type 0 where
   pub kept : Contents
   pub reaches : Reaches m pending kept
   pub is : view ≡ seen standing (taken m pending) kept
 
--- this is a view of the log
+-- `view` is a view of the log
 abbrev pub Fits : ModelLog → View → Type 0
 Fits (resting m) view = Sees Closed m [] view
 Fits (left m pending) view = Sees Closed m pending view
 Fits (running m pending) view = Sees Running m pending view
 Fits (failed m pending) view = Sees Broken m pending view
 
--- this is a view of one of the logs
+-- `view` is a view of one of the logs
 abbrev pub AnyFits : List ModelLog → View → Type 0
 AnyFits [] view = ⊥
 AnyFits (log ∷ logs) view = Fits log view ⊎ AnyFits logs view
 
--- what a call of an engine that runs comes to, by its answer
+-- what a call with this answer does to a log over which an engine runs; `Never` if the answer is impossible
 abbrev pub call_outcome : {B : Type 0} → Call B → Answer → Outcome
 call_outcome (Write batch sync) Done = Adds Running sync
 call_outcome (Write batch sync) Refused = Turns Running false
@@ -84,7 +84,7 @@ call_outcome (Purge kind) Refused = Turns Running true
 call_outcome (Purge kind) Failed = Turns Broken false
 call_outcome call answer = Never
 
--- what an event comes to, by its answer
+-- what an event with this answer does to a log; `Never` if the answer is impossible
 abbrev pub outcome : {B C : Type 0} → Standing → Event B C → Answer → Outcome
 outcome standing (Arm fault) Done = Turns standing false
 outcome standing (Arm fault) Refused = Turns standing false
@@ -108,13 +108,13 @@ outcome Broken (Fork target) Idle = Turns Broken false
 outcome Broken (Crash what) Done = Turns Closed false
 outcome standing event answer = Never
 
--- the batch that an event writes
+-- the batch that an event writes; the empty one if it writes none
 abbrev pub batch_of : {B C : Type 0} → (B → BatchRecord) → Event B C → BatchRecord
 batch_of says (Serve (Write batch sync)) = says batch
 batch_of says (Serve (Compact group index)) = compacts group index
 batch_of says event = Plain []
 
--- the contents are such that this event reads this answer
+-- a read of the contents `m`, as this event asks, returns this answer
 abbrev pub IsRead : {B C : Type 0} → Contents → Event B C → Answer → Type 0
 IsRead m (Serve (Get group key)) (Found value) = m group (Key key.items) ≡ option_map Value (bytes_of value)
 IsRead m (Serve (GetEntry group index)) (Found entry) = m group (Index index) ≡ option_map Entry (bytes_of entry)
@@ -126,7 +126,8 @@ IsRead m (Serve (Scan group start end)) (Keys pairs) =
     Scans m group (bytes_of start) (bytes_of end) (pairs_of pairs.items)
 IsRead m event answer = ⊥
 
--- How a view changes by an outcome. A batch that is added is kept, or what was kept before.
+-- How `view` becomes `next` by an outcome. `read` says that a read's answer is right for the view. If a batch is added
+-- without a sync, a crash may leave the contents with it, or what it might leave before.
 abbrev pub Turned : Outcome → BatchRecord → Type 0 → View → View → Type 0
 Turned Never batch read view next = ⊥
 Turned Reads batch read view next = read × (next ≡ view)
@@ -139,7 +140,7 @@ Turned (Adds standing true) batch read view next =
     next ≡ seen standing (taken view.now (batch ∷ [])) (taken view.now (batch ∷ []))
 Turned Opens batch read view next = next ≡ seen Running view.kept view.kept
 
--- how a view changes by an event with this answer
+-- how `view` becomes `next` by an event with this answer
 abbrev pub Moves : {B C : Type 0} → (B → BatchRecord) → View → Event B C → Answer → View → Type 0
 Moves says view event answer next =
     Turned (outcome view.standing event answer) (batch_of says event) (IsRead view.now event answer) view next
@@ -155,7 +156,7 @@ Goes says view events answers = ⊥
 abbrev pub AnyGoes : {B C : Type 0} → (B → BatchRecord) → List ModelLog → List (Event B C) → List Answer → Type 0
 AnyGoes says logs events answers = (view : View) × AnyFits logs view × Goes says view events answers
 
--- the views of `nexts` are those to which the views of `logs` change by this event with this answer
+-- the views of `nexts` are exactly those that the views of `logs` may become by this event with this answer
 abbrev pub LeadTo : {B C : Type 0} → (B → BatchRecord) → List ModelLog → Event B C → Answer → List ModelLog → Type 0
 LeadTo says logs event answer nexts =
     (next : View) → AnyFits nexts next ↔ ((view : View) × AnyFits logs view × Moves says view event answer next)

@@ -1,5 +1,5 @@
--- How the tables of all groups are joined that were read from two segments, one after the other, and how Append is
--- applied over Rewrite.
+-- How the tables of two consecutive segments are joined, and how what was read of Append is applied over what was read
+-- of Rewrite.
 use Rattle.std.specs.Prelude.{◌≡◌, ℕ, ◌==◌, ◌⊎◌, Bool, false, ◌&&◌, ◌||◌, not, Option, Some, None}
 use Rattle.raft_log_record_base.specs.declared.errors.Error.{Error}
 use Rattle.raft_log_record_base.specs.declared.errors.Error.TheVariants as errors
@@ -19,8 +19,8 @@ use Rattle.raft_log_memtables.specs.Replaying.{StaysAt}
 abbrev pub counts_with : MemTables → MemTables → ℕ → Bool
 counts_with old newer g = counts newer g || (counts old g && not (shown_of newer g).cleaned)
 
--- In group `g`, `new` has the result of both segments, the earlier one in `old` and the later one in `newer`. The run
--- of the later one leaves no hole.
+-- In group `g`, `new` has the result of both segments, the earlier one in `old` and the later one in `newer`. The later
+-- segment's entries leave no hole after those of the earlier one.
 pub record JoinsAt (old newer new : MemTables) (g : ℕ) : Type 0 where
   pub read : replayed_of new g ≡ joined (replayed_of old g) (replayed_of newer g)
   pub counting : counts new g ≡ counts_with old newer g
@@ -33,8 +33,8 @@ pub record JoinsOne (old new : MemTables) (group : ℕ) (newer : GroupTable) : T
   pub fits : LeavesHole (shown_of old group) (replay_of newer.table) → ⊥
   pub others : (g : ℕ) → (group == g) ≡ false → StaysAt old new g
 
--- Why a table of the later segment isn't joined. The error is `Hole` if its run leaves a hole. It may always be
--- `Memory`.
+-- Why a table of the later segment isn't joined. The error is `Hole` if the table's entries leave a hole. It may always
+-- be `Memory`.
 abbrev pub TableRefused : Shown → Replayed → Error → Type 0
 TableRefused v z error = ((error ≡ errors.Hole) × LeavesHole v z) ⊎ (error ≡ errors.Memory)
 
@@ -46,7 +46,7 @@ JoinsAll old newer new = (g : ℕ) → JoinsAt old newer new g
 abbrev pub JoinsSome : MemTables → MemTables → MemTables → Type 0
 JoinsSome old newer new = (g : ℕ) → StaysAt old new g ⊎ JoinsAt old newer new g
 
--- Why the later segment isn't joined. The error is `Hole` if its run leaves a hole in some group. It may always be
+-- Why the later segment isn't joined. The error is `Hole` if its entries leave a hole in some group. It may always be
 -- `Memory`.
 abbrev pub JoinRefused : MemTables → MemTables → Error → Type 0
 JoinRefused old newer error =

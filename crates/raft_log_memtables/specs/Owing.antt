@@ -36,7 +36,7 @@ delete_item g k = item_of g (contents.Kv (del_of k))
 abbrev pub owed_items : ℕ → Shown → List (List ℕ) → List LogItem
 owed_items g v ks = owed_commands g v ++ map (delete_item g) ks
 
--- all tombstones that group `g` owes were added to `old` as items, at the end
+-- `new` is the list `old` with the tombstones that group `g` owes added at its end, as items
 abbrev pub AddsOwed : ℕ → Shown → List LogItem → List LogItem → Type 0
 AddsOwed g v old new = (ks : List (List ℕ)) × ListsMarked v.deleted ks × (new ≡ old ++ owed_items g v ks)
 

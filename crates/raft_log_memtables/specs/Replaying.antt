@@ -12,7 +12,8 @@ use Rattle.raft_log_memtables.specs.declared.mem_tables.MemTables.{MemTables}
 use Rattle.raft_log_memtables.specs.Tables.{counts, promise_of, replayed_of, shown_of}
 use Rattle.raft_log_memtables.specs.Batch.{counts_after, counts_at_end, MayFollowAll}
 
--- the result of the replay after these items were read in file `n`, of Append if `q` is true, else of Rewrite
+-- the result of a replay, which was `z`, after these items were read in file `n`, of Append if `q` is true, else of
+-- Rewrite
 abbrev pub all_replayed : Bool → ℕ → Replayed → List (Item Place (List ℕ)) → Replayed
 all_replayed q n z [] = z
 all_replayed q n z (x ∷ xs) = all_replayed q n (replayed q n z x) xs

@@ -14,9 +14,9 @@ use Rattle.raft_log_memtable.specs.Room.{Promise, count_of, needs, with_moves, w
 use Rattle.raft_log_memtables.specs.declared.mem_tables.MemTables.{MemTables}
 use Rattle.raft_log_memtables.specs.Tables.{counts, has_table, promise_of, shown_of}
 
--- The table after this item was written to file `n` of Rewrite. Entries and a value that the table still has, and
--- that the gate allows, are now in that file. A Clean, Compact or Del is a tombstone that was owed, and changes
--- nothing.
+-- The table after this item was written to file `n` of Rewrite. Of a run, entries that the table still has and the gate
+-- allows move to the run's places (`rewritten_by`). A value that the table still has and the gate allows moves to file
+-- `n`. A Clean, Compact or Del is a tombstone that was owed, and changes nothing.
 abbrev pub rewritten_item : Option ℕ → ℕ → Shown → Item Place (List ℕ) → Shown
 rewritten_item gate n v (Run f ps) = rewritten_by gate v (Run f ps)
 rewritten_item gate n v (Put k w) = key_rewritten gate v k n
@@ -46,13 +46,13 @@ pub record GroupsStay (old new : MemTables) : Type 0 where
   pub tables : (g : ℕ) → has_table new g ≡ has_table old g
   pub counts : (g : ℕ) → counts new g ≡ counts old g
 
--- each group that has a table has reserved a move for each of its entries in the items too
+-- each group that has a table has now also reserved a move for each of its entries in the items
 pub record PromisesMoves {E V : Type 0} (old new : MemTables) (xs : List (Tagged E V)) : Type 0 where
   pub stay : GroupsStay old new
   pub moves : (g : ℕ) → promise_of new g ≡ moving (has_table old g) (promise_of old g) (entries_of g xs)
 
--- The item's group, if it has a table, has reserved a move for each entry of the item too. The reservations of other
--- groups are unchanged, and so are the groups that have a table or count.
+-- The item's group, if it has a table, has now also reserved a move for each entry of the item. The reservations of
+-- other groups are unchanged. The same groups have a table as before, and the same ones count.
 pub record PromisesMove {E V : Type 0} (old new : MemTables) (x : Tagged E V) : Type 0 where
   pub stay : GroupsStay old new
   pub move : promise_of new x.group
@@ -79,9 +79,9 @@ pub record TakesRewritten (gate : Option ℕ) (n : ℕ) (old new : MemTables) (x
   pub ends : (g : ℕ) → span (shown_of new g) ≡ span (shown_of old g)
   pub promise : (g : ℕ) → promise_of new g ≡ without_moves (promise_of old g) (entries_of g xs)
 
--- The item is an allowed copy. A run has the bytes of the table's entries. It starts at an entry of Rewrite or right
--- after them, and ends at or after the last. Past them, it has only entries that the gate allows, and only if the
--- table owes neither a Clean nor a Compact. A put has the key's value, which the gate allows. If the value is in
+-- The item is an allowed copy. A run has the bytes of the table's entries. It starts at an entry in Rewrite or right
+-- after the last of these, and ends at or after that last one. Past it, the run has only entries that the gate allows,
+-- and none if the table owes a Clean or a Compact. A put has the key's value, which the gate allows. If the value is in
 -- Append, the table owes neither a Clean nor the key's Del.
 abbrev pub IsCopy : {E : Type 0} → (Located → E) → Option ℕ → Shown → Item Place (List ℕ) → Type 0
 IsCopy at gate v (Run f ps) =

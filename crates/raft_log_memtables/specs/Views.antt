@@ -33,8 +33,8 @@ pub record AreMeant {E : Type 0} (at : Located → E) (v : ℕ → Shown) (m : M
 abbrev pub LieIn : ℕ → List (Tagged Place (List ℕ)) → Type 0
 LieIn n xs = (g : ℕ) → AreInFile n (of_group g xs)
 
--- Applying `xs` to the tables changes the view as the record `y` does, appended to file `n` of Append. The tables
--- then represent the contents after `y`.
+-- Applying the items `xs` to the tables changes the view as appending the record `y` to file `n` of Append does. The
+-- tables then represent the contents after `y`.
 pub record ViewGrows {E : Type 0} (at : Located → E) (n : ℕ) (v : ℕ → Shown) (m : Map E (List ℕ))
     (xs : List (Tagged Place (List ℕ))) (y : Record E (List ℕ)) : Type 0 where
   pub grows : GrowsTo y n (view_of v m) (view_of (all_shown n v xs) (taken m (y ∷ [])))
@@ -84,8 +84,8 @@ abbrev pub ended : GroupEnd → (ℕ → Shown) → ℕ → Shown
 ended e v g = if e.about g then with_note (all_moved (v g) (e.moves g)) (e.least g) e.files else v g
 
 -- In raft group `g`, the copies of the atomic group are allowed, and are in files up to its last one. After them, the
--- raft group has nothing of Rewrite in a file below `least`. The items of all its records have the same effect as
--- these copies.
+-- raft group has nothing of Rewrite in a file below `least`. The items of all records of the atomic group have the same
+-- effect as these copies.
 pub record MayEndIn {E : Type 0} (at : Located → E) (e : GroupEnd) (v : ℕ → Shown)
     (items : List (Tagged E (List ℕ))) (g : ℕ) : Type 0 where
   pub can : CanAllMove at (v g) (e.moves g)
@@ -99,8 +99,9 @@ pub record MayEnd {E : Type 0} (at : Located → E) (e : GroupEnd) (v : ℕ → 
   pub about : (g : ℕ) → e.about g ≡ true → MayEndIn at e v items g
   pub others : (g : ℕ) → e.about g ≡ false → of_group g items ≡ []
 
--- Changing the tables from `v` to `u` changes the view as the end of an atomic group does that began in file `n`. The
--- new tables represent the same contents `m`.
+-- Changing the tables from `v` to `u` changes the view as the end of an atomic group does. The group began in file `n`.
+-- Its earlier records have the items `first` and `more`, its last one `xs`. The new tables represent the same contents
+-- `m`.
 pub record ViewEnds {E : Type 0} (at : Located → E) (n : ℕ) (v u : ℕ → Shown) (m : Map E (List ℕ))
     (first : List (Tagged E (List ℕ))) (more : List (List (Tagged E (List ℕ))))
     (xs : List (Tagged E (List ℕ))) : Type 0 where

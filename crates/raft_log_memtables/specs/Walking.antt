@@ -27,13 +27,13 @@ listed_in all (Some t) = all || t.counts
 abbrev pub is_listed : Bool → MemTables → ℕ → Bool
 is_listed all m g = listed_in all (get nat_cmp m.groups g)
 
--- for each of these groups, the number of its entries and values in Rewrite
+-- `ns` has for each of the groups `gs` the number of its entries and values in Rewrite
 abbrev pub StandInEach : (ℕ → Shown) → List ℕ → List ℕ → Type 0
 StandInEach v [] [] = Unit {0}
 StandInEach v (g ∷ gs) (n ∷ ns) = StandIn (v g) n × StandInEach v gs ns
 StandInEach v gs ns = ⊥
 
--- the number of entries and values of all groups in Rewrite, at most 2 ^ 64 - 1
+-- `n` is the number of entries and values of all groups in Rewrite, or 2 ^ 64 - 1 if there are more
 abbrev pub Stand : MemTables → ℕ → Type 0
 Stand m n = (gs : List ℕ) × ListsGroups (has_table m) gs
     × ((ns : List ℕ) × StandInEach (shown_of m) gs ns × (n ≡ min (sum_by (λ k. k) ns) (2 ^ 64 - 1)))
@@ -53,7 +53,7 @@ IsLeastInTable queue t n = (min_file queue t ≡ Some n) × IsMinFile queue (sho
 abbrev pub IsLeastIn : LogQueue → MemTables → ℕ → ℕ → Type 0
 IsLeastIn queue m g n = (least_in queue (raw_of m g) ≡ Some n) × IsMinFile queue (shown_of m g) (Some n)
 
--- `least` is the lowest file of `queue` that any group needs, or `limit` if that is lower
+-- `least` is the lowest file of `queue` that any group needs, or `limit` if `limit` is lower or no group needs a file
 pub record IsLeastOf (queue : LogQueue) (limit : ℕ) (m : MemTables) (least : ℕ) : Type 0 where
   pub limited : least ≤ limit
   pub below : (g n : ℕ) → least_in queue (raw_of m g) ≡ Some n → least ≤ n

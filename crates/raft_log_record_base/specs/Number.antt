@@ -21,7 +21,7 @@ pub record IsLowFirst (w : Width) (bytes : List ℕ) (n : ℕ) : Type 0 where
   pub size : length bytes ≡ byte_len w
   pub value : n ≡ from_le_bytes w bytes
 
--- one byte
+-- `bytes` is the one byte `n`
 pub record IsByte (bytes : List ℕ) (n : ℕ) : Type 0 where
   pub only : bytes ≡ n ∷ []
 
@@ -153,7 +153,8 @@ i64_le_bytes v = u64_le_bytes (cast_unsigned w64 v)
 abbrev pub i32_le_bytes : ℤ → List ℕ
 i32_le_bytes v = u32_le_bytes (cast_unsigned w32 v)
 
--- The shortest varint of `n`, if that has at most as many bytes after the first as the first argument says.
+-- The shortest varint of `n`. The first argument is how many bytes it may have after the first one; if it needs more,
+-- the result is no varint of `n`.
 unfoldable pub var_bytes_within : ℕ → ℕ → List ℕ
 var_bytes_within zero n = n ∷ []
 var_bytes_within (suc left) n =
@@ -220,8 +221,8 @@ i64_le_at = mapped_at (cast_signed w64) (low_first_at w64)
 abbrev pub i32_le_at : NumberReader ℤ
 i32_le_at = mapped_at (cast_signed w32) (low_first_at w32)
 
--- Reads a varint with at most `left` bytes after the first. The byte after which none is left must be below 2,
--- because only bit 63 remains for it. Otherwise the error is `InvalidData`.
+-- Reads a varint with at most `left` bytes after the first. If it has that many, its last byte must be below 2; if not,
+-- the error is `InvalidData`. (The tenth byte of a 64-bit number has only bit 63.)
 unfoldable pub var_within : ℕ → NumberReader ℕ
 var_within left [] = Err (Io UnexpectedEof)
 var_within zero (b ∷ bs) = if nat_lt b 2 then Ok (b, bs) else Err (Io InvalidData)
@@ -236,7 +237,7 @@ var_u64_at bytes = var_within 9 bytes
 unfoldable pub var_i64_at : NumberReader ℤ
 var_i64_at = mapped_at from_zigzag var_u64_at
 
--- If the call succeeds, it appended `bytes` to the writer's contents, if the contents before are known.
+-- If the call succeeds, and the writer's contents `old` are known, then `new` are these contents with `bytes` appended.
 abbrev pub AddsTheseBytes : {X E : Type 0} → Result X E → Option (List ℕ) → Option (List ℕ) → List ℕ → Type 0
 AddsTheseBytes result old new bytes = OnOk result (Appends old new bytes)
 
@@ -256,7 +257,7 @@ IsWriteFault e = (kind : ErrorKind) × (e ≡ Io kind)
 abbrev pub IsShort : {X : Type 0} → Result X Error → Type 0
 IsShort result = result ≡ Err (Io UnexpectedEof)
 
--- the call fails with `InvalidData`: the number doesn't fit
+-- the call fails with `InvalidData`: the varint is longer than ten bytes, or its number is 2 ^ 64 or more
 abbrev pub IsInvalid : {X : Type 0} → Result X Error → Type 0
 IsInvalid result = result ≡ Err (Io InvalidData)
 
@@ -269,7 +270,8 @@ AllGoOn (b ∷ bs) = (128 ≤ b) × AllGoOn bs
 abbrev pub EndsFirst : List ℕ → Type 0
 EndsFirst bytes = AllGoOn bytes × (length bytes ≤ 9)
 
--- `bytes` begins with nine bytes of 128 or more and a tenth above 1: a varint of 2 ^ 64 or more
+-- `bytes` begins with nine bytes of 128 or more and a tenth above 1: a varint of more than ten bytes, or a number of
+-- 2 ^ 64 or more
 abbrev pub RunsOver : List ℕ → Type 0
 RunsOver bytes = (front : List ℕ) × (tenth : ℕ) × (rest : List ℕ)
     × (bytes ≡ front ++ tenth ∷ rest) × (length front ≡ 9) × AllGoOn front × (1 < tenth)

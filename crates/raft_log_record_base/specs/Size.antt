@@ -57,8 +57,8 @@ abbrev pub sized : ℕ → Option ℕ → Result ℕ ParseSizeError
 sized n None = Err UnknownUnit
 sized n (Some unit) = if nat_lt (n * unit) (2 ^ 64) then Ok (n * unit) else Err TooLarge
 
--- The size that `text` spells, or the first fault from the left: no digit at the front, a number too large, then the
--- unit.
+-- The size that `text` spells, or the first of these faults: no digit at the front, a number of 2 ^ 64 or more, an
+-- unknown unit, a size of 2 ^ 64 or more.
 unfoldable pub size_in : List ℕ → Result ℕ ParseSizeError
 size_in text =
     if starts_with_digit text
@@ -70,8 +70,8 @@ size_in text =
 abbrev pub GivesSize : Result ReadableSize ParseSizeError → Result ℕ ParseSizeError → Type 0
 GivesSize result size = MatchResult result (λ s. size ≡ Ok s.0) (λ e. size ≡ Err e)
 
--- Parses a size after white space was removed from both ends of `text`. The printed form of a size is parsed as the
--- size.
+-- A call parsed the size in `text`, without the white space at both ends, and returned `result`. The printed form of
+-- a size is parsed as the size.
 pub record ReadsSize (text : List ℕ) (result : Result ReadableSize ParseSizeError) : Type 0 where
   pub exact : GivesSize result (size_in (trim text))
   pub trimmed : IsTrim text (trim text)

@@ -1,6 +1,5 @@
--- Laws of records. A frame is what a reader sees that reads only the header and the footer. A record is a frame whose
--- entry block is valid too. The records of a file follow one another without gaps. At most one record can therefore
--- be at each offset, and decoders read back what a writer wrote there.
+-- Laws of records. A frame is what a reader sees if it reads only the header and the footer. A record is a frame whose
+-- entry block is valid too. At most one record can begin at an offset. Decoders read back what a writer wrote there.
 use Rattle.std.specs.Prelude.{replicate, ◌⊎◌, ◌≡◌, ◌↔◌, ℕ, ◌+◌, ◌≤◌, List, ◌++◌, length, take, Option, Ok}
 use Rattle.raft_log_record_items.specs.declared.item.LogItem.{LogItem}
 use Rattle.raft_log_record_base.specs.declared.pipe_log.FileBlockHandle.{FileBlockHandle}
@@ -64,15 +63,15 @@ FramesTakeBytes =
 abbrev pub BlockIsRead : Type 0
 BlockIsRead = (bytes entries : List ℕ) → ((block_of bytes ≡ Ok entries) ↔ IsBlock bytes entries)
 
--- Reading `bytes` as a footer succeeds with `items` exactly if it is a footer of these whose entries fill a block of
--- `len` bytes.
+-- Reading `bytes` as a footer returns `items` if and only if `bytes` is a footer of `items`, whose entries fill a block
+-- of `len` bytes.
 abbrev pub FooterIsRead : Type 0
 FooterIsRead =
     (signature : Option ℕ) (len : ℕ) (bytes : List ℕ) (items : List LogItem)
     → ((footer_of signature len bytes ≡ Ok items) ↔ IsFooterOf signature len bytes items)
 
--- Reading `bytes` as a footer with places succeeds exactly if it is a footer whose entries fill the block. The result
--- is its items, with their places in the block.
+-- Reading `bytes` as a footer with places succeeds if and only if it is a footer of items whose entries fill the block.
+-- The result is these items, with their places in the block.
 abbrev pub PlacedFooterIsRead : Type 0
 PlacedFooterIsRead =
     (signature : Option ℕ) (block : FileBlockHandle) (bytes : List ℕ) (there : List LogItem)

@@ -74,7 +74,7 @@ AreRead bytes items =
     (block : FileBlockHandle) → AddsUp items block.len
     → placed_footer_of None block bytes ≡ Ok (placed block (map plain_item items))
 
--- the items, in which entries from item number `first` on have offsets set one after another, from `offset` on
+-- the items; from item number `first` on, their entries get offsets one after another, the first one `offset`
 abbrev pub laid_from : ℕ → ℕ → List LogItem → List LogItem
 laid_from first offset items = take first items ++ laid_out offset (drop first items)
 
@@ -111,8 +111,8 @@ abbrev pub FindsPlaced : Result ItemBatch Error → Option ℕ → FileBlockHand
 FindsPlaced result signature handle bytes =
     IfOk result (λ batch. IsPlacedFooter signature handle bytes batch.items)
 
--- If `bytes` is a footer of items that fill the block, the call returns these with their places, or fails with
--- `Memory`.
+-- If `bytes` is a footer of items whose entries fill the block, the call returns these items with their places, or
+-- fails with `Memory`.
 abbrev pub OnlyPlaced : Result ItemBatch Error → Option ℕ → FileBlockHandle → List ℕ → Type 0
 OnlyPlaced result signature handle bytes =
     (items : List LogItem) → IsFooterOf signature handle.len bytes items

@@ -23,12 +23,12 @@ pub record HoldsRecordBytes (signature : Option ℕ) (buffer : List ℕ) (checks
 abbrev pub IsPlainFooter : List ℕ → List LogItem → Type 0
 IsPlainFooter bytes items = IsFooter None bytes (map plain_item items)
 
--- The buffer begins with 16 bytes for the header, and then has the entries' bytes. These become an entry block; the
--- header is unchanged.
+-- `buffer` has 16 bytes for the header, and then the entries' bytes. In the result these are an entry block, and the 16
+-- bytes are unchanged.
 abbrev pub with_block : List ℕ → List ℕ
 with_block buffer = take 16 buffer ++ block_bytes (drop 16 buffer)
 
--- the error is `Memory`, or `Full` and `len`, the record's length, is 2 ^ 56 or more
+-- the error is `Memory`; or it is `Full`, and the record's length `len` is 2 ^ 56 or more
 abbrev pub IsMemoryOrFull : Error → ℕ → Type 0
 IsMemoryOrFull e len = (e ≡ errors.Memory) ⊎ ((e ≡ errors.Full) × (2 ^ 56 ≤ len))
 

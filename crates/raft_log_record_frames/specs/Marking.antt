@@ -119,7 +119,7 @@ abbrev pub marking_of_items : List LogItem → Marking
 marking_of_items [] = Unmarked
 marking_of_items (x ∷ xs) = joined_marking (marking_of x) (marking_of_items xs)
 
--- an item is read as part `status` of atomic group `id` if and only if it is the mark for them
+-- an item is read as part `status` of atomic group `id` if and only if it is the mark of this group with this status
 abbrev pub MarksAreTold : Type 0
 MarksAreTold =
     (item : LogItem) (id : ℕ) (status : AtomicGroupStatus)

@@ -26,7 +26,7 @@ signed signature bytes = bit_xor (crc32_of bytes) (unwrap_or signature 0)
 
 -- Footers.
 
--- a footer in a file with this signature: the items, then their signed checksum, four bytes in little-endian order
+-- `bytes` is a footer in a file with this signature: the items, then their signed checksum, four bytes, little-endian
 pub record IsFooter (signature : Option ℕ) (bytes : List ℕ) (items : List LogItem) : Type 0 where
   pub body : List ℕ
   pub checksum : List ℕ
@@ -55,8 +55,8 @@ IsBlock bytes entries =
 
 -- Headers.
 
--- A header has two numbers of 64 bits, big-endian. The first is 256 times the record's length, so its lowest byte is
--- 0, the type of no compression. The second is the offset of the footer in the record.
+-- `bytes` is a header: two numbers of 64 bits, big-endian. The first is 256 times the record's length `len`, so its
+-- lowest byte is 0, the type of no compression. The second is `offset`, that of the footer in the record.
 pub record IsHeader (bytes : List ℕ) (len offset : ℕ) : Type 0 where
   pub first : List ℕ
   pub second : List ℕ
@@ -64,12 +64,13 @@ pub record IsHeader (bytes : List ℕ) (len offset : ℕ) : Type 0 where
   pub length_spelled : IsU64 first (256 * len)
   pub offset_spelled : IsU64 second offset
 
--- the footer's offset is at least 16, the length of the header, and at most the record's length
+-- `header` has the footer's offset, the compression and the record's length. The offset is at least 16, the length of a
+-- header, and at most the record's length.
 abbrev pub IsInside : ℕ × CompressionType × ℕ → Type 0
 IsInside header = (16 ≤ header.0) × (header.0 ≤ header.2)
 
--- A valid header: its footer's offset is at least 16 and at most the record's length. `header` is that offset, the
--- block's compression, which is none, and the record's length.
+-- `bytes` is a valid header. `header` has the footer's offset, the block's compression, which is none, and the record's
+-- length. The offset is at least 16 and at most the record's length.
 pub record IsSoundHeader (bytes : List ℕ) (header : ℕ × CompressionType × ℕ) : Type 0 where
   pub spelled : IsHeader bytes header.2 header.0
   pub plain : header.1 ≡ kinds.None
@@ -78,8 +79,8 @@ pub record IsSoundHeader (bytes : List ℕ) (header : ℕ × CompressionType × 
 
 -- Records.
 
--- A header, a block, whose bytes are not checked, and a footer of `items`. The header has the right length and footer
--- offset, and the entries of the items fill the block.
+-- `bytes` is a header, then `block`, whose bytes are not checked, and a footer of `items`. The header has the right
+-- length and footer offset, and the entries of the items fill the block.
 pub record IsFrame (signature : Option ℕ) (bytes : List ℕ) (items : List LogItem) (block : List ℕ)
     : Type 0 where
   pub header : List ℕ
@@ -89,7 +90,7 @@ pub record IsFrame (signature : Option ℕ) (bytes : List ℕ) (items : List Log
   pub footer_spelled : IsFooter signature footer items
   pub adds_up : AddsUp items (length block)
 
--- a frame whose block is an entry block with these bytes of entries
+-- `bytes` is a frame whose block is a valid entry block with these bytes of entries
 pub record IsRecord (signature : Option ℕ) (bytes : List ℕ) (items : List LogItem) (entries : List ℕ)
     : Type 0 where
   pub block : List ℕ
@@ -144,7 +145,7 @@ header_of word offset =
     else Ok (offset, kinds.None, word / 256)))
     else Err (corrupt (unsupported_compression (word % 256)))
 
--- reads the header at the front of `bytes`
+-- reads the header at the front of `bytes`: the footer's offset, the compression and the record's length
 unfoldable pub header_at : Reader (ℕ × CompressionType × ℕ) Fault
 header_at bytes =
     if nat_lt (length bytes) 16 then Err (corrupt (header_too_short (length bytes)))
@@ -171,22 +172,23 @@ whole_of len sum rest =
     then (if adds_up len sum then Ok tt else Err (corrupt lengths_mismatch))
     else Err (corrupt (bytes_after_items (length rest)))
 
--- `items`, if `rest`, the bytes after them, is empty and their entries fill a block of `len` bytes
+-- `items`, if no bytes `rest` follow them, and their entries fill a block of `len` bytes
 unfoldable pub whole_items : ℕ → List LogItem → List ℕ → Result (List LogItem) Fault
 whole_items len items rest = whole_of len (entries_len items) rest >>= λ whole. Ok items
 
--- a decoder of a whole slice returned the part of it that `reading` returns, unless memory ran out
+-- a decoder of a whole slice returned the part of the slice that `reading` returns, or failed as `reading` does, unless
+-- memory ran out
 abbrev pub GivesSlice : Result (Bor (List ℕ)) Error → Result (List ℕ) Fault → Type 0
 GivesSlice (Ok x) reading = reading ≡ Ok x.now
 GivesSlice (Err e) reading = FailsOrMemory e reading
 
--- a decoder of a vector returned the items of `reading`, unless memory ran out
+-- a decoder of a vector returned the items of `reading`, or failed as `reading` does, unless memory ran out
 abbrev pub GivesItems : {X : Type 0} → Result (Vec X) Error → Result (List X) Fault → Type 0
 GivesItems (Ok x) reading = reading ≡ Ok x.items
 GivesItems (Err e) reading = FailsOrMemory e reading
 
--- A check of the end of a footer returned the right result for each possible total length `sum` of the entries. It
--- was given the total as `len`, which is at most 2 ^ 64 - 1.
+-- A check of the end of a footer returned `result`. It was given the total length of the entries as `len`, which is
+-- 2 ^ 64 - 1 if the total is more. The result is right for each total `sum` for which `len` is given.
 abbrev pub TellsWhole : Result (Unit {0}) Error → ℕ → ℕ → List ℕ → Type 0
 TellsWhole result block_len len rest =
     (sum : ℕ) → len ≡ min sum (2 ^ 64 - 1) → GivesOrMemory result (whole_of block_len sum rest)

@@ -59,6 +59,6 @@ pub record IsForeign (last : Bool) (id : FileId) (handle : Handle) (d : Disk) (e
   pub stops : StopsAtForeign last id (bytes_in (d.files handle.file)) at compression
   pub told : TellsForeign id at compression error
 
--- why reading a file for a recovery fails: it can't be read, or its reading stops at a foreign record
+-- why reading a file for a recovery fails: it can't be read, memory ran out, or its reading stops at a foreign record
 abbrev pub FailsToReadRecords : Bool → FileId → Handle → Disk → Error → Type 0
 FailsToReadRecords last id handle d error = FailsToRead handle d error ⊎ IsForeign last id handle d error

@@ -24,7 +24,7 @@ pub record FileReading : Type 0 where
   pub format : LogFileFormat
   -- the items of the good records, in order, with the places of their entries
   pub batches : List (List LogItem)
-  -- where the last good record ends, or the header, if there is one
+  -- where the last good record ends; without one, where the header ends; `None` if there is no header or a torn one
   pub end : Option ℕ
   -- what is wrong after that, or with the header, as an error
   pub fault : Option Error
@@ -42,9 +42,9 @@ HasTornHeader last format bare = (last ≡ true) × (IsUnaligned format → ⊥)
 abbrev pub torn_header : List ℕ
 torn_header = codes "log file header has an alignment, and no record after it"
 
--- What the bytes of a file contain; `last` says whether it is its queue's last file. If they don't begin with a
--- header, or with a torn one, they contain nothing, and that is the fault. Else they contain the header's format and
--- the batches after it.
+-- What the bytes of a file contain; `last` says whether it is its queue's last file. If they begin with no header, or
+-- with a torn one, they contain no batch, and the fault says why. Else they contain the header's format and the batches
+-- after it.
 pub data ReadsBytes (last : Bool) (id : FileId) (content : List ℕ) (read : FileReading) : Type 0 where
   headless : (fault : Fault) → header_at (take 69 content) ≡ Err fault
       → TellsIfAny read.fault (Some fault) → read.batches ≡ [] → read.end ≡ None

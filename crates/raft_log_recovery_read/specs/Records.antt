@@ -1,6 +1,6 @@
--- The records in a log file's bytes, with their entry blocks. In a file before the queue's last one, only the frames
--- and the last record are read: all records were synced before the next file began. A frame is a record whose entry
--- block isn't checked.
+-- The records in a log file's bytes, with their entry blocks. A frame is a record whose entry block isn't checked. In a
+-- file that isn't its queue's last, only the last record's entry block is checked: all records were synced before the
+-- next file began.
 use Rattle.std.specs.Prelude.{◌≡◌, ℕ, ◌<◌, Bool, true, false, Option, Some, None, List, [], ◌∷◌, ◌++◌, length, drop, Err, IsOk}
 use Rattle.raft_log_record_base.specs.Files.{signature_of}
 use Rattle.raft_log_record_base.specs.Fault.{Fault}
@@ -35,12 +35,12 @@ HasRecords file content offset [] end = end ≡ offset
 HasRecords file content offset (items ∷ more) end =
     (next : ℕ) × HasRecord file content offset items next × HasRecords file content next more end
 
--- no record follows `end`; or `fault` is what is wrong with the next one: with its frame, or with its entry block
+-- nothing or only padding follows `end`, or `fault` is what is wrong with the next record: its frame or its entry block
 abbrev pub StopsWhole : OpenFile → List ℕ → ℕ → Option Fault → Type 0
 StopsWhole file content end None = HasNoMore file content end
 StopsWhole file content end (Some fault) = IsRecordTorn file content end fault
 
--- no batch follows `end`, or `fault` is what is wrong with the frame of the next one
+-- nothing or only padding follows `end`, or `fault` is what is wrong with the frame of the next record
 abbrev pub StopsGood : OpenFile → List ℕ → ℕ → Option Fault → Type 0
 StopsGood file content end None = HasNoMore file content end
 StopsGood file content end (Some fault) = IsBroken file content end fault
@@ -55,8 +55,8 @@ pub record EndsWhole (file : OpenFile) (content : List ℕ) (offset : ℕ) (batc
   pub first : HasBatches file content offset before between
   pub record_last : HasRecord file content between last end
 
--- What is read of a file before the last one, from `offset` on. It is the batches up to the file's end or to a broken
--- frame, if the record of the last batch is whole. If that record's entry block is torn, it is the batches before it.
+-- What is read of a file that isn't its queue's last, from `offset` on: the batches up to the file's end or to a broken
+-- frame. If the last of these has a torn entry block, it isn't read, and the batches end before it.
 pub data ReadsEarlier (file : OpenFile) (content : List ℕ) (offset : ℕ) (batches : List (List LogItem))
     (end : ℕ) (fault : Option Fault) : Type 0 where
   none : batches ≡ [] → end ≡ offset → StopsGood file content end fault

@@ -53,7 +53,7 @@ pub record BeginsFile (mode : RecoveryMode) (queue : LogQueue) (files : List Fil
   pub rest : List Batch
   pub begins : said (id_of queue file) read.batches ≡ batches ++ rest
 
--- reading the file at position `index` fails with `error`: it can't be read, or its damage isn't tolerated
+-- reading the file at position `index` fails with `error`, for one of the reasons of `FailsToReadFound`
 pub record RefusesFile (mode : RecoveryMode) (queue : LogQueue) (files : List File) (d : Disk) (index : ℕ)
     (error : Error) : Type 0 where
   pub file : File

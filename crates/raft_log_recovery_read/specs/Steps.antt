@@ -30,7 +30,7 @@ pub record TakesBatchOf (d : Disk) (file : OpenFile) (old new : LogItemBatchFile
   pub further : end_of old < end_of new
 
 -- What follows the reader's offset, if all reads were honest: a batch, which it read; nothing more; or a broken frame
--- with this fault. In the last two cases it is at the same offset.
+-- with this fault. In the last two cases the reader stays at its offset.
 abbrev pub TakesNextBatch : Disk → OpenFile → LogItemBatchFileReader → LogItemBatchFileReader → Next → Type 0
 TakesNextBatch d file old new (nexts.Batch items) = TakesBatchOf d file old new items.items
 TakesNextBatch d file old new nexts.End = IsTrue (honest_of new)

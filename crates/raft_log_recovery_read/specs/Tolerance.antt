@@ -27,7 +27,8 @@ pub record ReadsFound (mode : RecoveryMode) (last : Bool) (id : FileId) (handle 
   pub native : StopsAtNoForeign last id (bytes_in (d.files handle.file))
   pub tolerated : IsTolerated mode last read.fault
 
--- the file is damaged as `error` says, not foreign, and this recovery mode doesn't tolerate that
+-- The file is damaged, as `error` says, and this recovery mode doesn't tolerate that. Its reading doesn't stop at a
+-- foreign record.
 pub record IsDamaged (mode : RecoveryMode) (last : Bool) (id : FileId) (handle : Handle) (d : Disk)
     (error : Error) : Type 0 where
   pub read : FileReading
@@ -36,8 +37,10 @@ pub record IsDamaged (mode : RecoveryMode) (last : Bool) (id : FileId) (handle :
   pub told : read.fault ≡ Some error
   pub strict : tolerates mode last ≡ false
 
--- Why a recovery fails to read a file: it can't be read, or memory ran out; in every mode, its reading stops at a
--- foreign record; or it is damaged, and that isn't tolerated.
+-- Why a recovery fails to read a file:
+-- - it can't be read, or memory ran out
+-- - its reading stops at a foreign record, whatever the mode
+-- - it is damaged, and the mode doesn't tolerate that
 abbrev pub FailsToReadFound : RecoveryMode → Bool → FileId → Handle → Disk → Error → Type 0
 FailsToReadFound mode last id handle d error =
     FailsToReadRecords last id handle d error ⊎ IsDamaged mode last id handle d error

@@ -23,6 +23,7 @@ pub record TellsCut {S : Type 0} (service : Service S) (number : ℕ) (requests 
   pub told : lines ≡ round_text number (record { requests = requests; refused = refused; outcome = Cut })
   pub cuts : CutsOff service cause refused requests old new
 
+-- `lines` are those of round `number`, which got replies or was cut off
 abbrev pub TellsRound : {S : Type 0} → Service S → ℕ → List (ℕ × Request) → List ℕ → S → S → Type 0
 TellsRound service number requests lines old new =
     TellsReplies service number requests lines old new ⊎ TellsCut service number requests lines old new

@@ -3,8 +3,8 @@ use Rattle.raft_voter.specs.Service.{CutRound, Service}
 use Rattle.raft_voter_world.specs.Stores.{Disk, FindsVoters, LeavesInFiles, LeavesStanding}
 use Rattle.raft_voter_shared_log.specs.Joining.{GoesOn}
 
--- for every cut-off round that `files` leave, there is no CRC collision in the files `read`, which are read instead of
--- them
+-- The files `read`, which are read in place of `files`, have no CRC collision. This condition depends on the cut-off
+-- round that `files` leave, and on a proof that they do. It is required for all of these.
 abbrev pub Spares : {S F : Type 0} → Disk S F → F → F → Type 0
 Spares d files read = (cut : CutRound) (known : d.leaves files cut) → d.without_chance files cut known read
 

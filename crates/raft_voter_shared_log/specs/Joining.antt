@@ -7,17 +7,17 @@ use Rattle.raft_voter_rounds.specs.Journal.{IsLegal}
 use Rattle.raft_voter_shared.specs.Openings.{Session, TookUpTo, all_cuts, all_rounds}
 use Rattle.raft_voter_shared.specs.Standing.{is_last, standing}
 
--- One opening: the store as it was opened, what settling it returned, and the store as it was settled. Settling returns
--- a journal of the rounds and how the store failed. The session has also the cut of the rounds in which it failed, which
--- are cut as one round.
+-- One opening: the store when it was opened, its session, and the store when it was settled. The session has the
+-- journal of the rounds, and how the store failed, as settling returned them. It also has the cut of the rounds in
+-- which the store failed, which are cut as one round.
 pub record Sharing (S : Type 0) : Type 0 where
   pub opened : S
   pub session : Session
   pub settled : S
 
--- The round after which the voters of the store are possible, if it was opened with the voters of `W`. If the store
--- failed in rounds that it served together, this is these rounds as one. Otherwise it is no round, with the voters after
--- all records.
+-- Which voters the store may leave, if it was opened with the voters of `W`: those that are possible after this cut-off
+-- round. If the store failed in rounds that it served together, it is these rounds as one. Otherwise no round was cut
+-- off, and only the voters after all records are possible.
 abbrev pub behind : World → Session → CutRound
 behind W s = standing W s.journal s.failure
 
@@ -30,12 +30,13 @@ pub record Settles {S : Type 0} (v : Service S) (x : Sharing S) : Type 0 where
   pub last : is_last x.session.failure x.session.journal ≡ true
   pub left : (W : World) → IsOpenAt v x.opened W → ∥ v.leaves x.settled (behind W x.session) ∥₁
 
--- store `new` serves voters that are possible after what store `old` left
+-- Suppose that after a close or a crash of `old`, an open finds only voters that are possible after a cut-off round.
+-- Then `new` serves such voters.
 abbrev pub GoesOn : {S : Type 0} → Service S → S → S → Type 0
 GoesOn v old new =
     (cut : CutRound) → ∥ v.leaves old cut ∥₁ → ∥ ((X : World) × MayFollow cut X × IsOpenAt v new X) ∥₁
 
--- Suppose that opening `x` began with the voters of a world. Then store `next` serves voters that are possible after it.
+-- if the opening `x` began with the voters of a world, the store `next` serves voters that are possible after `x`
 abbrev pub ContinuesFrom : {S : Type 0} → Service S → Sharing S → S → Type 0
 ContinuesFrom v x next = (W : World) → IsOpenAt v x.opened W
     → ∥ ((X : World) × MayFollow (behind W x.session) X × IsOpenAt v next X) ∥₁

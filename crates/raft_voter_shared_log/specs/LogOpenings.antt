@@ -51,23 +51,25 @@ abbrev pub IsLeftNext : {F : Type 0} (disk : F → Disk) (home : LogDirectories)
 IsLeftNext disk home cut closed found left = IsCrashOf home left.left.1.lies.state (disk closed) (disk found)
     ⊎ ((found ≡ closed) × StandsWithoutChance home left.left.1.lies.state (disk closed))
 
--- The store of the opening `x` hadn't failed when it was settled, and its log was closed properly. The files of the next
--- opening `next` are those, or a crash image of them. There is no premise on CRC collisions.
+-- The store of the opening `x` hadn't failed when it was settled, and its log was closed properly. The next opening
+-- `next` opens the files that the close left, or a crash image of them. There is no premise on CRC collisions.
 pub record ReadsClosed {F : Type 0} (disk : F → Disk) (shows : LogStore F → EngineState) (x next : LogSharing F) : Type 0 where
   pub runs : has_failed (shows x.shared.settled) ≡ false
   pub sound : IsSound (shows x.shared.settled).pipes.disk
   pub closes : ClosesProperly (shows x.shared.settled).pipes (disk x.closed)
   pub found : IsThatOrItsImage (disk x.closed) (disk next.found)
 
--- The opening `x` began with the voters of a world. Then its files can be opened, with voters that are possible after it.
--- The files of the next opening `next` are those, or a crash image of them, and there is no CRC collision in them.
+-- Suppose the opening `x` began with the voters of a world. Then the files that its close left can be opened, with
+-- voters that are possible after `x`. The next opening `next` opens these files, or a crash image of them, and there is
+-- no CRC collision in what it opens.
 abbrev pub ReadsLeft : {F : Type 0} → (F → Disk) → (LogStore F → EngineState) → LogSharing F → LogSharing F → Type 0
 ReadsLeft disk shows x next = (W : World) → IsOpenAt (log_service shows) x.shared.opened W
     → ∥ ((left : IsLeftAmong (home_behind x) (disk x.closed) (MayFollow (behind W x.shared.session)))
     × IsLeftNext disk (home_behind x) (behind W x.shared.session) x.closed next.found left) ∥₁
 
 -- The next opening `next` has settings that name the same directories as those of `x`. It opens the files that `x`
--- left, or a crash image of them. If the store had failed, or its close wasn't proper, there is no CRC collision in them.
+-- left, or a crash image of them. If the store of `x` had failed, or its close wasn't proper, there is no CRC collision
+-- in what `next` opens.
 pub record ComesNext {F : Type 0} (disk : F → Disk) (shows : LogStore F → EngineState) (x next : LogSharing F) : Type 0 where
   pub named : home_of next.shared.opened.config ≡ home_behind x
   pub sound : IsSound (disk next.found)
@@ -95,8 +97,8 @@ BeginsBare disk (x ∷ xs) = IsSound (disk x.found) × IsBare x.shared.opened.co
 abbrev pub stores_of : {F : Type 0} → List (LogSharing F) → List (Sharing (LogStore F))
 stores_of xs = map (λ x. x.shared) xs
 
--- Voters that never fail give exactly the replies in all journals, one after another. The cuts are the positions that
--- the next opens show.
+-- If the first opening found no log, voters that never fail give exactly the replies in all journals, one after
+-- another. The cuts are those of `JoinedOpeningsAreExplained`.
 abbrev pub LogOpeningsAreExplained :
     {F : Type 0} → (F → Disk) → (F → List ℕ → ℕ → Type 0) → (LogStore F → EngineState) → Type 0
 LogOpeningsAreExplained {F} disk tells shows = (xs : List (LogSharing F)) → BeginsBare disk xs
@@ -120,9 +122,9 @@ abbrev pub ClosedImagesMean : LogDirectories → Disk → CutRound → Type 0
 ClosedImagesMean home d cut = (left : IsLeftAmong home d (MayFollow cut))
     × ((image : Disk) → IsCrashOf home left.left.1.lies.state d image → RestsMeaning home image (MayFollow cut))
 
--- A store was settled, whether it had failed or not. Each crash image under it, before it is closed or after, has the
--- voters that it served at its open, after the records with replies. If it failed in rounds that it served together, they
--- also took the requests of these before some position. This requires that there is no CRC collision in the image.
+-- A store was settled. Take a crash image of its disk, from before or after its close, without a CRC collision. The
+-- image has the voters that the store served when it was opened, after all records with replies. If the store failed in
+-- rounds that it served together, the voters also took the requests of these rounds before some position.
 abbrev pub SettledStoresMean : {F : Type 0} → (LogStore F → EngineState) → Type 0
 SettledStoresMean {F} shows = (x : Sharing (LogStore F)) (W : World) → Settles (log_service shows) x
     → IsOpenAt (log_service shows) x.opened W

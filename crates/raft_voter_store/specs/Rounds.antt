@@ -1,4 +1,4 @@
--- A round of requests, as the store's loop serves it one by one, and how the round ends.
+-- How the store's loop serves the requests of a round one by one, and how the round ends.
 use Rattle.std.specs.Prelude.{◌≡◌, ◌⊎◌, ◌≤◌, ℕ, Bool, false, List, length, slice_get, Some, take}
 use Rattle.raft_log_fs.specs.Causes.{IsLater}
 use Rattle.raft_log_record_base.specs.declared.errors.Error.{Error}
@@ -15,8 +15,8 @@ use Rattle.raft_voter_durability_laws.specs.Requests.{Broke, TurnedDown}
 use Rattle.raft_voter_durability_laws.specs.Ends.{Answered, GaveUp, Unsynced, Went}
 
 -- The first requests of the round `qs` got the replies `told`, and the next request `q` was rejected with an error. The
--- disk at the end of the call is no earlier than after that request. So a failed file call at the request is counted in
--- the call.
+-- call ends in the state `t`, whose disk is no earlier than that after `q`: a file call that failed at `q` is counted
+-- there too.
 pub record TurnsDown (qs : List (ℕ × Request)) (told : List Reply) (q : ℕ × Request) (s t : EngineState) (os : ℕ → State)
     : Type 0 where
   pub wrote : Bool
@@ -51,13 +51,14 @@ pub record StopsAt (qs : List (ℕ × Request)) (told : List Reply) (s t : Engin
   pub at : slice_get qs (length told) ≡ Some request
   pub broke : Broke request mid t outlines
 
--- for all voters that the log stored before, with the outlines `os`, the round ended with the replies `told`
+-- If the log of `s` stored voters with the outlines `os`, the round `qs` got the replies `told`. It ended in the state
+-- `t`, with the outlines `us`.
 abbrev pub RoundIsAnswered : List (ℕ × Request) → List Reply → EngineState → EngineState → (ℕ → State) → (ℕ → State) → Type 0
 RoundIsAnswered qs told s t os us =
     (home : LogDirectories) (V : World) → Keeps home s V → AreOutlines os V → Answered home V qs told s t us
 
--- The round was cut off. For all voters that the log stored before, with the outlines `os`, the engine failed at a
--- request, or the sync at the end failed. `refused` are the positions of the replies `Refused`, and each has a reason.
+-- The round was cut off. If the log of `s` stored voters with the outlines `os`, the engine failed at a request, or the
+-- sync at the end failed. `refused` are the positions of the replies `Refused`, and each has a reason.
 pub record CutsRoundOff (qs : List (ℕ × Request)) (refused : List ℕ) (s t : EngineState) (os : ℕ → State) : Type 0 where
   pub told : List Reply
   pub few : length told ≤ length qs

@@ -28,7 +28,7 @@ abbrev pub IsOfRun :
     → IsRun v u d files events report → Moment S F → Storage S F → Type 0
 IsOfRun v u d files events report run m at = HappenedTo m at (Closed files) (moments_of run.turns ++ run.closing)
 
--- One of the moments that happened is this round:
+-- One of the moments that happened (`Happened`, with the storage before each) is this round:
 -- - a store replied to it, and may refuse the positions that it refused;
 -- - or a store cut it off for a cause that it may have, and the round had the effect that this cause allows;
 -- - or it was cut off while no store was open.

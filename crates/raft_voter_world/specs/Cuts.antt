@@ -11,8 +11,8 @@ use Rattle.raft_voter_world.specs.History.Moment.{opened, answered, cut_off, idl
 use Rattle.raft_voter_world.specs.Places.{IsPlaceFound}
 use Rattle.raft_voter_world.specs.Stores.{world_in}
 
--- the position that the next open of `ms` found for the cut-off round: 0 if it found none, and `last` if no open
--- follows
+-- the position that the next open in `ms` found for the cut-off round: 0 if it found none, and `last` if no open in
+-- `ms` read the voters
 abbrev pub next_place : {S F : Type 0} → ℕ → List (Moment S F) → ℕ
 next_place last [] = last
 next_place last (opened workers store voters place now ∷ ms) = unwrap_or place 0
@@ -23,15 +23,16 @@ abbrev pub place_for : Cause → ℕ → ℕ
 place_for FileSystem place = place
 place_for cause place = 0
 
--- the cuts of the rounds without replies in these moments; `last` is the cut of the round that no open follows
+-- the cuts of the rounds without replies in these moments; `last` is the cut for `FileSystem` if no open read the
+-- voters afterwards
 abbrev pub cuts_in : {S F : Type 0} → ℕ → List (Moment S F) → List ℕ
 cuts_in last [] = []
 cuts_in last (cut_off round cause now ∷ ms) = place_for cause (next_place last ms) ∷ cuts_in last ms
 cuts_in last (idle round files ∷ ms) = 0 ∷ cuts_in last ms
 cuts_in last (m ∷ ms) = cuts_in last ms
 
--- The last round that may be taken in part, after `round` was cut off for this cause. This is `round` itself for
--- `FileSystem`. Otherwise nothing of `round` was taken, and it is `cut` still.
+-- The last round that may be taken in part, after `round` was cut off for this cause. `cut` was the last one before.
+-- For `FileSystem`, it is now `round`. Otherwise nothing of `round` was taken, and it still is `cut`.
 abbrev pub cut_by : Cause → CutRound → Round → CutRound
 cut_by FileSystem cut round =
     record { before = cut.before; requests = round.requests; refused = round.refused }
@@ -41,8 +42,8 @@ cut_by cause cut round = cut
 abbrev pub cut_after : CutRound → Round → CutRound
 cut_after cut round = uncut (after cut.before (taken_below round (length round.requests)))
 
--- For each open, `place` is the first position in the last cut-off round at which the voters that the open shows fit.
--- It is `None` if they fit at no position.
+-- For each open that shows voters, `place` is the first position in the last cut-off round at which they fit. It is
+-- `None` if they fit at no position. `cut` is the last cut-off round before these moments.
 abbrev pub AreLeast : {S F : Type 0} → CutRound → List (Moment S F) → Type 0
 AreLeast cut [] = Unit {0}
 AreLeast cut (opened workers store voters place now ∷ ms) =
@@ -57,14 +58,15 @@ lost_at event [] = []
 lost_at event (opened workers store voters None now ∷ ms) = event ∷ lost_at event ms
 lost_at event (m ∷ ms) = lost_at event ms
 
--- The events that lost voters, by number, where the first list of moments is that of `event`. An event is listed once
--- for each of its opens that lost voters, which means that it shows voters that fit at no position.
+-- The numbers of the events that lost voters. The first list has the moments of event number `event`, the second one
+-- those of the next event, and so on. An event is listed once for each of its opens that shows voters that fit at no
+-- position.
 abbrev pub lost_from : {S F : Type 0} → ℕ → List (List (Moment S F)) → List ℕ
 lost_from event [] = []
 lost_from event (ms ∷ mss) = lost_at event ms ++ lost_from (event + 1) mss
 
--- Each store that was opened, and whose voters were read, hasn't failed, serves the voters of some world, and leaves
--- exactly these to the next open.
+-- Each store whose voters were read at its open hasn't failed, and serves the voters of some world. It leaves exactly
+-- these to the next open.
 abbrev pub ServeSome : {S F : Type 0} → Service S → List (Moment S F) → Type 0
 ServeSome v [] = Unit {0}
 ServeSome v (opened workers store voters place now ∷ ms) = ((W : World) × IsOpenAt v store W) × ServeSome v ms

@@ -25,8 +25,8 @@ use Rattle.raft_voter_world.specs.Stores.{KeepsVoters, RefusesPurge, StaysAsItWa
 
 -- Moments.
 
--- A call that changes no voter: a close, a purge, the arming of a fault, or a copy of the files into a directory. A
--- purge has the cause if it failed.
+-- A call that changes no voter: a close, a purge, the arming of a fault, or a copy of the files into a directory.
+-- `purges` has a cause if the purge failed.
 pub data Change : Type 0 where
   closes : Change
   purges : Purge → Option Cause → Change
@@ -35,7 +35,7 @@ pub data Change : Type 0 where
 
 -- One thing that happens, with the store or the files after it:
 -- - `opened`: a store was opened by this many workers, and its voters were read. Taking the requests of the last
---   cut-off round before this position leads to them. Without one, no position does.
+--   cut-off round before this position leads to them; if it is `None`, no position does.
 -- - `unread`: a store was opened, but its voters couldn't be read. It was closed again, which left these files.
 -- - `fell`: a store was opened, but the disk stopped during the open. A crash left these files.
 -- - `unopened`: an open failed for a cause, and returned these files.
@@ -72,7 +72,7 @@ abbrev pub behind_all : {S F : Type 0} → Storage S F → List (Moment S F) →
 behind_all storage [] = storage
 behind_all storage (m ∷ ms) = behind_all (behind m) ms
 
--- the round of this moment, if it is one
+-- the round of this moment, if the moment is a round
 abbrev pub rounds_of : {S F : Type 0} → Moment S F → List Round
 rounds_of (answered round now) = round ∷ []
 rounds_of (cut_off round cause now) = round ∷ []
@@ -85,7 +85,7 @@ rounds_in ms = flat_map rounds_of ms
 
 -- When each moment may happen.
 
--- the round was cut off and has no refused positions, as if no store is open
+-- the round was cut off and has no refused positions, as happens if no store is open
 abbrev pub IsIdle : Round → Type 0
 IsIdle round = (round.outcome ≡ Cut) × (round.refused ≡ [])
 
@@ -106,15 +106,16 @@ pub record IsCutOff {S : Type 0} (v : Service S) (old : S) (round : Round) (caus
   pub cuts : CutsOff v cause round.refused round.requests old new
   pub fails : FailsAs cause (length round.requests) (v.is_failed old) (v.is_failed new)
 
--- `store` was opened over `files` by `workers` workers. It hasn't failed. Without a CRC collision in `files`, its
--- voters are possible for them.
+-- `store` was opened over `files` by `workers` workers. It hasn't failed. Without a CRC collision in `files`, it serves
+-- voters that an open of `files` may find.
 pub record IsOpened {S F : Type 0} (v : Service S) (d : Disk S F) (files : F) (workers : ℕ) (store : S) : Type 0 where
   pub opens : d.opens files workers store
   pub alive : v.is_failed store ≡ false
   pub finds : FindsVoters v d files store
 
--- An open of `files` by `workers` workers failed for this cause, and left `back`. The cause is the file system or
--- memory. Without a CRC collision in `files`, `back` leave every cut-off round that `files` leave.
+-- An open of `files` by `workers` workers failed for this cause, and left the files `back`. The cause is the file
+-- system or memory. Without a CRC collision in `files`, an open of `back` may find only the voters that an open of
+-- `files` could find.
 pub record IsUnopened {S F : Type 0} (v : Service S) (d : Disk S F) (files : F) (workers : ℕ) (cause : Cause) (back : F)
     : Type 0 where
   pub refuses : d.refuses files workers cause back
@@ -122,7 +123,7 @@ pub record IsUnopened {S F : Type 0} (v : Service S) (d : Disk S F) (files : F) 
   pub stands : LeavesStanding v d files files back
 
 -- A crash of this storage left the files `left`, and of the unsynced changes what `gone` says. The disk runs again.
--- Without a CRC collision, `left` leave every cut-off round that the storage left.
+-- Without a CRC collision in `left`, an open may find only the voters that it could find before the crash.
 abbrev pub Crashes : {S F : Type 0} → Service S → Disk S F → Storage S F → Left → F → Type 0
 Crashes v d (Closed files) gone left =
     d.crashes files gone left × LeavesStanding v d files left left × (d.has_stopped left ≡ false)
@@ -135,7 +136,8 @@ EndsPurge v u purge None old new = u.purges purge old new × IsAlive (v.is_faile
 EndsPurge v u purge (Some cause) old new =
     u.refuses purge cause old new × RefusesPurge cause (v.is_failed old) (v.is_failed new)
 
--- this call may change storage `old` into `new`, and then changes no voter, unless a purge makes the store fail
+-- The call `change` may change storage `old` into `new`. It changes no voter, unless it is a purge that makes the store
+-- fail.
 abbrev pub Keeps :
     {S F : Type 0}
     → Service S → Upkeep S → Disk S F → Change → Storage S F → Storage S F → Type 0
@@ -146,7 +148,7 @@ Keeps v u d (arms fault) (Closed old) (Closed new) = d.arms fault old new × Sta
 Keeps v u d (copies target) (Closed old) (Closed new) = d.forks target old new × StaysInFiles v d old new
 Keeps v u d change old new = ⊥
 
--- `given` are the files of this storage; if a store is open in it, a close of that store may leave them
+-- `given` are the files of this storage; or, if a store is open in it, files that a close of this store may leave
 abbrev pub IsClosedAs : {S F : Type 0} → Service S → Disk S F → Storage S F → F → Type 0
 IsClosedAs v d (Closed files) given = given ≡ files
 IsClosedAs v d (Open store) given = d.closes store given × LeavesInFiles v d store given
@@ -190,7 +192,7 @@ Falls u d gone storage [] = has_stopped u d storage ≡ false
 Falls u d gone storage (crashed gone' files ∷ []) = (has_stopped u d storage ≡ true) × (gone' ≡ gone)
 Falls u d gone storage ms = ⊥
 
--- `ms` is one moment of which `IsSuch` is true; if the disk stopped in it, a crash follows that leaves what `gone`
+-- `ms` is one moment for which `IsSuch` is true; if the disk stopped in it, a crash follows that leaves what `gone`
 -- says
 abbrev pub One :
     {S F : Type 0} → Upkeep S → Disk S F → Left → (Moment S F → Type 0)
@@ -231,14 +233,16 @@ abbrev pub Either : Bool → Type 0 → Type 0 → Type 0
 Either true First Second = First
 Either false First Second = Second
 
--- `ms` is one open of `files`, and a crash after it if the disk stopped in it; if it had already stopped, only a crash
+-- `ms` is one open of `files`, followed by a crash if the disk stopped in it. If the disk had stopped before, `ms` is
+-- only a crash.
 abbrev pub Opens :
     {S F : Type 0} → Upkeep S → Disk S F → ℕ → Left → F → List (Moment S F) → Type 0
 Opens u d workers gone files ms =
     Either (d.has_stopped files) (Falls u d gone (Closed files) ms) (One u d gone (IsOpening u workers gone) ms)
 
--- This event makes the moments `ms` in this storage. If the disk stops in a moment, a crash follows at once. `gone` is
--- what that crash leaves of the unsynced changes, as the last event that armed a stop asks.
+-- This event makes the moments `ms` in this storage. An event that doesn't fit the storage, such as a purge if no store
+-- is open, does nothing. If the disk stops in a moment, a crash follows at once. `gone` is what that crash leaves of
+-- the unsynced changes, as the last event that armed a stop asks.
 abbrev pub Turns :
     {S F : Type 0} → Upkeep S → Disk S F → Left → Storage S F → Event → List (Moment S F) → Type 0
 Turns u d gone storage (RoundEvent requests) ms = One u d gone (IsRoundOf requests) ms
@@ -273,7 +277,7 @@ Plays v u d gone storage (e ∷ es) (ms ∷ mss) =
     × Plays v u d (left_from e gone) (behind_all storage ms) es mss
 Plays v u d gone storage es mss = ⊥
 
--- `ms` ends a run: a store that is open is closed; if the disk has stopped or stops then, a crash follows
+-- `ms` ends a run: a store that is open is closed. If the disk had stopped, or stops in the close, a crash follows.
 abbrev pub Ends :
     {S F : Type 0} → Upkeep S → Disk S F → Left → Storage S F → List (Moment S F) → Type 0
 Ends u d gone (Closed files) ms = Falls u d gone (Closed files) ms

@@ -87,10 +87,11 @@ abbrev pub handed_out : Outcome → List Reply
 handed_out (Answered replies) = replies
 handed_out Cut = []
 
--- for each round, its requests; `replies_in` has its replies, none if it was cut off
+-- for each round, its requests
 abbrev pub requests_in : List Round → List (List (ℕ × Request))
 requests_in rounds = map (λ round. round.requests) rounds
 
+-- for each round, its replies; none if it was cut off
 abbrev pub replies_in : List Round → List (List Reply)
 replies_in rounds = map (λ round. handed_out round.outcome) rounds
 

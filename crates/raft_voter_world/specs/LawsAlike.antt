@@ -39,7 +39,7 @@ pub record IsServed {S : Type 0} (v : Service S) (requests : List (ℕ × Reques
   pub short : length requests ≤ 4096
   pub alive : IsAlive (v.is_failed old) (v.is_failed new)
 
--- store `old` gave the replies `told` to these rounds, in order, and is `new` afterwards
+-- store `old` gave the replies `told` to these rounds, in order and each as `IsServed` says, and is `new` afterwards
 abbrev pub AreServed : {S : Type 0} → Service S → List (List (ℕ × Request)) → List (List Reply) → S → S → Type 0
 AreServed v [] [] old new = new ≡ old
 AreServed {S} v (requests ∷ rounds) (replies ∷ told) old new =
@@ -103,7 +103,7 @@ AnswersTakenAsModel {S} {T} model v =
     → IsOpenAt model old W → AreServed model (taken_in rounds heard) told old new
     → TellsTaken model v told heard new last
 
--- if store `model` can only refuse the requests out of range, then it replies as store `v` to the requests that `v`
--- took
+-- Suppose store `model` can only refuse the requests out of range. Then, to the requests that store `v` took, it gives
+-- the replies that `v` gave.
 abbrev pub StoresAnswerTakenAsModels : {S T : Type 0} → Service S → Service T → Type 0
 StoresAnswerTakenAsModels model v = RefusesOutOfRange model → AnswersTakenAsModel model v

@@ -14,6 +14,7 @@ abbrev pub cut_from : World → Option Unsettled → CutRound
 cut_from W None = uncut W
 cut_from W (Some u) = record { before = W; requests = u.round.requests; refused = u.round.refused }
 
+-- the cut-off round after which the next open finds voters: the unsettled round, with the voters before it
 abbrev pub cut_of : Notes → CutRound
 cut_of n = cut_from (world_of n.voters) n.unsettled
 
@@ -41,13 +42,14 @@ pub record Settles (old : Notes) (place : ℕ) (new : Notes) : Type 0 where
   pub rounds : new.rounds.items ≡ all_rounds old
   pub cuts : new.cuts.items ≡ all_cuts old place
 
--- this event, as one that lost voters, if its open shows voters that fit the last cut-off round at no position
+-- The list with `event` alone if the open in this event lost voters: there was no position at which they fit the last
+-- cut-off round. Else the empty list.
 abbrev pub lost_by : Option ℕ → ℕ → List ℕ
 lost_by None event = event ∷ []
 lost_by (Some place) event = []
 
--- an open showed the voters of world `X`, and `place` is the first position at which they fit the unsettled round, if
--- there is one
+-- The open of event `event` showed the voters of world `X`. `place` is the first position at which they fit the
+-- unsettled round, or `None` if they fit at no position. All rounds are settled with it.
 pub record NotesShown (old : Notes) (event : ℕ) (X : World) (place : Option ℕ) (new : Notes) : Type 0 where
   pub found : IsPlaceFound (cut_of old) X place
   pub settled : Settles old (unwrap_or place 0) new

@@ -33,8 +33,8 @@ pub record HasPlayed {S F : Type 0} (v : Service S) (u : Upkeep S) (d : Disk S F
   pub noted : AddTurns old.notes turns new.notes
   pub ready : IsReady v old → IsReady v new
 
--- the disk runs, and `kept` are the files; or it has stopped, and `kept` are the files after a crash that keeps what
--- `gone` says
+-- If the disk of `files` runs, `kept` are `files`. If it has stopped, `kept` are what a crash left of `files`, with
+-- what `gone` says of the unsynced changes.
 abbrev pub Stands : {S F : Type 0} → Service S → Disk S F → F → Left → F → Type 0
 Stands v d files gone kept =
     ((d.has_stopped files ≡ false) × (kept ≡ files))

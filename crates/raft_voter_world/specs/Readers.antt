@@ -13,10 +13,10 @@ use Rattle.raft_voter_world.specs.History.Moment.{opened, unread, fell, unopened
 use Rattle.raft_voter_world.specs.Run.{EndsWell, IsRun, Knows, moments_of}
 use Rattle.raft_voter_world.specs.Stores.{Disk, Upkeep}
 
--- What holds from moment to moment, if storage `storage` leaves `cut` by the proof `known`. After each moment, the
--- storage leaves the next cut-off round, and the reader continues with any proof of that. `End` is true at the end.
--- Each open shows voters that are possible, and finds their position. After a CRC collision, in files that an open
--- reads or a crash leaves, nothing is claimed.
+-- What holds for these moments. By the proof `known`, an open of `storage` finds only voters that are possible after
+-- `cut`. After each moment this holds for the next storage and cut-off round, and the reader continues with any proof
+-- of it. Each open shows such voters and finds their position. `End` is true at the end. After a CRC collision, in
+-- files that an open reads or a crash leaves, nothing is claimed.
 abbrev pub GoesBy :
     {S F : Type 0}
     → (v : Service S) (d : Disk S F) → (Storage S F → CutRound → Type 0)
@@ -57,15 +57,15 @@ GoesBy v d End (Closed files) cut known (idle round now ∷ ms) =
     d.leaves now cut × ((still : d.leaves now cut) → GoesBy v d End (Closed now) cut still ms)
 GoesBy v d End storage cut known ms = ⊥
 
--- In every history that starts with files that store no voter, and whose opens find the first fitting position, what
--- `GoesBy` says holds. At its end the history ends well.
+-- Suppose a history starts with files that store no voter, and its opens find the first fitting position. Then
+-- `GoesBy` holds for its moments, and the history ends well (`EndsWell`).
 abbrev pub AllGoBy : {S F : Type 0} → Service S → Upkeep S → Disk S F → Type 0
 AllGoBy {S} {F} v u d =
     (files : F) (ms : List (Moment S F)) → Happen v u d (Closed files) ms → AreLeast (uncut fresh_world) ms
     → (known : d.leaves files (uncut fresh_world))
     → GoesBy v d (λ storage cut. EndsWell ms cut) (Closed files) (uncut fresh_world) known ms
 
--- In every run that starts with files that store no voter, what `GoesBy` says holds. At its end the run ends well.
+-- For each run that starts with files that store no voter, `GoesBy` holds, and the run ends well (`EndsWell`).
 abbrev pub RunsGoBy : {S F : Type 0} → Service S → Upkeep S → Disk S F → Type 0
 RunsGoBy {S} {F} v u d = (files : F) (events : List Event) (report : WorldReport F)
     → (run : IsRun v u d files events report) → (known : d.leaves files (uncut fresh_world))

@@ -13,15 +13,15 @@ use Rattle.raft_voter_world.specs.History.{Ends, Happen, Moment, Plays, behind_a
 use Rattle.raft_voter_world.specs.History.Moment.{opened, unread, fell, unopened, crashed, kept, answered, cut_off, idle}
 use Rattle.raft_voter_world.specs.Stores.{Disk, Upkeep}
 
--- this storage leaves this cut-off round: a later open finds only voters that are possible after it
+-- a later open of this storage, even after a crash, finds only voters that are possible after this cut-off round
 abbrev pub Knows : {S F : Type 0} → Service S → Disk S F → Storage S F → CutRound → Type 0
 Knows v d (Closed files) cut = d.leaves files cut
 Knows v d (Open store) cut = v.leaves store cut
 
--- What holds from moment to moment, if storage `storage` is known to leave `cut`. After each moment, the storage
--- leaves the next cut-off round, and `End` is true at the end. Each open shows voters that are possible, and finds
--- their position. If an open doesn't read the voters, the files leave some that are possible. After a CRC collision,
--- in files that an open reads or a crash leaves, nothing is claimed.
+-- What holds for these moments, if an open of `storage` finds only voters that are possible after `cut`. After each
+-- moment this holds for the next storage and cut-off round. Each open shows such voters and finds their position, or
+-- leaves such voters in the files if it doesn't read them. `End` is true at the end. After a CRC collision, in files
+-- that an open reads or a crash leaves, nothing is claimed.
 abbrev pub Goes :
     {S F : Type 0}
     → (v : Service S) (d : Disk S F) → (Storage S F → CutRound → Type 0)
@@ -67,22 +67,22 @@ abbrev pub moments_of : {S F : Type 0} → List (List (Moment S F)) → List (Mo
 moments_of [] = []
 moments_of (ms ∷ mss) = ms ++ moments_of mss
 
--- Fresh voters that never fail give exactly the replies in the rounds of `ms`, with their cuts. After all rounds, they
--- can be any voters that are possible after `cut`. Only the last round's cut may have to be another one for that.
+-- Fresh voters that never fail give exactly the replies in the rounds of `ms`, with their cuts. They can end as any
+-- voters that are possible after `cut`. For that, the last cut-off round may need another cut.
 pub record EndsWell {S F : Type 0} (ms : List (Moment S F)) (cut : CutRound) : Type 0 where
   pub explained : Explains (rounds_in ms) (cuts_in 0 ms)
   pub found : (X : World) → MayFollow cut X → (place : ℕ) × Leads fresh_world (rounds_in ms) (cuts_in place ms) X
 
--- In every history in which each open finds the first fitting position, no open lost voters, and each store that was
--- opened serves some: fresh voters that never fail give exactly the replies in its rounds.
+-- Suppose that in a history each open finds the first fitting position, no open loses voters, and each store whose
+-- voters were read serves some. Then fresh voters that never fail give exactly the replies in its rounds.
 abbrev pub AllExplained : {S F : Type 0} → Service S → Upkeep S → Disk S F → Type 0
 AllExplained {S} {F} v u d =
     (files : F) (ms : List (Moment S F)) → Happen v u d (Closed files) ms → AreLeast (uncut fresh_world) ms
     → ServeSome v ms → NoneLost ms → Explains (rounds_in ms) (cuts_in 0 ms)
 
--- In every history that starts with files that store no voter, and whose opens find the first fitting position, unless
--- there is a CRC collision: each open shows voters that fit at some position. At the end, fresh voters that never fail
--- give exactly the replies in its rounds, and lead to the voters that are left.
+-- Suppose a history starts with files that store no voter, its opens find the first fitting position, and there is no
+-- CRC collision. Then each open shows voters that fit at some position. Fresh voters that never fail give exactly the
+-- replies in its rounds, and can end as any voters that may be left at its end.
 abbrev pub AllTransparent : {S F : Type 0} → Service S → Upkeep S → Disk S F → Type 0
 AllTransparent {S} {F} v u d =
     (files : F) (ms : List (Moment S F)) → Happen v u d (Closed files) ms → AreLeast (uncut fresh_world) ms
@@ -90,10 +90,10 @@ AllTransparent {S} {F} v u d =
     → Goes v d (λ storage cut. EndsWell ms cut) (Closed files) (uncut fresh_world) known ms
 
 -- A run of these events that began with these files: what happened, what the report has, and what holds for it.
--- - Suppose no open lost voters, and each store that was opened serves some. Then fresh voters that never fail give
---   exactly the replies of the transcript.
--- - Suppose the files stored no voter, and there was no CRC collision. Then no voters are lost, and such voters give
---   exactly these replies and lead to the voters that are left.
+-- - Suppose no open lost voters, and each store whose voters were read served some. Then fresh voters that never fail
+--   give exactly the replies of the transcript.
+-- - Suppose the files stored no voter, and there was no CRC collision. Then no open loses voters. Fresh voters that
+--   never fail give exactly these replies, and can end as any voters that may be left at the end.
 pub record IsRun {S F : Type 0} (v : Service S) (u : Upkeep S) (d : Disk S F) (files : F) (events : List Event)
     (report : WorldReport F) : Type 0 where
   pub turns : List (List (Moment S F))

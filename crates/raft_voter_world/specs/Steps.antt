@@ -50,7 +50,7 @@ pub record Falling {S F : Type 0} (v : Service S) (u : Upkeep S) (d : Disk S F) 
   pub moves : Moves v u d event old moments new
   pub left : new.left ≡ old.left
 
--- this event happened in world `old` and was noted, and the world is `new` afterwards
+-- event number `place` of the run happened in world `old` and was noted, and the world is `new` afterwards
 pub record IsStep {S F : Type 0} (v : Service S) (u : Upkeep S) (d : Disk S F) (place : ℕ) (event : Event) (old : World S F)
     (new : World S F) : Type 0 where
   pub moments : List (Moment S F)

@@ -31,25 +31,26 @@ world_in voters = λ g. unwrap_or (lookup (λ k. k == g) voters) fresh
 abbrev pub TellsVoters : {S : Type 0} → Service S → S → List (ℕ × State) → Type 0
 TellsVoters v store voters = (W : World) → IsOpenAt v store W → W ≡ world_in voters
 
--- `new` leaves every cut-off round that `old` leaves: what a later open may find is still possible
+-- after `new`, a later open may find only the voters that it could find after `old`
 abbrev pub StaysLeft : {S : Type 0} → Service S → S → S → Type 0
 StaysLeft v old new = (cut : CutRound) → v.leaves old cut → v.leaves new cut
 
--- `new` serves what `old` serves, leaves what `old` leaves, and has failed exactly if `old` had
+-- Store `new` serves the voters that `old` serves, and has failed if and only if `old` had. A later open may find only
+-- the voters that it could find after `old`.
 pub record StaysAsItWas {S : Type 0} (v : Service S) (old new : S) : Type 0 where
   pub failed : v.is_failed new ≡ v.is_failed old
   pub served : (W : World) → IsOpenAt v old W → IsOpenAt v new W
   pub left : StaysLeft v old new
 
--- A purge changed store `old` into `new`. `new` serves the voters of `old`, unless it has failed. It leaves every
--- cut-off round that `old` left. If `old` had failed, so has `new`.
+-- A purge changed store `old` into `new`. `new` serves the voters of `old`, unless it has failed. A later open may find
+-- only the voters that it could find after `old`. If `old` had failed, so has `new`.
 pub record KeepsVoters {S : Type 0} (v : Service S) (old new : S) : Type 0 where
   pub failed : v.is_failed old ≡ true → v.is_failed new ≡ true
   pub served : (W : World) → IsOpenAt v old W → v.is_failed new ≡ false → IsOpenAt v new W
   pub left : StaysLeft v old new
 
 -- A purge may fail for this cause. `before` is whether the store had failed before the purge, and `now` whether it has
--- failed after it. Only the cause `FileSystem` can make it fail.
+-- failed after it. Only the cause `FileSystem` can make the store fail.
 abbrev pub RefusesPurge : Cause → Bool → Bool → Type 0
 RefusesPurge FileSystem before now = before ≡ false
 RefusesPurge Memory before now = (before ≡ false) × (now ≡ false)
@@ -60,10 +61,10 @@ RefusesPurge TooLong before now = ⊥
 
 -- A disk on which no store is open; a store that is named here is open on it:
 -- - `leaves`: the next open, even after a crash, finds only voters that are possible after this cut-off round;
--- - `without_chance`: given that `files` leave this round, the second files have no CRC collision; they are what a
---   crash left of `files`, or `files` themselves;
--- - `leaves_under`: a crash under this store leaves only voters that are possible after this round;
--- - `spares`: given that, the files that such a crash left have no CRC collision;
+-- - `without_chance`: given `leaves` for `files`, the second files have no CRC collision; they are what a crash left of
+--   `files`, or `files` themselves;
+-- - `leaves_under`: after a crash under this store, an open finds only voters that are possible after this round;
+-- - `spares`: given `leaves_under`, the files that such a crash left have no CRC collision;
 -- - `opens`: an open by this many workers may return this store;
 -- - `refuses`: such an open may fail for this cause, and then leaves the second files;
 -- - `closes`: a close of this store may leave these files;
@@ -85,30 +86,31 @@ pub record Disk (S F : Type 0) : Type 1 where
   pub arms : Fault → F → F → Type 0
   pub has_stopped : F → Bool
 
--- `store`, opened from `files`, serves voters that are possible after each cut-off round that `files` leave. This asks
--- that `files` have no CRC collision.
+-- Suppose an open of `files` finds only voters that are possible after a cut-off round, and `files` have no CRC
+-- collision. Then `store`, opened from `files`, serves such voters.
 abbrev pub FindsVoters : {S F : Type 0} → Service S → Disk S F → F → S → Type 0
 FindsVoters v d files store =
     (cut : CutRound) (known : d.leaves files cut) → d.without_chance files cut known files
     → (W : World) × MayFollow cut W × IsOpenAt v store W
 
--- A crash, or an open that failed, made the files `left` from `files`. If the files `read` have no CRC collision,
--- `left` leave every cut-off round that `files` leave.
+-- A crash, or an open that failed, made the files `left` from `files`. If the files `read` have no CRC collision, an
+-- open of `left` may find only the voters that an open of `files` could find.
 abbrev pub LeavesStanding : {S F : Type 0} → Service S → Disk S F → F → F → F → Type 0
 LeavesStanding v d files read left =
     (cut : CutRound) (known : d.leaves files cut) → d.without_chance files cut known read → d.leaves left cut
 
--- A crash under the open store `store` left the files `left`. A crash under it leaves only voters that are possible
--- after every cut-off round that it left. By any proof of that, without a CRC collision, so do the files.
+-- A crash under the open store `store` left the files `left`. Suppose that after a close or a crash of `store`, only
+-- voters that are possible after a cut-off round are found. Then `leaves_under` holds for this round. If, by a proof of
+-- that, `left` have no CRC collision, an open of `left` finds only such voters.
 abbrev pub LeavesUnder : {S F : Type 0} → Service S → Disk S F → S → F → Type 0
 LeavesUnder v d store left =
     (cut : CutRound) → v.leaves store cut
     → d.leaves_under store cut × ((known : d.leaves_under store cut) → d.spares store cut known left → d.leaves left cut)
 
--- `files` leave every cut-off round that the store leaves
+-- an open of `files` may find only the voters that an open after `store` could find
 abbrev pub LeavesInFiles : {S F : Type 0} → Service S → Disk S F → S → F → Type 0
 LeavesInFiles v d store files = (cut : CutRound) → v.leaves store cut → d.leaves files cut
 
--- the files `new` leave every cut-off round that `old` leave
+-- an open of the files `new` may find only the voters that an open of `old` could find
 abbrev pub StaysInFiles : {S F : Type 0} → Service S → Disk S F → F → F → Type 0
 StaysInFiles v d old new = (cut : CutRound) → d.leaves old cut → d.leaves new cut

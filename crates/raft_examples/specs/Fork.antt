@@ -1,4 +1,4 @@
--- What the example of a fork, a copy of a log, returns.
+-- A caller of `fork`, which copies a closed log: what it does if it succeeds.
 use Rattle.std.specs.Prelude.{◌≡◌, ℕ, List, length}
 use Rattle.raft_log_fs.specs.Disk.{Disk}
 use Rattle.raft_log_file_settings.specs.Settings.{Settings}

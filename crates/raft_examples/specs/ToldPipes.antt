@@ -10,7 +10,8 @@ abbrev pub up_to : Option ℕ → ℕ → ℕ
 up_to None end = end
 up_to (Some first) end = min first end
 
--- the files of a queue below `end`, and before the first one that `one` or `other` pins, have left its live range
+-- A queue's files below `end` have left its live range, except those from the first pinned file on. `one` and `other`
+-- say from which file on each of two listeners pins files. `held` is the lower of these, or `None`.
 pub record PurgesFree (one other : Option ℕ → Type 0) (which : Which) (end : ℕ) (old new : LogPipes)
     : Type 0 where
   pub held : Option ℕ

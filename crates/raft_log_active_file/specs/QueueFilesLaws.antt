@@ -1,4 +1,5 @@
--- The log's own files satisfy `IsLayout`: their records, headers and paths.
+-- Proofs that the format and the paths of a log's files (`log_format`, `log_paths`) satisfy `IsLayout` and the laws of
+-- `LayoutLaws`.
 use Rattle.std.specs.Prelude.{codes, min, Result, Ok, Err, Option, replicate}
 use Rattle.std.proofs.Common.{◌≡◌, ◌⊎◌, ℕ, zero, suc, ◌+◌, ◌-◌, ◌^◌, ◌<◌, ◌≤◌, List, [], ◌∷◌, ◌++◌, length, get_or, take, drop, refl, sym, ◌∙◌, ap, subst, inl, inr, arith, length-append}
 use Rattle.std.proofs.lemmas.List.{append-nil, take_at, drop_at, take-append-drop, take-append-le, drop-replicate, length-replicate}

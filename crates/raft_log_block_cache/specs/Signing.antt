@@ -11,8 +11,8 @@ use Rattle.raft_log_active_file.specs.declared.record.LogRecord.{LogRecord}
 use Rattle.raft_log_dual_pipes.specs.Queues.{SaysRecord}
 use Rattle.raft_log_dual_pipes.specs.Own.{log_layout}
 
--- the bytes of the batch's record if it is written to the file of `context`; the checksum in the record's footer covers
--- the number of this file
+-- The bytes of the batch's record if it is written to the file of `context`, or no bytes if the batch is empty. In a
+-- file of version 2, the low 32 bits of the file's number are xored into the checksum in the footer.
 abbrev pub signed_for : Batch → LogFileContext → List ℕ
 signed_for b context = batch_bytes (signature_of context) b.items b.entries
 

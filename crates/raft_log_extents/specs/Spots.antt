@@ -1,12 +1,13 @@
--- The position of an entry in a list of runs.
+-- Where an entry is in a list of runs.
 use Rattle.std.specs.Prelude.{◌≡◌, ℕ, ◌+◌, ◌*◌, ◌<◌, ◌≤◌, ◌^◌, true, List, length, take, slice_index_or}
 use Rattle.raft_log_extents.specs.declared.run.Run.{Run}
 use Rattle.raft_log_extents.specs.declared.spot.Spot.{Spot}
 use Rattle.raft_log_extents.specs.Runs.{counts, total, width, widths}
 
--- `s` says where the entry at `position` is in the runs `rs`, which have these starts: `run` is the run that has the
--- entry, and `at` is the number of runs before that one. `from` is the number of starts that are stored for these
--- earlier runs. `within` is the number of entries before this one in its run.
+-- `s` says where the entry at `position` is in the runs `rs`. `starts` are the offsets and places that the list stores
+-- for its runs (`Runs.antt`). `run` is the run that has the entry, and `at` is the number of runs before that one.
+-- `from` is the number of starts that are stored for these earlier runs. `within` is the number of entries before this
+-- one in its run.
 pub record IsSpot (rs : List Run) (starts : List ℕ) (position : ℕ) (s : Spot) : Type 0 where
   pub there : s.at < length rs
   pub run_is : s.run ≡ slice_index_or rs s.at s.run

@@ -6,7 +6,7 @@ use Rattle.raft_log_machine_laws.specs.Queue.{Store}
 use Rattle.raft_log_machine_laws.specs.Machine.{Event}
 use Rattle.raft_log_machine_laws.specs.Machine.Event.{Take, Reopen}
 
--- the engine does this on its own: the event is neither a batch that Append takes nor an open
+-- the event is the engine's own: neither a batch that Append takes, nor a crash or a close with the open after it
 abbrev pub IsOwn : {E V : Type 0} → Event E V → Type 0
 IsOwn (Take y) = ⊥
 IsOwn (Reopen r_kept r_lost r_cut r_back a_kept a_lost a_cut a_back) = ⊥

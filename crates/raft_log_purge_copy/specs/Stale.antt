@@ -1,5 +1,5 @@
--- A purge of all stale files: each queue rotates, and then all its files below the lowest that a group needs leave its
--- live range.
+-- A purge of all stale files. Each queue rotates. Then the files below its lowest file in use leave its live range. A
+-- file is in use if it is active, or a group needs it.
 use Rattle.std.specs.Prelude.{◌≡◌, ◌↔◌, ◌⊎◌, IsTrue, ℕ, List, false}
 use Rattle.raft_log_model_laws.specs.Groups.{taken}
 use Rattle.raft_log_fs.specs.Causes.{IsLater}
@@ -47,8 +47,8 @@ pub record FailsToTurn (queue : LogQueue) (error : Error) (s t : EngineState) : 
   pub cause : (home : LogDirectories) (log : LogMap) → HoldsSettled home s log → HasFileReason error s t
 
 -- All stale files were purged. Append was synced, and the owed tombstones were written to Rewrite. Then each queue,
--- Rewrite first, rotated, and its files below the lowest that a group needs left its live range. The log's contents
--- are those with the batches that were pending, and nothing is pending in either queue.
+-- Rewrite first, rotated, and the files below its lowest file in use left its live range. The batches that were pending
+-- are now in the log's contents, and nothing is pending in either queue.
 pub record PurgesAllStale (m : MemTables) (s t : EngineState) : Type 0 where
   pub synced : LogPipes
   pub syncs : SyncsQueue InAppend s.pipes synced

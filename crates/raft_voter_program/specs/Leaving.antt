@@ -1,4 +1,4 @@
--- Which files remain after a session, with what is written for it.
+-- What the program writes for a session, its exit status, and which files of the store remain after the session.
 use Rattle.std.specs.Prelude.{◌≡◌, ℕ, List, Option, None, Some, Result, Ok, Err}
 use Rattle.std.specs.Io.KnownBytes.{Appends}
 use Rattle.raft_voter.specs.Service.{Service}
@@ -18,8 +18,9 @@ WritesLeaving v u d s None session text status =
 WritesLeaving v u d s (Some files) session text status =
     (run : WritesRun v u d s session text status) × (run.report.files ≡ files)
 
--- What may be written for these lines, and which files remain. If the lines are a session, it is what may be written
--- for the session. If line `line` is the first unreadable one, the text says so, with status 2, and no files remain.
+-- The text that may be written for these lines, the status, and the files that remain (`left`). If the lines are a
+-- session, `Writes` says this for the session. If line `line` is the first unreadable one, the text says so, with
+-- status 2, and no files remain.
 abbrev pub TellsLinesLeaving :
     {F : Type 0} → (Option F → SessionContent → List ℕ → ℕ → Type 0)
     → Option F → Result SessionContent ℕ → List ℕ → ℕ → Type 0

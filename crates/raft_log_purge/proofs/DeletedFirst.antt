@@ -30,12 +30,12 @@ use Rattle.raft_log_purge.specs.Expired.{DeletesFirst, FailsToLoseBelow, FailsTo
 
 -- a list is empty if its length is 0
 pub is_none : {A : Type 0} (xs : List A) (b : Bool) → b ≡ (length xs == 0) → b ≡ true → xs ≡ []
-is_none [] b is yes = refl
-is_none (x ∷ xs) b is yes = (let clash : false ≡ true = sym is ∙ yes in let never : ⊥ = cc in absurd never)
+is_none [] b is empty = refl
+is_none (x ∷ xs) b is empty = (let clash : false ≡ true = sym is ∙ empty in let never : ⊥ = cc in absurd never)
 
 pub is_some_of : {A : Type 0} (xs : List A) (b : Bool) → b ≡ (length xs == 0) → b ≡ false → xs ≡ [] → ⊥
-is_some_of [] b is no none = (let clash : true ≡ false = sym is ∙ no in let never : ⊥ = cc in never)
-is_some_of (x ∷ xs) b is no none = (let never : ⊥ = cc in never)
+is_some_of [] b is full none = (let clash : true ≡ false = sym is ∙ full in let never : ⊥ = cc in never)
+is_some_of (x ∷ xs) b is full none = (let never : ⊥ = cc in never)
 
 -- no tombstone is owed
 owe_none : (m : MemTables) (marks : List LogItem) → AreOwed m marks → marks ≡ [] → OweNothing (shown_of m)

@@ -39,7 +39,7 @@ use Rattle.raft_log_purge_copy.specs.Lengths.{OwesTooMuch}
 use Rattle.raft_log_purge_copy.specs.Rewriting.{OweNothing}
 use Rattle.raft_log_purge_copy.proofs.Grouping.{among, part_wider}
 use Rattle.raft_log_purge_copy.proofs.Leasts.{queue_may_begin}
-use Rattle.raft_log_purge_copy.proofs.PartExits.{alive_ok, later_on, none_owed, same_later, tells_err}
+use Rattle.raft_log_purge_copy.proofs.PartExits.{alive_ok, later_on, none_owed as none_unmarked, same_later, tells_err}
 use Rattle.raft_log_purge_copy.proofs.Spanned.{within_span}
 use Rattle.raft_log_purge_copy.proofs.Reasons.{memory_is_none, memory_reason, purge_reason, purge_reason_after, reason_after, reason_of_files, sync_reason, tells_nothing}
 use Rattle.raft_log_purge.specs.Append.{RewritesSynced, up_to}
@@ -112,10 +112,10 @@ is_none [] b is = (λ empty. refl, λ full none. false≢true (sym full ∙ is))
 is_none (x ∷ xs) b is = (λ empty. absurd (false≢true (sym is ∙ empty)), λ full none. (let never : ⊥ = cc in never))
 
 -- no tombstone is owed
-pub owe_none : (m : MemTables) (marks : List LogItem) → AreOwed m marks → marks ≡ [] → OweNothing (shown_of m)
-owe_none m marks are none g =
+pub owes_nothing : (m : MemTables) (marks : List LogItem) → AreOwed m marks → marks ≡ [] → OweNothing (shown_of m)
+owes_nothing m marks are none g =
     let at : AreOwedAt (shown_of m g) [] = subst (λ (l : List LogItem). AreOwedAt (shown_of m g) (of_group g (tagged_items (λ e. e) l))) none (are.owed g) in
-    subst (λ (v : Shown). OwesNothing (whereabouts v)) (none_owed (shown_of m g) at) (refl, refl, λ k. refl)
+    subst (λ (v : Shown). OwesNothing (whereabouts v)) (none_unmarked (shown_of m g) at) (refl, refl, λ k. refl)
 
 -- nothing was done, as a tombstone is owed
 pub nothing_deleted : (held : Option ℕ) (m : MemTables) (marks : List LogItem) (s : EngineState) → (marks ≡ [] → ⊥) → DeletesFirst held m marks s s

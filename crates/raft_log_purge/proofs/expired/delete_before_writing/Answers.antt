@@ -1,6 +1,6 @@
 use Rattle.std.proofs.lemmas.Result.{err_from_is_err_and}
 use Rattle.raft_log_purge_copy.specs.raft_log_engine_laws.specs.EngineState.{shows}
-use Rattle.raft_log_purge.proofs.Picked.{deleted_first, first_undeleted, first_unsynced, is_none, nothing_deleted, owe_none}
+use Rattle.raft_log_purge.proofs.Picked.{deleted_first, first_undeleted, first_unsynced, is_none, nothing_deleted, owes_nothing}
 use Rattle.raft_log_purge.proofs.expired.delete_before_writing.Goals as goal
 
 pub returns-then-not-is_empty-clause-ok : goal.returns-then-not-is_empty-clause-ok
@@ -22,7 +22,7 @@ returns-in_err-delete_unreferenced_files-clause-err g c =
     let t = shows (g.P.PipeLog.shown c.delete_unreferenced_files.new.pipes) c.args.tables.now c.delete_unreferenced_files.new.cache in
     let none = (is_none c.args.marks.now c.is_empty.result c.is_empty.ensures).0 c.if-not-is_empty.false in
     let p = err_from_is_err_and c.from_residual-in_err-delete_unreferenced_files.result c.from_residual-in_err-delete_unreferenced_files.ensures.1 in
-    rw (p.1, p.2) (first_undeleted s (g.P.PipeLog.shown c.sync.new.self) e.later c.in_ok-sync.field-0 e.fails e.ok c.args.held c.args.tables.now c.args.marks.now none (owe_none c.args.tables.now c.args.marks.now c.requires none) c.in_err-delete_unreferenced_files.field-0.0 t c.in_err-delete_unreferenced_files.ensures.err)
+    rw (p.1, p.2) (first_undeleted s (g.P.PipeLog.shown c.sync.new.self) e.later c.in_ok-sync.field-0 e.fails e.ok c.args.held c.args.tables.now c.args.marks.now none (owes_nothing c.args.tables.now c.args.marks.now c.requires none) c.in_err-delete_unreferenced_files.field-0.0 t c.in_err-delete_unreferenced_files.ensures.err)
 
 pub returns-clause-ok : goal.returns-clause-ok
 returns-clause-ok g c =
@@ -30,4 +30,4 @@ returns-clause-ok g c =
     let s = shows (g.P.PipeLog.shown c.args.pipes.now) c.args.tables.now c.args.cache.now in
     let t = shows (g.P.PipeLog.shown c.delete_unreferenced_files.new.pipes) c.args.tables.now c.delete_unreferenced_files.new.cache in
     let none = (is_none c.args.marks.now c.is_empty.result c.is_empty.ensures).0 c.if-not-is_empty.false in
-    deleted_first s (g.P.PipeLog.shown c.sync.new.self) e.later c.in_ok-sync.field-0 e.fails e.ok c.args.held c.args.tables.now c.args.marks.now none (owe_none c.args.tables.now c.args.marks.now c.requires none) t c.in_ok-delete_unreferenced_files.ensures.ok
+    deleted_first s (g.P.PipeLog.shown c.sync.new.self) e.later c.in_ok-sync.field-0 e.fails e.ok c.args.held c.args.tables.now c.args.marks.now none (owes_nothing c.args.tables.now c.args.marks.now c.requires none) t c.in_ok-delete_unreferenced_files.ensures.ok

@@ -98,8 +98,8 @@ one_counts es k rest once is =
 
 -- the first table is of a group that counts
 pub counts_first : (es : List (ℕ × GroupTable)) (e : ℕ × GroupTable) (next : List (ℕ × GroupTable)) → e.1.counts ≡ true → group_list false (e ∷ next) ≡ group_list false es → group_list false es ≡ e.0 ∷ group_list false next
-counts_first es e next yes is = sym is ∙ ap (λ (b : Bool). with_listed e.0 b (group_list false next)) yes
+counts_first es e next one is = sym is ∙ ap (λ (b : Bool). with_listed e.0 b (group_list false next)) one
 
 -- the first table is of a group that doesn't count
 pub counts_later : (es : List (ℕ × GroupTable)) (e : ℕ × GroupTable) (next : List (ℕ × GroupTable)) → e.1.counts ≡ false → group_list false (e ∷ next) ≡ group_list false es → group_list false next ≡ group_list false es
-counts_later es e next no is = sym (ap (λ (b : Bool). with_listed e.0 b (group_list false next)) no) ∙ is
+counts_later es e next none is = sym (ap (λ (b : Bool). with_listed e.0 b (group_list false next)) none) ∙ is

@@ -8,8 +8,7 @@ use Rattle.raft_log_purge_policy.specs.Picking.{count_of, rewrites_at}
 use Rattle.raft_log_record_items.specs.declared.item.LogItem.{LogItem}
 use Rattle.raft_log_purge.specs.Expired.{DeletesFirst, PicksGroups, RewritesPicked}
 use Rattle.raft_log_purge_copy.proofs.Grouping.{among}
-use Rattle.raft_log_purge.proofs.DeletedFirst.{failed_after_deleting}
-use Rattle.raft_log_purge.proofs.Picked.{listed_picked, nothing_purged}
+use Rattle.raft_log_purge.proofs.Picked.{failed_after_deleting, listed_picked, nothing_purged}
 use Rattle.raft_log_purge.proofs.expired.purge_by_rules.Goals as goal
 
 pub returns-in_err-picked-clause-err : goal.returns-in_err-picked-clause-err

@@ -15,13 +15,13 @@ returns-then-table c =
     let e : ℕ × GroupTable = (c.in-Some.field-0-0.now, c.in-Some.table.now) in
     let next : List (ℕ × GroupTable) = c.next.new.self in
     let listed = counts_first es e next c.if-table.true (sym (ap (group_list false) c.in-Some.ensures.steps) ∙ c.loop-table.invariant) in
-    (λ no. absurd (false≢true no), λ none. sym (none e.0) ∙ one_counts es e.0 (group_list false next) once listed)
+    (λ empty. absurd (false≢true empty), λ none. sym (none e.0) ∙ one_counts es e.0 (group_list false next) once listed)
 
 pub returns : goal.returns
 returns c =
     let es = c.args.self.now.groups.entries in
     let once = once_each es (IsDistinct-from_sorted nat_cmp (keys c.args.self.now.groups) c.iter-table-items.ensures.ordered) in
-    (λ yes. none_counts es once (sym c.loop-table.invariant ∙ ap (group_list false) c.in-None.ensures.steps.0), λ none. refl)
+    (λ empty. none_counts es once (sym c.loop-table.invariant ∙ ap (group_list false) c.in-None.ensures.steps.0), λ none. refl)
 
 pub loop-table-preserved : goal.loop-table-preserved
 loop-table-preserved c =

@@ -1,5 +1,6 @@
 -- Crashes of a running engine, by the bytes that they leave in its active files. Some images have no CRC collision, and
--- some have one.
+-- some have one. `disk` gives the disk of a file system's state, and `tells` which sizes it may return as a directory's
+-- free space.
 use Rattle.std.specs.Prelude.{◌≡◌, ◌⊎◌, ◌+◌, ℕ, Bool, Some, List, ◌++◌, length, take}
 use Rattle.raft_log_fs.specs.Disk.{Disk, File, zeros}
 use Rattle.raft_log_fs.specs.Image.{IsImage, IsSound}
@@ -35,8 +36,9 @@ IsOwnFrame F files = F.IsFrame files.active.seq (active_header files)
 abbrev pub IsTorn : PipeFiles → File → List ℕ → Type 0
 IsTorn files file bytes = (kept : ℕ) × (bytes ≡ active_header files ++ take kept (own_bytes files file))
 
--- `bytes` are the header of the active file, then a prefix of the records that the pipe wrote, each whole. No record of
--- the file begins after them. For example, zeros may follow, from space that was allocated ahead of a write.
+-- `bytes` are the header of the active file, then a prefix of the records that the pipe wrote, each whole. The bytes
+-- after them don't begin with a record of the file. For example, they are zeros, from space that was allocated ahead of
+-- a write.
 pub record IsWhole (F : Format LogRecord) (files : PipeFiles) (file : File) (bytes : List ℕ) : Type 0 where
   pub kept : List (Written LogRecord)
   pub lost : List ℕ
@@ -46,13 +48,13 @@ pub record IsWhole (F : Format LogRecord) (files : PipeFiles) (file : File) (byt
   pub are : bytes ≡ active_header files ++ (spelled kept ++ behind)
   pub refuses : Refuses (IsOwnFrame F files) behind
 
--- Zeros begin with no record, however many they are. So space that was allocated ahead of a write begins with none.
+-- Zeros don't begin with a record, however many they are. Space that is allocated ahead of a write has only zeros.
 abbrev pub ZerosBeginNoRecord : Type 0
 ZerosBeginNoRecord = (queue : LogQueue) (directories : List (List ℕ)) (files : PipeFiles) (room : ℕ)
     → Refuses (IsOwnFrame (log_format queue directories) files) (zeros room)
 
--- The crash that left `image` of disk `d` only lost writes to the pipe's active file. If both disks have the file, its
--- bytes in the image are as `IsTorn` or `IsWhole` says.
+-- Disk `image` is what a crash left of disk `d`, and the crash only lost writes to the pipe's active file. If both
+-- disks have the file, its bytes in the image are as `IsTorn` or `IsWhole` says.
 abbrev pub LosesOwn : Format LogRecord → PipeFiles → Disk → Disk → Type 0
 LosesOwn F files d image = (file after : File) → d.files files.writer.handle.file ≡ Some file
     → image.files files.writer.handle.file ≡ Some after
@@ -69,15 +71,16 @@ abbrev pub LossesLeaveNoChance : Type 0
 LossesLeaveNoChance = (home : LogDirectories) (e : EngineState) (m : LogMap) (pending : List LogRecordValue) → Represents home e m pending
     → (image : Disk) → LosesWrites home e.pipes image → LeavesNoChance home e.pipes image
 
--- If a crash of a store between calls only lost writes, an open of its image finds the voters that the log stored.
+-- If a crash of a store between calls only lost writes, an open of the image `old` finds the voters that the log
+-- stored. All settings that name the directories find them.
 abbrev pub LossesAreFound : {F : Type 0} → (F → Disk) → (F → List ℕ → ℕ → Type 0) → Type 0
 LossesAreFound {F} disk tells = (home : LogDirectories) (e : EngineState) (W : World) → Keeps home e W → (old : F)
     → IsSound (disk old) → IsImage e.pipes.disk (disk old) → LosesWrites home e.pipes (disk old)
     → ForAllNaming home (λ config. FindsVoters disk tells config old W (λ X. X ≡ W))
 
--- A store crashed during a round, between two requests, and the crash only lost writes. Then an open of the image finds
--- the voters after a prefix of the requests that have a reply so far. All settings that name the directories give the
--- same voters.
+-- A store crashed during a round, in state `t`, after the requests with the replies `told`, and the crash only lost
+-- writes. Then an open of the image `old` finds the voters after a prefix of these requests. They are the same for all
+-- settings that name the directories. The round began in state `s`, with voters `V`.
 abbrev pub LossesInRoundsAreFound : {F : Type 0} → (F → Disk) → (F → List ℕ → ℕ → Type 0) → Type 0
 LossesInRoundsAreFound {F} disk tells = (home : LogDirectories) (V : World) (requests : List (ℕ × Request)) (told : List Reply)
     (wrote : Bool) (s t : EngineState) (os us : ℕ → State) → Keeps home s V → AreOutlines os V
@@ -88,9 +91,8 @@ LossesInRoundsAreFound {F} disk tells = (home : LogDirectories) (V : World) (req
 
 -- Chosen bytes.
 
--- `bytes` are the header of the active file and then whole records, which are all that the pipe wrote after the header.
--- Another record of this file follows, and maybe more bytes. No unsynced write was asked to write that other record
--- there.
+-- `bytes` are the header of the active file, all records that the pipe wrote after it, another record of this file, and
+-- maybe more bytes. No unsynced write was asked to write that other record there.
 pub record HasForeign (F : Format LogRecord) (files : PipeFiles) (file : File) (bytes : List ℕ) : Type 0 where
   pub own : List (Written LogRecord)
   pub frames : AreFrames (IsOwnFrame F files) own

@@ -28,9 +28,9 @@ pub record ClosesUndisturbed (s : EngineState) (d : OnDisk) : Type 0 where
   pub calm : Fails s.pipes.disk d → ⊥
 
 -- In these moments stores are opened, serve rounds, are purged, have faults armed under them, are closed, and crash.
--- Each close is undisturbed, except that a close at the very end may be any. A crash under a store is one of a running
--- store, and only loses writes. While no store is open, rounds are idle, faults are armed, files are copied, and any
--- crash may happen.
+-- Each open succeeds, and its voters are read. Each close is undisturbed, except that the last moment may be any close.
+-- A crash under a store is one of a running store, and only loses writes. While no store is open, rounds are idle, and
+-- there may be armed faults, copies and any crashes.
 abbrev pub ClosesOrLoses : {S : Type 0} → (S → Config) → (S → EngineState) → Storage S LogFiles
     → List (Moment S LogFiles) → Type 0
 ClosesOrLoses config shows storage [] = Unit {0}

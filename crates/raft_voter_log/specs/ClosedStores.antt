@@ -1,4 +1,5 @@
--- A store whose log was closed properly. Its files have no CRC collision, neither as they are nor after a crash.
+-- A store whose log was closed properly. Its files have no CRC collision, neither as they are nor after a crash. `disk`
+-- gives the disk of a file system's state, and `tells` which sizes it may return as a directory's free space.
 use Rattle.std.specs.Prelude.{◌≡◌, ℕ, List}
 use Rattle.raft_log_fs.specs.Disk.{Disk}
 use Rattle.raft_log_fs.specs.Image.{IsSound}
@@ -30,8 +31,8 @@ abbrev pub ClosedStoresMeetThePremise : Type 0
 ClosedStoresMeetThePremise = (config : Config) (s : EngineState) (W : World) (d : Disk) → IsSound s.pipes.disk
     → Keeps (home_of config) s W → ClosesProperly s.pipes d → AskNothing config d (uncut W)
 
--- The log of a running store was closed properly, and maybe there was a crash after that. An open finds the voters that
--- the store kept, and all settings that name the directories find them. There is no premise on CRC collisions.
+-- The log of a running store was closed properly, and maybe there was a crash after that. Then an open finds the voters
+-- that the store had. All settings that name the directories find them. There is no premise on CRC collisions.
 abbrev pub ClosedStoresAreFound : {F : Type 0} → (F → Disk) → (F → List ℕ → ℕ → Type 0) → Type 0
 ClosedStoresAreFound {F} disk tells = (home : LogDirectories) (s : EngineState) (W : World) (d : Disk) (old : F)
     → IsSound s.pipes.disk → IsSound (disk old) → Keeps home s W → ClosesProperly s.pipes d

@@ -1,5 +1,6 @@
 -- Copying the log of a store, and opening a store over the copy: laws, each the contract of an empty function. Voters
--- are possible after a cut-off round if they took its requests before some position, without the refused ones.
+-- are possible after a cut-off round if they took its requests before some position, without the refused ones. `disk`
+-- gives the disk of a file system's state, and `tells` which sizes it may return as a directory's free space.
 use Rattle.std.specs.Prelude.{◌≡◌, ◌<◌, ℕ, List, length}
 use Rattle.raft_log_fs.specs.Disk.{Disk}
 use Rattle.raft_log_fs.specs.Image.{IsSound}
@@ -27,7 +28,8 @@ pub record FindAlike {F : Type 0} (disk : F → Disk) (tells : F → List ℕ �
   pub source : FindsVoters disk tells config now W (λ X. X ≡ W)
   pub before : FindsVoters disk tells config old W (λ X. X ≡ W)
 
--- If the log of a store is at rest and is copied into a directory, an open of the copy finds the source's voters.
+-- Suppose the log of a store is at rest, and is copied into a clear directory (`IsClear`). Then opens of the copy and
+-- of the source find the source's voters, as `FindAlike` says.
 abbrev pub ForkedVotersAreFound : {F : Type 0} → (F → Disk) → (F → List ℕ → ℕ → Type 0) → Type 0
 ForkedVotersAreFound {F} disk tells = (config to : Config) (target : List ℕ) (copied : List (List ℕ)) (old now : F)
     (m : LogMap) (W : World) → IsSound (disk old) → IsSound (disk now) → NamesOnly to target
@@ -35,8 +37,8 @@ ForkedVotersAreFound {F} disk tells = (config to : Config) (target : List ℕ) (
     → Forks (settings_of config) target copied (disk old) (disk now)
     → FindAlike disk tells config to old now W
 
--- An open of any copy of the log that `config` names finds the voters of `W`. The log is on disk `old`, and the copy is
--- made in `target`. The settings `to` of the copy name only that directory.
+-- An open of any copy of the log that `config` names finds the voters of `W`. The log is on disk `old`. The copy is
+-- made in the clear directory `target` (`IsClear`), and its settings `to` name only that directory.
 abbrev pub CopiesVoters : {F : Type 0} → (F → Disk) → (F → List ℕ → ℕ → Type 0) → F → World → Config → Type 0
 CopiesVoters {F} disk tells old W config = (to : Config) (target : List ℕ) (copied : List (List ℕ)) (after : F)
     → IsSound (disk after) → NamesOnly to target → IsClear target (disk old)
@@ -54,7 +56,7 @@ LeftVotersAreCopied {F} disk tells = (home : LogDirectories) → 0 < length home
     × ForAllNaming home (λ config. FindsVoters disk tells config old W (MayFollow cut))
     × ForAllNaming home (CopiesVoters disk tells old W)
 
--- What disk `old` has of voters in the directories of these settings, `new` has too:
+-- Disk `new` still has what disk `old` has in the directories of these settings:
 -- - `left`: files that can be opened, with voters that are possible after a round
 -- - `alone`: files that can be opened, with the voters of one world
 -- - `rests`: a log at rest, with the same contents
@@ -67,7 +69,7 @@ pub record LeavesVoters (config : Config) (old new : Disk) : Type 0 where
       → IsDurableAs (log_in (home_of config)) new m
   pub bare : IsBare config old → IsBare config new
 
--- However a copy ends, the source's voters stay, as `LeavesVoters` says.
+-- Whether a copy succeeds or fails, the source keeps its voters, as `LeavesVoters` says.
 abbrev pub ForksLeaveVoters : Type 0
 ForksLeaveVoters = (config : Config) (target : List ℕ) (old new : Disk) → IsSound old
     → EndsFork config target old new → LeavesVoters config old new

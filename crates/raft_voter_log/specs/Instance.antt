@@ -1,4 +1,5 @@
--- A store of voters on a log, and the log's files, as the store and the disk of a simulated world.
+-- A store of voters on a log, and the log's files, as the store and the disk of a simulated world. `tells` says which
+-- sizes a file system may return as a directory's free space.
 use Rattle.std.specs.Prelude.{◌≡◌, ◌⊎◌, ℕ, false, true, List, Option, None, Result}
 use Rattle.raft_log_fs.specs.Disk.{Disk as OnDisk}
 use Rattle.raft_log_fs.specs.Exits.{Arms}
@@ -38,7 +39,8 @@ use Rattle.raft_voter_log.specs.Leaving.{FilesLeave, SparesFiles, SparesStore}
 
 -- The store.
 
--- What a purge that succeeded did to the engine. `held` says which file of Append the engine's listeners pin.
+-- What a purge that succeeded did: `old`, in state `s`, is the engine before it, and `new`, in state `t`, the one after
+-- it. `held` says from which file on the engine's listeners pin Append.
 abbrev pub PurgesLog :
     {P : Type 0} → (LogPipes → Option ℕ → Type 0) → Purge → LogEngine P → LogEngine P → EngineState → EngineState → Type 0
 PurgesLog held Expired old new s t = (groups : List ℕ)
@@ -51,7 +53,7 @@ abbrev pub StopsPurgeAs : Purge → EngineState → EngineState → Error → Ty
 StopsPurgeAs RewriteAppend s t error = StopsRewritingAppend s t error
 StopsPurgeAs purge s t error = StopsPurgingExpired s t error
 
--- a purge of this kind failed and returned `cause`, which is the cause for its error
+-- a purge of this kind failed with an error, for one of the reasons that it may have, and returned the error's cause
 abbrev pub RefusesLogPurge : Purge → Cause → EngineState → EngineState → Type 0
 RefusesLogPurge purge cause s t =
     (error : Error) × (cause ≡ purge_cause (has_failed s) error) × StopsPurgeAs purge s t error
@@ -111,8 +113,8 @@ abbrev pub ArmsFiles : Fault → MemoryFileSystem → MemoryFileSystem → Type 
 ArmsFiles fault old new = (Arms (fault_of fault) (disk_of old) (disk_of new) × IsArmed fault old new)
     ⊎ (((disk_of old).stopped ≡ true) × (disk_of new ≡ disk_of old))
 
--- What a close of a store does to its log: if the engine hasn't failed, its log is closed. If it has failed, the disk
--- is unchanged.
+-- What a close of a store in state `s` does, with disk `d` after it. If the engine hasn't failed, its log is closed. If
+-- it has failed, the disk is unchanged.
 pub record ClosesStore (s : EngineState) (d : OnDisk) : Type 0 where
   pub held : has_failed s ≡ false → ClosesLog s.pipes d
   pub failed : has_failed s ≡ true → d ≡ s.pipes.disk

@@ -1,5 +1,6 @@
 -- Which voters an open finds: laws, each the contract of an empty function. Voters are possible after a cut-off round
--- if they took its requests before some position, without the refused ones.
+-- if they took its requests before some position, without the refused ones. `disk` gives the disk of a file system's
+-- state, and `tells` which sizes it may return as a directory's free space.
 use Rattle.std.specs.Prelude.{◌≡◌, ◌<◌, ℕ, List, length}
 use Rattle.raft_log_fs.specs.Disk.{Disk}
 use Rattle.raft_log_fs.specs.Image.{IsImage, IsSound}
@@ -28,8 +29,8 @@ RestingVotersAreFound {F} disk tells = (config : Config) (old : F) (m : LogMap) 
     → IsDurableAs (log_in (home_of config)) (disk old) m → Means m W
     → FindsVoters disk tells config old W (λ X. X ≡ W)
 
--- An open of a crash image of a running store, between calls, finds the voters that the log stored. All settings that
--- name its directories find them. This requires that there is no CRC collision.
+-- A running store crashed between calls. An open of the image finds the voters that its log stored, and all settings
+-- that name the directories find them. This requires that there is no CRC collision in the image.
 abbrev pub CrashedStoresAreFound : {F : Type 0} → (F → Disk) → (F → List ℕ → ℕ → Type 0) → Type 0
 CrashedStoresAreFound {F} disk tells = (home : LogDirectories) (e : EngineState) (W : World) → Keeps home e W → (old : F)
     → IsSound (disk old) → IsImage e.pipes.disk (disk old) → LeavesNoChance home e.pipes (disk old)

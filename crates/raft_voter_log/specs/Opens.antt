@@ -1,4 +1,6 @@
--- Which voters an open of a store finds in its log.
+-- Which voters an open of a store finds in its log. `config` are the settings of the open, and `old` is the file system
+-- before it. `disk` gives the disk of a file system's state, and `tells` which sizes it may return as a directory's
+-- free space.
 use Rattle.std.specs.Prelude.{◌⊎◌, ℕ, List}
 use Rattle.raft_log_fs.specs.Disk.{Disk}
 use Rattle.raft_log_file_settings.specs.declared.config.Config.{Config}

@@ -35,16 +35,16 @@ pub record PurgesKeepOrFail {S : Type 0} (u : Upkeep S) (shows : S → EngineSta
       ⊎ ((has_failed (shows new) ≡ true) × Fails (shows old).pipes.disk (shows new).pipes.disk
       × IsLeftWith home (shows new).pipes.disk V)
 
--- If a purge fails for a store whose log stores voters, it fails with an error that has one of the reasons in
--- `VotersHaveReason`. The purge returned this error's cause.
+-- Suppose a store's log stores voters, and a purge of it fails. Then it failed with an error that has one of the
+-- reasons in `VotersHaveReason`, and returned this error's cause.
 abbrev pub RefusedPurgesHaveReasons : {S : Type 0} → Upkeep S → (S → EngineState) → Type 0
 RefusedPurgesHaveReasons {S} u shows = (home : LogDirectories) (V : World) (purge : Purge) (cause : Cause) (old new : S)
     → Keeps home (shows old) V → u.refuses purge cause old new
     → (error : Error) × (cause ≡ cause_of error) × VotersHaveReason home V error (shows old) (shows new)
 
--- A purge of an open store, `at` before it and `now` after it, failed with `cause`. Either the store had failed before,
--- and the cause is `Failed`. Or it served voters, and the cause is that of an error with one of the reasons in
--- `VotersHaveReason`.
+-- A purge of an open store failed with `cause`; `at` is the store before it, and `now` the store after it. Either the
+-- store had failed before, and the cause is `Failed`. Or it served voters, and the cause is that of an error with one
+-- of the reasons in `VotersHaveReason`.
 pub record WasRefusedFor {S F : Type 0} (v : Service S) (config : S → Config) (shows : S → EngineState) (cause : Cause)
     (at now : Storage S F) : Type 0 where
   pub old : S

@@ -1,5 +1,5 @@
--- Two cases in which a crash of a running engine only loses writes: recycled files, and files that a crash leaves
--- unchanged.
+-- Two cases in which a crash of a running engine only loses writes. Either no record begins after what was written to
+-- the active file, and the crash leaves the file unchanged. Or the queue has just rotated.
 use Rattle.std.specs.Prelude.{◌≡◌, List, []}
 use Rattle.raft_log_fs.specs.Disk.{Disk}
 use Rattle.raft_log_fs.specs.Image.{IsImage}
@@ -16,8 +16,8 @@ use Rattle.raft_voter_durability_laws.specs.raft_log_engine_laws.specs.Holding.{
 use Rattle.raft_voter_durability_laws.specs.raft_log_engine_laws.specs.EngineState.{LogDirectories, LogMap, EngineState, log_in}
 use Rattle.raft_voter_log.specs.Chance.{LosesOwn}
 
--- Suppose that no record begins after what the pipe wrote to its active file. Then a crash that leaves this file's
--- content unchanged only loses writes to it. The log's contents and pending batches may be any.
+-- Suppose that no record begins after what was written to the active file of the queue `which`. Then a crash that
+-- leaves this file's content unchanged only loses writes to it. The log's contents and pending batches may be any.
 abbrev pub StandingFilesOnlyLose : Type 0
 StandingFilesOnlyLose = (which : Which) (home : LogDirectories) (e : EngineState) (m : LogMap) (pending : List LogRecordValue)
     → Represents home e m pending
@@ -25,14 +25,16 @@ StandingFilesOnlyLose = (which : Which) (home : LogDirectories) (e : EngineState
     → (image : Disk) → KeepsOwn (one_at which e.pipes).files e.pipes.disk image
     → LosesOwn (layout_at which (log_in home)).format (one_at which e.pipes).files e.pipes.disk image
 
--- the pipe's next rotation creates a file; or it recycles a file of the queue whose records are signed, and whose old
--- and new numbers differ in their low 32 bits
+-- What the pipe's next rotation does:
+-- - `made`: it creates a file, as none is kept for recycling.
+-- - `used`: it recycles a file with a number of the queue and the header that new files get, of version 2. The file's
+--   old and new numbers differ in their low 32 bits.
 pub data NextIsKnown (F : Format LogRecord) (format : LogFileFormat) (files : PipeFiles) (d : Disk) : Type 0 where
   made : files.recycled.items ≡ [] → NextIsKnown F format files d
   used : NextIsUsed F format files d → NextIsKnown F format files d
 
--- Right after a rotation that `NextIsKnown` allows, every crash only loses writes to the queue's active file. This is
--- so whatever a recycled file held before.
+-- A queue rotated as `NextIsKnown` allows, which left the pipes `v`. Then every crash only loses writes to the queue's
+-- new active file. A recycled file may have held any records before.
 abbrev pub RotatedFilesOnlyLose : Type 0
 RotatedFilesOnlyLose = (which : Which) (home : LogDirectories) (e : EngineState) (m : LogMap) (pending : List LogRecordValue)
     → Represents home e m pending

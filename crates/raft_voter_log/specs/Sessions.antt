@@ -27,9 +27,9 @@ use Rattle.raft_voter_log.specs.Chance.{LeavesForeign, LosesWrites}
 abbrev pub OnlyLoses : Config → EngineState → OnDisk → Type 0
 OnlyLoses config s d = (has_failed s ≡ false) × LosesWrites (home_of config) s.pipes d
 
--- In these moments a store is opened, serves rounds, is purged, has faults armed under it, and crashes. Each crash is
--- one of a running store, and only loses writes. A round while no store is open is idle. After the last moment the
--- store may be closed.
+-- In these moments stores are opened, serve rounds, are purged, have faults armed under them, and crash. Each open
+-- succeeds, and its voters are read. Each crash is one of a running store, and only loses writes. While no store is
+-- open, only idle rounds happen. Only the last moment may be a close.
 abbrev pub CrashesOnlyLose : {S : Type 0} → (S → Config) → (S → EngineState) → Storage S LogFiles
     → List (Moment S LogFiles) → Type 0
 CrashesOnlyLose config shows storage [] = Unit {0}

@@ -14,7 +14,7 @@ use Rattle.raft_voter_records.specs.Voters.{Means}
 use Rattle.raft_voter_durability_laws.specs.Standing.{AreOutlines, Keeps}
 use Rattle.raft_voter_store.specs.Rounds.{CutsRoundOff}
 
--- If a round is cut off by the engine, a file call failed during the round.
+-- Suppose a store's log stores voters, and the engine cuts a round off. Then a file call failed during the round.
 abbrev pub CutRoundsHaveFailed : Type 0
 CutRoundsHaveFailed = (home : LogDirectories) (V : World) (requests : List (ℕ × Request)) (refused : List ℕ) (s t : EngineState)
     (os : ℕ → State) → Keeps home s V → AreOutlines os V → CutsRoundOff requests refused s t os
@@ -24,12 +24,14 @@ CutRoundsHaveFailed = (home : LogDirectories) (V : World) (requests : List (ℕ 
 abbrev pub StopsPurge : EngineState → EngineState → Error → Type 0
 StopsPurge s t error = StopsPurgingExpired s t error ⊎ StopsRewritingAppend s t error
 
--- If the store has failed after a purge, a file call failed during the purge.
+-- Suppose a store's log stores voters, and a purge fails that leaves the store failed. Then a file call failed during
+-- the purge.
 abbrev pub FailedPurgesHaveFailed : Type 0
 FailedPurgesHaveFailed = (home : LogDirectories) (V : World) (s t : EngineState) (error : Error) → Keeps home s V
     → StopsPurge s t error → has_failed t ≡ true → Fails s.pipes.disk t.pipes.disk
 
--- Why a purge fails if the log's contents store voters. It has the reasons of any purge, with two exceptions:
+-- A purge with the states `s` before and `t` after it may fail with this error if the log's contents store voters. The
+-- reasons are those of any purge, with two exceptions:
 -- - `InvalidArgument` never occurs: no group has a key that is reserved for the log.
 -- - `Full` occurs only if the record of the owed tombstones is too long.
 abbrev pub HasVotersReason : LogDirectories → LogMap → Error → EngineState → EngineState → Type 0
@@ -41,7 +43,7 @@ HasVotersReason home m error s t = HasReason home m error s t
 abbrev pub VotersHaveReason : LogDirectories → World → Error → EngineState → EngineState → Type 0
 VotersHaveReason home V error s t = (m : LogMap) × Means m V × HasVotersReason home m error s t
 
--- If a purge fails of a store whose log stores voters, the error has one of the reasons in `HasVotersReason`.
+-- If a purge of a store whose log stores voters fails, its error has one of the reasons in `HasVotersReason`.
 abbrev pub PurgesTellCauses : Type 0
 PurgesTellCauses = (home : LogDirectories) (V : World) (s t : EngineState) (error : Error) → Keeps home s V → StopsPurge s t error
     → VotersHaveReason home V error s t

@@ -1,4 +1,5 @@
--- Two opens of the same files give the same voters, even with different numbers of recovery threads.
+-- Two opens of the same files give the same voters, even with different numbers of recovery threads. `disk` gives the
+-- disk of a file system's state, and `tells` which sizes it may return as a directory's free space.
 use Rattle.std.specs.Prelude.{◌≡◌, ◌<◌, ℕ, List, length}
 use Rattle.raft_log_fs.specs.Disk.{Disk}
 use Rattle.raft_log_fs.specs.Image.{IsImage, IsSound}
@@ -19,8 +20,7 @@ use Rattle.raft_voter_recovery.specs.Reading.{ListsVoters}
 use Rattle.raft_voter_store.specs.Opening.{OpensVoters}
 
 -- What the files of a store may be, without a CRC collision in them:
--- - `bare`: there is no log yet.
--- - `rests`: the log is at rest.
+-- - `bare`, `rests`: there is no log yet, or the log is at rest and stores voters.
 -- - `of_running`: they are a crash image of a running store, between calls.
 -- - `of_left`: they are a crash image of files that a close, a failure or a failed open had left.
 -- - `left`: a close, a failure or a failed open left them, without a crash.
@@ -34,14 +34,16 @@ pub data AreAStores (home : LogDirectories) (d : Disk) : Type 0 where
   left : (cut : CutRound) (left : IsLeftAmong home d (MayFollow cut))
       → StandsWithoutChance home left.left.1.lies.state d → AreAStores home d
 
--- the engines `s` and `t` store the same voters, their outlines are equal, and so are their lists of voters
+-- The engines `s` and `t` store the same voters. Both `os` and `us` are the outlines of these, and the engines' lists
+-- of voters are equal.
 pub record AreAlike (home : LogDirectories) (s t : EngineState) (os us : ℕ → State) : Type 0 where
   pub world : World
   pub first : Keeps home s world × AreOutlines os world
   pub second : Keeps home t world × AreOutlines us world
   pub listed : (voters others : List (ℕ × State)) → ListsVoters s voters → ListsVoters t others → voters ≡ others
 
--- If two opens of the same files succeed, their stores are alike. Their settings need only name the same directories.
+-- Suppose two opens of the same files succeed, and the files are as `AreAStores` says. Then the two stores are alike.
+-- The settings `one` and `other` need only name the same directories.
 abbrev pub WorkersOpenAlike : {F : Type 0} → (F → Disk) → (F → List ℕ → ℕ → Type 0) → Type 0
 WorkersOpenAlike {F} disk tells = (home : LogDirectories) → 0 < length home.append → 0 < length home.rewrite → (old : F)
     → IsSound (disk old) → AreAStores home (disk old) → (one other : Config) → home_of one ≡ home

@@ -1,4 +1,4 @@
--- Two opens of a run's files, with different numbers of recovery threads.
+-- Two opens of the same `LogFiles`, with different numbers of recovery threads.
 use Rattle.std.specs.Prelude.{ℕ, List}
 use Rattle.raft_log_fs_memory.specs.Memory.{disk_of}
 use Rattle.raft_log_fs_memory.specs.declared.memory.MemoryFileSystem.{MemoryFileSystem}
@@ -11,9 +11,9 @@ use Rattle.raft_voter_log.specs.Instance.{OpensFiles}
 use Rattle.raft_voter_log.specs.Leaving.{FilesLeave, SparesFiles}
 use Rattle.raft_voter_log.specs.StoreWorkers.{AreAlike}
 
--- Suppose that `FilesLeave` says which voters the files have, and there is no CRC collision in them. Then two opens
--- that succeed, with `workers` and with `others` recovery threads, give stores with the same voters, outlines and lists
--- of voters.
+-- Suppose the files have voters that are possible after some round, as `FilesLeave` says, and no CRC collision. Then
+-- two opens that succeed, with `workers` and with `others` recovery threads, give stores with the same voters, outlines
+-- and lists of voters.
 abbrev pub AnyWorkersOpenAlike : (MemoryFileSystem → List ℕ → ℕ → Type 0) → Type 0
 AnyWorkersOpenAlike tells = (files : LogFiles) (cut : CutRound)
     (known : FilesLeave files.config (disk_of files.files) cut)

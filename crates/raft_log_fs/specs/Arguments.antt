@@ -50,8 +50,10 @@ WrongListing path d error = ((error ≡ InvalidInput) × (d.names path ≡ None 
 abbrev pub IsAfterStop : Disk → ErrorKind → Type 0
 IsAfterStop d error = (d.stopped ≡ true) × (error ≡ Other)
 
--- A call failed and changed nothing. After a stop, the error is `Other`. Otherwise an argument is wrong, or the error
--- is `OutOfMemory`.
+-- Why a call that changes nothing failed with this error:
+-- - `stopped`: the file system has stopped, and the error is `Other`.
+-- - `wrong_argument`: an argument is wrong, and `wrong` says which, and that the error fits.
+-- - `no_memory`: memory ran out, and the error is `OutOfMemory`.
 pub data IsDeclined (wrong : Type 0) (d : Disk) (error : ErrorKind) : Type 0 where
   stopped : d.stopped ≡ true → error ≡ Other → IsDeclined wrong d error
   wrong_argument : d.stopped ≡ false → wrong → IsDeclined wrong d error

@@ -72,8 +72,9 @@ counted error d = record d { failures = suc d.failures; kinds = error ∷ d.kind
 abbrev pub at_stop : Disk → Disk
 at_stop d = record d { stopped = true }
 
--- What a write may leave if it fails after some bytes. The old bytes outside of its range are unchanged, and all others
--- may be any. The file doesn't shrink, and doesn't grow beyond the later of its old end and the write's end.
+-- What a write of `bytes` at offset `at` may leave of the content `old` if it fails after some bytes. The old bytes
+-- outside of its range are unchanged, and all others may be any. The file doesn't shrink, and doesn't grow beyond the
+-- later of its old end and the write's end.
 pub record IsTorn (at : ℕ) (bytes old new : List ℕ) : Type 0 where
   pub outside : (place : ℕ) → place < length old → (place < at) ⊎ (at + length bytes ≤ place)
       → slice_index new place ≡ slice_index old place
@@ -142,13 +143,11 @@ pub record IsToldAtStop (kind error : ErrorKind) : Type 0 where
   pub stops : IsStopKind error
   pub told : (error ≡ kind) ⊎ ((kind ≡ OutOfMemory) × (error ≡ ResourceBusy))
 
--- A failed call. There are these cases:
--- - After a stop, nothing changes, and the error is `Other`.
--- - An argument is wrong: nothing changes, and no failure is counted. The error says which argument.
--- - No argument is wrong: a failure is counted, and the call may have been done in part. The error may be of any
---   kind, and the kind is recorded.
--- - The file system stops at this call: nothing was done, or, if no argument is wrong, some or all of it. The error
---   may be of any kind but `OutOfMemory`, and is not recorded.
+-- A call failed. `part` holds of what a failed call may leave, and `done` of the disk after a call that succeeds:
+-- - `after_stop`: the file system had stopped before. Nothing changes, and the error is `Other`.
+-- - `wrong_argument`: the error says which argument is wrong. Nothing changes, and no failure is counted.
+-- - `failed`: no argument is wrong. A failure with this error is counted, and the call may be done in part.
+-- - `stops`: the file system stops, not with `OutOfMemory`. Unless an argument is wrong, the call may be done.
 pub data Refused (part done : Disk → Type 0) (wrong : ErrorKind
     → Type 0) (error : ErrorKind) (old new : Disk) : Type 0 where
   after_stop : old.stopped ≡ true → new ≡ old → error ≡ Other → Refused part done wrong error old new
@@ -159,8 +158,8 @@ pub data Refused (part done : Disk → Type 0) (wrong : ErrorKind
       → new ≡ at_stop left
       → Refused part done wrong error old new
 
--- What a failed call may leave if calls of its kind are done in full or not at all: the same disk. A sync and a
--- renaming are of this kind.
+-- What a call that is done in full or not at all may leave if it fails: the same disk. A sync is such a call, and so is
+-- a rename.
 abbrev pub Nothing : Disk → Disk → Type 0
 Nothing old left = left ≡ old
 

@@ -3,7 +3,7 @@ use Rattle.std.specs.Prelude.{◌≡◌, ℕ, ◌+◌, ◌<◌, ◌≤◌, true,
 use Rattle.raft_log_fs.specs.Disk.{Disk}
 
 -- Why a call on these files failed. The file system has stopped, a failure was counted during the call, or an offset of
--- one of them is unreadable. For a failed read, its contract says more: the offset is one that the read asked for.
+-- one of them is unreadable. The contract of a failed read says more: the read asked for that offset.
 pub data HasCause (files : ℕ → Type 0) (old new : Disk) : Type 0 where
   stopped : new.stopped ≡ true → HasCause files old new
   counted_one : old.failures < new.failures → HasCause files old new

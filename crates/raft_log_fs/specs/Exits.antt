@@ -1,5 +1,6 @@
--- For each changing call of a file system: the disk after it succeeds, and the error and the disk after it fails.
--- `old` is the disk before the call, and `new` the disk after it.
+-- For each changing call of a file system: the disk after it succeeds, and the error and the disk after it fails. `old`
+-- is the disk before the call, and `new` the disk after it. If the file system stops at a call with right arguments,
+-- the call may have been done.
 use Rattle.std.specs.Prelude.{◌≡◌, ℕ, ◌⊎◌, false, List}
 use Rattle.std.specs.String.{string_bytes}
 use Rattle.std.specs.declared.io.ErrorKind.{ErrorKind}
@@ -15,8 +16,7 @@ use Rattle.raft_log_fs.specs.declared.handle.Permission.TheVariants.{ReadWrite}
 
 -- Calls on paths.
 
--- Creating a file at `path` failed: the path is wrong, a failure was counted, or the file system stopped, which may
--- leave the file created.
+-- creating a file at `path` failed: the path is wrong, a failure was counted, or the file system stopped
 abbrev pub FailsToCreate : List ℕ → ErrorKind → Disk → Disk → Type 0
 FailsToCreate path error old new =
     RefusedWhole (Creates path old.unused old) (WrongCreate path old) error old new
@@ -90,13 +90,12 @@ FailsToGrow handle size error old new =
 abbrev pub Syncs : Handle → Disk → Disk → Type 0
 Syncs handle old new = Changes handle.file flushed old new
 
--- Syncing the handle's file failed: the handle is wrong, a failure was counted, or the file system stopped. After a
--- stop at this call, the file may have become durable.
+-- syncing the handle's file failed: the handle is wrong, a failure was counted, or the file system stopped
 abbrev pub FailsToSync : Handle → ErrorKind → Disk → Disk → Type 0
 FailsToSync handle error old new =
     RefusedWhole (Changes handle.file flushed old) (WrongHandle handle old) error old new
 
--- the disk with the offset marked that a `DenyRead` fault makes unreadable; any other fault marks none
+-- the disk after a `DenyRead` fault marked its offset as unreadable; any other fault marks nothing
 abbrev pub denied_by : Fault → Disk → Disk
 denied_by (DenyRead name place) d = denied (string_bytes name) place d
 denied_by fault d = d

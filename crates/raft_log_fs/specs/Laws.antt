@@ -31,7 +31,7 @@ ImageOfImage = (d image later : Disk) → IsImage d image → IsImage image late
 abbrev pub ImageIsSound : Type 0
 ImageIsSound = (d image : Disk) → IsSound d → IsImage d image → IsSound image
 
--- If a crash may leave `bytes` of a file, it may also leave other bytes at the offsets that an unsynced change
+-- If a crash may leave `bytes` of a file, it may also leave any other byte at an offset that an unsynced change
 -- touches.
 abbrev pub AnyByteLeft : Type 0
 AnyByteLeft = (file : File) (bytes : List ℕ) (change : Change) (place byte : ℕ)
@@ -49,8 +49,8 @@ abbrev pub OtherFilesAreNoCause : (ℕ → Type 0) → Type 0
 OtherFilesAreNoCause files = (old new : Disk) → ((id place : ℕ) → files id → new.unreadable id place ≡ false)
     → HasCause files old new → Fails old new
 
--- If a call with right arguments fails and the file system still runs, the failure is recorded. The error of the call
--- is now the latest of the recorded kinds.
+-- If a call with right arguments fails and the file system still runs, the failure is recorded: the call's error is now
+-- the latest of the recorded kinds. `wrong` says which arguments are wrong, and `done` how the disk is after success.
 pub record CountedRefusalTellsItsKind (wrong : ErrorKind → Type 0) (done : Disk → Type 0) : Type 0 where
   pub change : (id : ℕ) (change : Change) (error : ErrorKind) (old new : Disk)
       → IsRight wrong → new.stopped ≡ false → RefusedChange id change wrong error old new

@@ -1,3 +1,5 @@
+-- The account of a transcript: each request that a voter took, in order, with its reply. A request has no reply there
+-- if its round was cut off, which means that the round ended without replies.
 use Rattle.std.specs.Prelude.{◌≡◌, ℕ, ◌+◌, ◌==◌, false, if◌then◌else◌, List, [], ◌∷◌, ◌++◌, length, Option, None, Some}
 use Rattle.raft_voter_messages.specs.declared.reply.Reply.{Reply}
 use Rattle.raft_voter_messages.specs.declared.request.Request.{Request}
@@ -7,9 +9,6 @@ use Rattle.raft_voter_messages.specs.declared.round.Round.{Round}
 use Rattle.raft_voter_outline.specs.State.{State, fresh}
 use Rattle.raft_voter_outline.specs.Rules.{is_retire, next}
 use Rattle.raft_voter.specs.Rounds.{cuts_after, is_among, place_reached, taken_below}
-
--- The account of a transcript lists each request that a voter took, in order, with its reply. A request has no reply
--- there if its round was cut off, which means that the round ended without replies.
 
 -- A request that the voter of `group` took, and the reply that the transcript has for it. `None`: its round was cut
 -- off.

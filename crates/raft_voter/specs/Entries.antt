@@ -1,4 +1,4 @@
--- A voter, made from an outline, which has only the terms of its entries, and from the entries.
+-- Making a voter from its outline and its entries. An outline has only the terms of the entries.
 use Rattle.std.specs.Prelude.{◌≡◌, ℕ, ◌+◌, ◌^◌, ◌<◌, List, length}
 use Rattle.raft_voter_outline.specs.Runs.{bare}
 use Rattle.raft_voter_outline.specs.State.{State, fresh}

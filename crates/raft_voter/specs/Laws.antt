@@ -1,3 +1,5 @@
+-- Laws of voters, and of voters that take the requests of rounds and give their replies. Each is the contract of a
+-- function without a body.
 use Rattle.std.specs.Prelude.{◌≡◌, ◌≢◌, ℕ, ◌+◌, ◌-◌, ◌<◌, ◌≤◌, nat_lt, Bool, true, false, IsTrue, IsSomeAnd, length, if◌then◌else◌, List, [], ◌∷◌, ◌++◌, map, take, drop, slice_get, Option, None, Some, Ok}
 use Rattle.raft_voter_messages.specs.Laws.{bare}
 use Rattle.raft_voter_messages.specs.StoredForms.{IsEntry, IsState, entry_text, state_text}
@@ -97,11 +99,11 @@ MatchedAppend =
     ((j : ℕ) → ¬ BringsOther v prev sent j) → (next v (Append term prev prev_term commit sent)).log ≡ v.log
     )
 
--- Voter `v` keeps its entry at index `i` when it takes this request:
--- - a matched Append has no entry up to `i` whose term the voter doesn't have at that index;
--- - a Compact leaves the base below `i`;
--- - an Install leaves the base below `i`; if it moves the base, the log has the snapshot's last entry;
--- - the request isn't Retire.
+-- When voter `v` keeps its entry at index `i` while it takes this request:
+-- - Append: if the reply is `Matched`, it brings no term up to `i` that the voter doesn't have at the same index.
+-- - Compact: the base stays below `i`.
+-- - Install: the base stays below `i`. If it moves, the voter has the snapshot's last index with the snapshot's term.
+-- - Retire: never. Every other request: always.
 abbrev pub SparesEntry : State → ℕ → Request → Type 0
 SparesEntry v i (Append term prev prev_term commit sent) =
     (last : ℕ) → reply v (Append term prev prev_term commit sent) ≡ Matched last
@@ -126,8 +128,8 @@ matched_up_to term prev prev_term commit sent last =
     (Append term prev prev_term commit sent, Some (Matched last))
 
 -- After an Append with the reply `Matched`, the voter has an entry at each index for which the Append brought one, with
--- the same term. The voter keeps that entry, with the same bytes, as long as every later request spares it
--- (`AllSpare`).
+-- the same term. As long as every later request spares it (`AllSpare`), the voter keeps that entry, with the same
+-- bytes.
 abbrev pub MatchedEntriesStand : Type 0
 MatchedEntriesStand =
     (rounds : List Round) (cuts : List ℕ) (group : ℕ) → Explains rounds cuts

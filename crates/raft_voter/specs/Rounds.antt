@@ -1,3 +1,4 @@
+-- What rounds of requests do to the voters of all groups, and which replies voters that never fail give.
 use Rattle.std.specs.Prelude.{◌≡◌, ℕ, ◌+◌, ◌≤◌, ◌==◌, ◌&&◌, nat_lt, nat_le, Bool, true, not, IsTrue, if◌then◌else◌, List, [], ◌∷◌, length, drop}
 use Rattle.std.specs.List.{list_any}
 use Rattle.raft_voter_messages.specs.declared.reply.Reply.{Reply}

@@ -69,20 +69,20 @@ pub record IsOpenAt {S : Type 0} (v : Service S) (store : S) (W : World) : Type 
 abbrev pub IsClosedAt : {S F : Type 0} → Files S F → F → World → Type 0
 IsClosedAt f files W = f.leaves files (uncut W)
 
--- Suppose these files have no CRC collision, and leave a cut-off round to the next open. Then `store`, opened from
--- them, serves voters that took the round's requests before some position.
+-- Suppose these files have no CRC collision, and an open finds only voters that are possible after the round `cut`.
+-- Then `store`, opened from them, serves voters that are possible after it.
 abbrev pub FindsVoters : {S F : Type 0} → Service S → Files S F → F → S → Type 0
 FindsVoters v f files store =
     f.without_chance files files
     → (cut : CutRound) → f.leaves files cut → (W : World) × MayFollow cut W × IsOpenAt v store W
 
 -- A crash of `files`, or an open of them that failed, left the files `left`. If the files `read` have no CRC collision,
--- `left` leave every cut-off round that `files` leave.
+-- an open of `left` finds only voters that an open of `files` may find.
 abbrev pub LeavesStanding : {S F : Type 0} → Files S F → F → F → F → Type 0
 LeavesStanding f read files left =
     f.without_chance files read → (cut : CutRound) → f.leaves files cut → f.leaves left cut
 
--- `files` leave every cut-off round that service `store` leaves
+-- an open of `files` finds only voters that an open may find after service `store` is closed or crashes
 abbrev pub LeavesInFiles : {S F : Type 0} → Service S → Files S F → S → F → Type 0
 LeavesInFiles v f store files = (cut : CutRound) → v.leaves store cut → f.leaves files cut
 
@@ -131,8 +131,8 @@ pub record TookSome {S : Type 0} (v : Service S) (refused : List ℕ) (requests 
   pub left : (W : World) → IsOpenAt v old W
       → v.leaves new (record { before = W; requests = requests; refused = refused })
 
--- No request was taken, and no position refused. Service `new` serves the same voters as `old`, and leaves every
--- cut-off round that `old` left.
+-- No request was taken, and no position refused. Service `new` serves the same voters as `old`. An open after a close
+-- or a crash of `new` finds only voters that it could find after one of `old`.
 pub record TookNone {S : Type 0} (v : Service S) (refused : List ℕ) (old new : S) : Type 0 where
   pub none : refused ≡ []
   pub served : (W : World) → IsOpenAt v old W → IsOpenAt v new W
@@ -149,7 +149,7 @@ abbrev pub TakesNothing : Cause → Type 0
 TakesNothing FileSystem = ⊥
 TakesNothing _ = Unit {0}
 
--- the cause is a failure of the file system or a lack of memory, which may happen for any request
+-- the cause is a failure of the file system or a lack of memory, which any call may meet
 abbrev pub IsFromOutside : Cause → Type 0
 IsFromOutside FileSystem = Unit {0}
 IsFromOutside Memory = Unit {0}

@@ -1,3 +1,4 @@
+-- The voters of all groups in memory, as a world.
 use Rattle.std.specs.Prelude.{◌≡◌, ◌⊎◌, ℕ, Bool, List, None, unwrap_or}
 use Rattle.std.specs.BTreeMap.{get, is_at}
 use Rattle.std.specs.List.{list_any}

@@ -27,7 +27,7 @@ IsIndexRun (x ∷ xs) = RisesFrom x (x ∷ xs) × (x + length (x ∷ xs) < 2 ^ 6
 abbrev pub IsRunWith : List ℕ → List (List ℕ) → Type 0
 IsRunWith indexes entries = (length indexes ≡ length entries) × IsIndexRun indexes
 
--- the entries with these indexes and the lengths of these bytes, which are not written to a file yet
+-- one entry for each index, with the length of the bytes at the same position; they are not written to a file yet
 abbrev pub entries_of : List ℕ → List (List ℕ) → List EntryIndex
 entries_of [] bytes = []
 entries_of (i ∷ is) [] = []
@@ -84,8 +84,8 @@ spelled_len spelling entries = bytes_len (map spelling entries)
 abbrev pub MayHold : Batch → List (List ℕ) → Type 0
 MayHold b entries = length b.entries + bytes_len entries ≤ max_entries_len
 
--- the error's text if the indexes that were given, `indexes` in number, aren't a run with one for each of `entries`
--- entries
+-- The text of the error for `indexes` many indexes and `entries` many entries, if these indexes aren't a run with one
+-- for each entry.
 abbrev pub run_refusal : ℕ → ℕ → List ℕ
 run_refusal indexes entries =
     if indexes == entries
@@ -144,8 +144,8 @@ IsMergeRefusal e entries others = IsRoomRefusal e max_entries_len (length entrie
 abbrev pub slices_bytes : List (Bor (List ℕ)) → List (List ℕ)
 slices_bytes slices = map (λ s. s.now) slices
 
--- the entries with these indexes and the lengths of these slices; their bytes follow one another in the block, from
--- `offset` on
+-- one entry for each index, with the length of the slice at the same position; the slices' bytes follow one another in
+-- the block, from `offset` on
 abbrev pub laid_slices : ℕ → List EntryIndex → List (Bor (List ℕ)) → List EntryIndex
 laid_slices offset indexes slices = laid_run offset (entries_of (indexes_of indexes) (slices_bytes slices))
 
@@ -158,12 +158,13 @@ abbrev pub IsSlicesRefusal : Error → Batch → List EntryIndex → List (Bor (
 IsSlicesRefusal e b indexes slices =
     IsEntriesRefusal e (length b.entries) (indexes_of indexes) (slices_bytes slices)
 
--- the entries with these indexes, whose lengths are those of what `spelling` gives for `entries`
+-- one entry for each of `entries`, with the index at the same position, and the length of the bytes that `spelling`
+-- gives for it
 abbrev pub sized : {E : Type 0} → (E → List ℕ) → List EntryIndex → List E → List EntryIndex
 sized spelling indexes entries = entries_of (indexes_of indexes) (map spelling entries)
 
--- The entries with the `index`, and the length of the `spelling`, of each of `entries`. Their bytes follow one
--- another in the block, from `offset` on.
+-- One entry for each of `entries`, with the index that `index` gives for it, and the length of the bytes that
+-- `spelling` gives. The bytes follow one another in the block, from `offset` on.
 abbrev pub laid_messages : {E : Type 0} → (E → ℕ) → (E → List ℕ) → ℕ → List E → List EntryIndex
 laid_messages index spelling offset entries =
     laid_run offset (entries_of (map index entries) (map spelling entries))

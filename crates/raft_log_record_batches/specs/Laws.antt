@@ -19,8 +19,9 @@ abbrev pub NoRecordIsLonger : Type 0
 NoRecordIsLonger =
     (items : List LogItem) (entries : List ℕ) → record_len items entries ≤ record_bound items entries
 
--- How much each addition raises the upper bound of a batch, which is 34 for an empty one. For entries, the bound rises
--- by at most this much, and for all other additions by exactly this much.
+-- How much each addition raises the upper bound of a batch. An empty batch has the bound 34. Adding entries raises it
+-- by at most the given sum, and any other addition by exactly that. Merging another batch adds that one's bound, less
+-- 34.
 pub record AdditionsRaise : Type 0 where
   pub nothing : (capacity buffer : ℕ) → batch_bound (empty_batch capacity buffer) ≡ 34
   pub entries : (old new : Batch) (g : ℕ) (indexes : List ℕ) (entries : List (List ℕ))

@@ -1,4 +1,4 @@
--- The bytes at the places of a batch's entries.
+-- The bytes of a batch's entries: in the batch, and in the block that is written.
 use Rattle.std.specs.Prelude.{◌≡◌, ℕ, List, ◌++◌, length, take, drop, map}
 use Rattle.raft_log_record_base.specs.declared.pipe_log.FileBlockHandle.{FileBlockHandle}
 use Rattle.raft_log_record_items.specs.declared.entry.EntryIndex.{EntryIndex}
@@ -10,11 +10,11 @@ use Rattle.raft_log_record_frames.specs.ItemBatch.{all_entries}
 use Rattle.raft_log_record_batches.specs.Batch.{Batch}
 use Rattle.raft_log_record_frames.specs.Meaning.{record_of}
 
--- the bytes of entry `e` in its block
+-- the bytes of entry `e` in the block `block`
 abbrev pub entry_bytes : List ℕ → EntryIndex → List ℕ
 entry_bytes block e = take e.entry_len (drop e.entry_offset block)
 
--- the bytes of each entry of these items in their block
+-- the bytes of each entry of these items in the block `block`
 abbrev pub bytes_of_each : List LogItem → List ℕ → List (List ℕ)
 bytes_of_each items block = map (entry_bytes block) (all_entries items)
 

@@ -32,7 +32,7 @@ RefusesChange handle change result old new =
     IfErr result (λ error.
     IsRefusedChange handle.file change (WrongWriter handle (disk_of old)) error old new)
 
--- there is enough free space for `change` of the handle's file
+-- there is enough free space for `change` of the handle's file before the call
 abbrev pub FindsSpace : Handle → Change → MemoryFileSystem → Type 0
 FindsSpace handle change old = HasSpaceFor handle.file change old
 

@@ -65,13 +65,13 @@ abbrev pub IsToldOnce : ErrorKind → ErrorKind → Disk → Type 0
 IsToldOnce kind error d = ((suc d.failures < most_failures) × (error ≡ kind))
     ⊎ ((most_failures ≤ suc d.failures) × IsToldAtStop kind error)
 
--- the unsynced changes after the deletion of a file, if there is one: without that file's changes
+-- the unsynced changes without those of the file with this number; for `None`, all of them
 abbrev pub without_named : Option ℕ → List (ℕ × Change) → List (ℕ × Change)
 without_named None changes = changes
 without_named (Some id) changes = without_file id changes
 
--- the unsynced changes after a file `id`, if there is one, was renamed to the name of `replaced`: without the changes
--- of `replaced`
+-- The unsynced changes after the file `id` was renamed to the path of the file `replaced`: those of `replaced` are
+-- gone. If there is no file to rename, they are unchanged.
 abbrev pub with_moved : Option ℕ → Option ℕ → List (ℕ × Change) → List (ℕ × Change)
 with_moved None replaced changes = changes
 with_moved (Some id) replaced changes = without_replaced id replaced changes

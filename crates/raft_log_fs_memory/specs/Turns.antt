@@ -74,7 +74,8 @@ part_later part = (part.0 - 1, part.1)
 abbrev pub nearer_parts : List (ℕ × ℕ) → List (ℕ × ℕ)
 nearer_parts parts = map part_later (filter (λ (part : ℕ × ℕ). nat_lt 1 part.0) parts)
 
--- how many bytes a write at the next changing call writes by the first partial failure due there; none if none is due
+-- how many bytes a write at the next changing call writes if a partial failure is due there; if several are due, the
+-- first in the list counts
 abbrev pub front_of : List (ℕ × ℕ) → Option ℕ
 front_of [] = None
 front_of (part ∷ parts) = cond (nat_eq part.0 1) (Some part.1) (front_of parts)
@@ -122,8 +123,8 @@ pub record ArmedRefusalFell (error : ErrorKind) (old new : MemoryFileSystem) : T
   pub kind : error ≡ Other
   pub left : disk_of new ≡ failed_once error (disk_of old)
 
--- A partial failure was due at this call. The call returned `Other`. On the disk, the failure was counted, or the file
--- system stopped if the count was full; nothing else changed.
+-- A partial failure was due at this call, which isn't a write, and returned `Other`. On the disk, the failure was
+-- counted, or the file system stopped if the count was full; nothing else changed.
 pub record ArmedPartFell (error : ErrorKind) (old new : MemoryFileSystem) : Type 0 where
   pub count : ℕ
   pub falls : PartFalls count (armed old)
@@ -147,15 +148,11 @@ after_failure error k = record k { disk = failed_once error k.disk }
 abbrev pub after_stop : Kept → Kept
 after_stop k = record k { disk = at_stop k.disk }
 
--- Why a changing call failed, and what is left:
--- - `uncounted`: either the file system has stopped, and the call returned `Other`, or an argument is wrong. Nothing
---   changed.
+-- Why a changing call failed, and what it left. In the last two cases a failure is counted as in `failed_once`:
+-- - `uncounted`: the file system had stopped, and the error is `Other`; or an argument is wrong. Nothing changed.
 -- - `stop_fell`: a stop was due. `left_at_stop` says what it left.
--- - `refusal_fell`: an armed failure was due. Nothing was done.
--- - `part_fell`: a partial failure was due. `left_in_part` says what it left.
--- - `room_short`: nothing was due, and there was no room for the change. `no_room` says why.
--- In the last three cases the failure is counted with the error that the call returned. If the count is full, the file
--- system stops instead, and the error isn't `OutOfMemory`.
+-- - `refusal_fell`, `part_fell`: an armed failure was due. A partial one left what `left_in_part` says.
+-- - `room_short`: nothing was due, and `no_room` says why there was no room for the change. Nothing was done.
 pub data IsRefusedCall (left_at_stop : ErrorKind → Kept → Type 0)
     (left_in_part : ℕ → ErrorKind → Kept → Type 0) (wrong no_room : ErrorKind → Type 0) (error : ErrorKind) (old new : MemoryFileSystem) : Type 0 where
   uncounted : IsAfterStop (disk_of old) error ⊎ wrong error → armed new ≡ armed old → kept new ≡ kept old
@@ -204,8 +201,8 @@ MadeUnlessShort space no_room id change old error left =
     ((error ≡ Other) × space × IsChangeMade id change old left)
     ⊎ ((kind : ErrorKind) × no_room kind × IsToldAtStop kind error × (left ≡ old))
 
--- The first `count` bytes of a write were written, and they are the last unsynced change of all files. The file's own
--- list of changes has the whole write.
+-- The first `count` bytes of the write of `bytes` at offset `at` were written, and they are the last unsynced change of
+-- all files. The file's own list of changes has the whole write.
 pub record IsFrontMade (id at : ℕ) (bytes : List ℕ) (count : ℕ) (old left : Kept) : Type 0 where
   pub file : File
   pub is : old.disk.files id ≡ Some file
@@ -248,11 +245,10 @@ IsRefusedChange id change wrong error old new =
     (LeftInPart (HasSpaceFor id change old) (NoRoomFor id change old) id change (kept old)) wrong
     (NoRoomFor id change old) error old new
 
--- How a call that didn't succeed ended. `stops` is whether the file system stops at it, and `done` whether its work was
--- done, or why not.
--- - At a stop, the error is `Other` if the work was done. Otherwise it is the reason, but `ResourceBusy` if memory ran
---   out.
--- - Without a stop, the work wasn't done, and a failure is counted.
+-- How a call that didn't succeed ended; `done` is the result of its work, and `kind_of` the kind of an error:
+-- - `at_the_stop`: the file system stops at it. The error is `Other` if the work was done, else the one of
+--   `IsToldAtStop`.
+-- - `not_made`: the file system doesn't stop. The work wasn't done, and a failure is counted as in `failed_once`.
 pub data IsEnded {E : Type 0} (kind_of : E → ErrorKind) (stops : Bool) (done : Result (Unit {0}) E)
     (error : ErrorKind) (old new : Disk) : Type 0 where
   at_the_stop : stops ≡ true → MatchResult done (λ v. error ≡ Other) (λ e. IsToldAtStop (kind_of e) error)

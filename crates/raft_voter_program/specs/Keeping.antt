@@ -1,4 +1,5 @@
--- The files that a session leaves to keep, and the exit status if they are kept in a real directory.
+-- The files that a session leaves to keep, and the exit status if they are kept in a real directory. `old` and `new`
+-- are the bytes that the writer has before and after, `None` if they aren't known.
 use Rattle.std.specs.Prelude.{◌≡◌, ◌⊎◌, ℕ, List, [], ◌++◌, Option, None, Some, false, string_bytes}
 use Rattle.std.specs.Option.{option_map}
 use Rattle.raft_log_fs.specs.Disk.{Disk}
@@ -19,7 +20,7 @@ abbrev pub AreSpilled : Disk → Option (List ℕ) → List StoredFile → Type 
 AreSpilled d None files = files ≡ []
 AreSpilled d (Some directory) files = AreFilesIn d directory files
 
--- `kept` are the files in the log's main directory, and then those in its second one.
+-- `kept` are the files in the log's main directory, and then those in its second one, the settings' `spill-dir`
 pub record AreKept (log : LogFiles) (kept : List StoredFile) : Type 0 where
   pub main : List StoredFile
   pub spilled : List StoredFile

@@ -1,4 +1,5 @@
--- The text that is written for the voters of a store, after it was opened.
+-- The text that is written for the voters of a store, after it was opened. `old` and `new` are the bytes that the
+-- writer has before and after, `None` if they aren't known.
 use Rattle.std.specs.Prelude.{◌≡◌, ◌≢◌, ◌<◌, ◌⊎◌, ℕ, List, Option, length, codes}
 use Rattle.std.specs.Io.KnownBytes.{Appends, Keeps}
 use Rattle.std.specs.List.{AllAdjacentBelow}
@@ -22,8 +23,8 @@ pub record TellsLines {S : Type 0} (v : Service S) (store : S) (text : List ℕ)
   pub rising : AreRising voters
   pub written : text ≡ voters_text voters
 
--- A store was opened from `files` with `workers` recovery threads. If `files` have no CRC collision, it serves voters
--- that are possible for them. `text` has the lines for its voters.
+-- A store was opened from `files` with `workers` recovery threads, and `text` has the lines for its voters. If `files`
+-- have no CRC collision, the store serves voters that an open of `files` may find.
 pub record OpensAndTells {S F : Type 0} (v : Service S) (d : Disk S F) (files : F) (workers : ℕ) (text : List ℕ) : Type 0 where
   pub store : S
   pub opens : d.opens files workers store

@@ -1,4 +1,5 @@
--- What is written for the log in a real directory, whose files were loaded into memory.
+-- What is written for the log in a real directory, whose files were loaded into memory. `old` and `new` are the bytes
+-- that the writer has before and after, `None` if they aren't known.
 use Rattle.std.specs.Prelude.{◌≡◌, ◌⊎◌, ℕ, List, Option, codes}
 use Rattle.std.specs.Io.KnownBytes.{Keeps}
 use Rattle.raft_log_fs_memory.specs.Memory.{disk_of}

@@ -1,4 +1,5 @@
--- What the program writes, and its exit status.
+-- What the program writes, and its exit status. `old` and `new` are the bytes that the writer has before and after,
+-- `None` if they aren't known.
 use Rattle.std.specs.Prelude.{◌≡◌, ◌↔◌, ◌⊎◌, ℕ, Bool, true, false, IsTrue, if◌then◌else◌, List, [], map, Option, Result, Ok, Err, codes}
 use Rattle.std.specs.Io.KnownBytes.{Appends, Keeps}
 use Rattle.std.specs.declared.io.ErrorKind.{ErrorKind}
@@ -30,8 +31,8 @@ abbrev pub SaysYes : {F : Type 0} → WorldReport F → List ℕ → ℕ → Typ
 SaysYes report text status = (text ≡ transcript_text report.transcript.rounds report.cuts true) × (status ≡ 0)
 
 -- A run of exactly the events of the session, from files that its settings make, in which no voter is stored. Its
--- report is written as a transcript with a verdict. The verdict is yes if no open lost voters, and each store that was
--- opened served the voters of some world.
+-- report is written as a transcript with a verdict. The verdict is yes if no open lost voters, and each store whose
+-- voters were read served the voters of some world.
 pub record WritesRun {S F : Type 0} (v : Service S) (u : Upkeep S) (d : Disk S F) (s : Setup F) (session : SessionContent)
     (text : List ℕ) (status : ℕ) : Type 0 where
   pub files : F

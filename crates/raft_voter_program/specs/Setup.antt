@@ -23,7 +23,7 @@ abbrev pub TellsSettings : Option (List ℕ) → Settings → Type 0
 TellsSettings None s = s ≡ usual_settings
 TellsSettings (Some text) s = SaysSettings text s
 
--- there is a text, but it gives no settings: it isn't TOML, or the value of a key is wrong
+-- there is a text, but it gives no settings: it isn't TOML, or a key has a wrong value
 abbrev pub TellsNone : Option (List ℕ) → Type 0
 TellsNone None = ⊥
 TellsNone (Some text) = (parse_document text ≡ None) ⊎ ((key : List ℕ) × HasWrongKey text key)

@@ -1,4 +1,5 @@
--- Which bytes a writer got.
+-- Which bytes a writer got. `old` and `new` are the bytes that the writer has before and after, `None` if they aren't
+-- known.
 use Rattle.std.specs.Prelude.{◌≡◌, ℕ, ◌<◌, List, ◌++◌, length, Option}
 use Rattle.std.specs.Io.KnownBytes.{Appends}
 

@@ -1,4 +1,5 @@
--- What the bytes of a plain file begin with: a number, an entry, several entries or a record. `rest` is what follows.
+-- What the bytes of a plain file begin with: a number, an entry, several entries or a record. `rest` are the bytes
+-- after it.
 use Rattle.std.specs.Prelude.{◌≡◌, ℕ, ◌<◌, ◌^◌, true, List, ◌++◌, length}
 use Rattle.std.specs.List.{flat_map}
 use Rattle.raft_voter_messages.specs.declared.reply.Entry.{Entry}

@@ -33,8 +33,8 @@ pub record StandsBehind (bytes : List ℕ) (cut : CutRound) : Type 0 where
   pub alone : (X : World) → StandsFor bytes X → X ≡ world
   pub follows : MayFollow cut world
 
--- The synced bytes of this file store voters that are possible after the cut-off round `cut`. So do all its bytes
--- together.
+-- the synced bytes of this file store voters that are possible after the cut-off round `cut`, and all its bytes
+-- together also do
 pub record FileStandsBehind (file : PlainContent) (cut : CutRound) : Type 0 where
   pub synced : StandsBehind file.synced cut
   pub read : StandsBehind (whole file) cut
@@ -82,9 +82,9 @@ plain_files = record {
 abbrev pub LeadsFrom : World → PlainVoters → Type 0
 LeadsFrom W store = LeadTo W store.file.unsynced (world_of store)
 
--- One request was taken in memory, and `told` is the reply of its voter. The synced bytes are the same. A change of the
--- voter was written, if all voters were in range: records that led from a world to the voters before now lead to those
--- after.
+-- One request was taken in memory, and `told` is the reply of its voter. The synced bytes are the same. If all voters
+-- were in range, the change was written: if the unsynced records led from world `W` to the voters before, they now lead
+-- to those after.
 pub record Takes (old : PlainVoters) (asked : ℕ × Request) (told : Reply) (new : PlainVoters) : Type 0 where
   pub told_is : told ≡ reply (world_of old asked.0) asked.1
   pub taken : world_of new ≡ after_one (world_of old) asked
@@ -132,7 +132,7 @@ pub record AnswersNone (old : PlainVoters) (asked : List (ℕ × Request)) (new 
   pub written : AllInRange (world_of old) → LeadsFrom (world_of old) old
       → WroteSome (world_of old) asked new.file.unsynced
 
--- Of the requests `asked`, the first were taken in memory with the replies `told`, and `left` remain. The synced bytes
+-- The first of the requests `asked` were taken in memory, with the replies `told`, and `left` remain. The synced bytes
 -- are the same. If all voters were in range, they still are, and the changes so far were written as records.
 pub record IsAmidst (old : PlainVoters) (asked left : List (ℕ × Request)) (told : List Reply)
     (now : PlainVoters) : Type 0 where

@@ -1,5 +1,6 @@
--- The journal of a shared store: a record for each round, with its requests, its refused positions and its outcome. It
--- is legal if its replies are those of voters that take the rounds with replies, in this order.
+-- The journal of a shared store: a record for each round, with its requests, its refused positions and its outcome. A
+-- journal is legal if its replies are those of voters that take the rounds with replies, in this order. Refused
+-- positions must also rise and be within their round.
 use Rattle.std.specs.Prelude.{◌≡◌, Bool, true, List, [], ◌∷◌, length, map, Option, None, Some}
 use Rattle.raft_voter_messages.specs.declared.reply.Reply.{Reply}
 use Rattle.raft_voter_messages.specs.declared.round.Outcome.{Outcome}

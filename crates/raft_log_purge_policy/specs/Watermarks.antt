@@ -24,8 +24,8 @@ watermark thousandths v = min (seq_at InAppend v thousandths 1000) (last_of InAp
 abbrev pub watermarks_of : LogPipes → Watermarks
 watermarks_of v = record { rewrite = watermark 700 v; compact = watermark 200 v }
 
--- The live range of a queue has more than one file. If each file had the target size, they would together be larger
--- than `threshold`.
+-- The queue's live range has more than one file, and would be larger than `threshold` bytes if each file had the target
+-- size.
 abbrev pub IsQueuePast : Which → ℕ → LogPipes → Type 0
 IsQueuePast which threshold v = (first_at which v < last_of which v) × (threshold < size_at which v)
 
@@ -33,7 +33,7 @@ IsQueuePast which threshold v = (first_at which v < last_of which v) × (thresho
 abbrev pub IsGarbage : ℕ → GlobalStats → Type 0
 IsGarbage ratio stats = stats.rewrite_entries * ratio < stats.deleted_rewrite_entries * 1000
 
--- a purge collects Append, as that is past its threshold
+-- Append is past its threshold, so a purge collects it
 abbrev pub TakesAppend : Thresholds → LogPipes → Type 0
 TakesAppend t v = IsQueuePast InAppend t.append v
 
@@ -41,7 +41,8 @@ TakesAppend t v = IsQueuePast InAppend t.append v
 abbrev pub IsAnyPast : Thresholds → LogPipes → Type 0
 IsAnyPast t v = TakesAppend t v ⊎ ((threshold : ℕ) × (t.rewrite ≡ Some threshold) × IsQueuePast InRewrite threshold v)
 
--- a purge compacts Rewrite: the settings have a threshold for it, it is past that, and enough of it is garbage
+-- a purge compacts Rewrite: the settings have a threshold for it, Rewrite is past that, and enough of what was written
+-- to it is garbage
 abbrev pub TakesRewrite : Thresholds → GlobalStats → LogPipes → Type 0
 TakesRewrite t stats v = (threshold : ℕ) × (t.rewrite ≡ Some threshold)
     × IsQueuePast InRewrite threshold v × IsGarbage t.garbage_ratio stats

@@ -7,8 +7,8 @@ use Rattle.raft_log_engine.specs.raft_log_engine_laws.specs.EngineState.{EngineS
 use Rattle.raft_log_engine.specs.raft_log_engine_laws.specs.Reading.{ReadsLast}
 use Rattle.raft_log_engine.specs.raft_log_engine_laws.specs.Writing.{WritesBytes}
 
--- In state `s`, the last index of group 1 was read, and `index` is the one after it, or 1 if the group has no entry.
--- Then a batch was written with a sync, which led to state `t`. Its only entry is the line, at `index`.
+-- The last index of group 1 was read, and `index` is the one after it, or 1 if the group has no entry. Then a batch was
+-- written with a sync. Its only entry is the line, at `index`. The engine's state is `s` before this, and `t` after it.
 pub record AppendsLine (line : List ℕ) (index : ℕ) (s t : EngineState) : Type 0 where
   pub last : Option ℕ
   pub told : ReadsLast s 1 last

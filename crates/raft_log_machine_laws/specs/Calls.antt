@@ -1,6 +1,6 @@
--- What a call of a pipe, which changes its state from `s` to `t`, does to the numbered files of its queue. `ties s f`:
--- a running pipe in state `s` may have the files `f`. `allows s f`: `f` allow each image that a crash may leave. Quiet
--- events are syncs, rotations, and losses of files below the live range.
+-- What a call of a pipe does to the numbered files of its queue; `s` is the pipe's state before it, and `t` after it.
+-- `ties s f`: a running pipe in state `s` may have the files `f`. `allows s f`: `f` allow each image that a crash may
+-- leave. Quiet events are syncs, rotations, and losses of files below the live range.
 use Rattle.std.specs.Prelude.{◌≡◌, ℕ, ◌⊎◌, List, [], ◌++◌}
 use Rattle.raft_log_model_laws.specs.Item.{Record, Tagged}
 use Rattle.raft_log_model_laws.specs.Groups.{Map, appended, directory_meaning}
@@ -27,7 +27,7 @@ abbrev pub from_at : {E V : Type 0} → Which → Files E V → ℕ
 from_at InAppend f = f.append_from
 from_at InRewrite f = f.rewrite_from
 
--- files `f` with `q` as the files of this queue, the first of which after the last gap has the number `from`
+-- files `f`, but with `q` as this queue's files; `from` is the number of the first one after the last gap
 abbrev pub put : {E V : Type 0} → Which → Files E V → ℕ → FileQueue E V → Files E V
 put InAppend f from q = with_append f from q
 put InRewrite f from q = with_rewrite f from q
@@ -53,7 +53,8 @@ abbrev pub LeavesOut : {S E V : Type 0} → (S → Files E V → Type 0) → Whi
 LeavesOut {S} {E} {V} ties which s t =
     (f : Files E V) → ties s f → (a : MovedIn which f) × ties t (put which f a.from a.queue)
 
--- the pipe fails, after some quiet events; the record may be in the files, or not
+-- The pipe fails, after some quiet events. The files then allow each image that a crash may leave, either with the
+-- record or without it.
 abbrev pub MayAppend : {S E V : Type 0} → (S → Files E V → Type 0) → (S → Files E V → Type 0) → Which
     → Record E V → S → S → Type 0
 MayAppend {S} {E} {V} ties allows which y s t =
@@ -131,8 +132,9 @@ Replays {S} {E} {V} allows ties v s t =
 abbrev pub IsExactly : {E V : Type 0} → Files E V → Files E V → Type 0
 IsExactly s f = f ≡ s
 
--- The view is true of some files that `may_be` allows. Rewrite ends with atomic group `n`, which has no end yet, and
--- whose records are in files from number `from` on.
+-- The view is true of some files that `may_be` allows, with map `m` and these batches pending. Rewrite ends with atomic
+-- group `n`, which has no end yet, and whose records are in files from number `from` on. Its begin has the items
+-- `first`, and its middles have `more`.
 pub record IsInGroup {E V : Type 0} (may_be : Files E V → Type 0) (v : View E V) (m : Map E V)
     (pending : List (Record E V)) (from n : ℕ) (first : List (Tagged E V)) (more : List (List (Tagged E V)))
     : Type 0 where

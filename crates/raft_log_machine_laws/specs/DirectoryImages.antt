@@ -60,7 +60,7 @@ abbrev pub ShowsNoMore : {D E V : Type 0} → Readings D E V → D → D → Typ
 ShowsNoMore {D} r old new =
     (image : D) → r.leaves new image → (before : D) × r.leaves old before × ReadsAsPartOf r image before
 
--- The image has no log. Of each queue, a recovery can only read an empty file of number 1, as it does if there is no
+-- The image has no log. In each queue, a recovery can read only an empty file of number 1, as it does if there is no
 -- file.
 pub record ReadsNothing {D E V : Type 0} (r : Readings D E V) (image : D) : Type 0 where
   pub rewrite : (s : ℕ) (files : List (LogFile E V)) → r.rewrite image s files
@@ -68,7 +68,7 @@ pub record ReadsNothing {D E V : Type 0} (r : Readings D E V) (image : D) : Type
   pub append : (s : ℕ) (files : List (LogFile E V)) → r.append image s files
       → (s ≡ 1) × (files ≡ empty_file ∷ [])
 
--- a crash of file system `d` may leave `d` itself, and no image from which a recovery may read anything else, as after
--- a sync
+-- A crash of file system `d` may leave `d` itself. From each image that it may leave, a recovery reads nothing that it
+-- may not read from `d`. This is so after a sync.
 abbrev pub IsOwnImage : {D E V : Type 0} → Readings D E V → D → Type 0
 IsOwnImage {D} r d = r.leaves d d × ((image : D) → r.leaves d image → ReadsAsPartOf r image d)

@@ -53,8 +53,8 @@ IsNumbered n q = NumberedFrom n (q.gone ++ span q []) × AllBehind n q.behind
 abbrev pub first_file : {E V : Type 0} → ℕ → FileQueue E V → ℕ
 first_file n q = n + length q.gone
 
--- A recovery may read `files` of those that are there, from file number `s` on. They are a suffix that isn't empty,
--- with consecutive numbers. It begins no later than `first`, the number of the live range's first file.
+-- A recovery may read `files`, which are some of the files `there`, from number `s` on. They are a suffix that isn't
+-- empty, with consecutive numbers. It begins no later than `first`, the number of the live range's first file.
 pub record IsReadOf {E V : Type 0} (first : ℕ) (there : List (LogFile E V)) (s : ℕ)
     (files : List (LogFile E V)) : Type 0 where
   pub low : s ≤ first

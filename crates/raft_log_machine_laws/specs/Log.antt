@@ -33,7 +33,7 @@ pub record View (E V : Type 0) : Type 0 where
   pub map : Map E V
 
 -- The view is true of files `f`. They hold map `m`, and have these batches pending. The view's map is `m` after these
--- batches. The files noted for each slot have records that touch it.
+-- batches. The view's noted files are right, as `AreNoted` and `AreNotedInRewrite` say.
 pub record Stands {E V : Type 0} (v : View E V) (f : Files E V) (m : Map E V) (pending : List (Record E V))
     : Type 0 where
   pub sound : IsModelSound (running f m v.whereabouts)
@@ -51,7 +51,7 @@ pub record Follows {E V : Type 0} (v : View E V) (f : Files E V) (m : Map E V) (
   pub splits : done ++ rest ≡ pending
   pub stands : Stands v (with_append f a.from a.queue) (taken m done) rest
 
--- the view is true of some files that `may_be` allows, with map `m` and these pending batches
+-- the view is true of some files that `may_be` allows; these hold map `m` and have these batches pending
 pub record IsAt {E V : Type 0} (may_be : Files E V → Type 0) (v : View E V) (m : Map E V)
     (pending : List (Record E V)) : Type 0 where
   pub files : Files E V
@@ -74,7 +74,7 @@ pub record LogEnds {E V : Type 0} (may_be : Files E V → Type 0) (m : Map E V) 
   pub splits : done ++ rest ≡ pending
   pub log : IsLog may_be (taken m done) rest
 
--- the view is true of some files that `may_be` allows, with map `m`, and neither queue has a pending record
+-- the view is true of some files that `may_be` allows; these hold map `m`, and neither queue has a pending record
 pub record IsSettled {E V : Type 0} (may_be : Files E V → Type 0) (v : View E V) (m : Map E V) : Type 0 where
   pub at : IsAt may_be v m []
   pub rewrite : at.files.rewrite.pending ≡ []

@@ -67,8 +67,8 @@ pub data Event (E V : Type 0) : Type 0 where
   -- Append are kept. Of the records below the live ranges, the suffixes `r_back` and `a_back` are read.
   Reopen : (r_kept r_lost r_cut r_back a_kept a_lost a_cut a_back : List (Record E V)) → Event E V
 
--- Queue `q` ends with the records of atomic group `n`, which has no end yet. Its begin has the items `first`, and its
--- middles have `more`.
+-- Queue `q` ends with the records of atomic group `n`, which has no end yet: its begin with the items `first`, and its
+-- middles, whose items are the lists of `more`.
 abbrev pub GoesOnWith : {E V : Type 0} → Queue E V → ℕ → List (Tagged E V) → List (List (Tagged E V)) → Type 0
 GoesOnWith {E} {V} q n first more =
     (front : List (Record E V)) × (q.live ++ q.pending ≡ front ++ begun n first more)
@@ -80,7 +80,7 @@ pub record IsJoined {E V : Type 0} (parts items : List (Item E V)) : Type 0 wher
   pub no_more_holes : (w : Window) → NoHole w items → NoHole w parts
 
 -- This event may happen to machine `w`, and changes it into `v`. Its conditions on raft groups are stated with their
--- whereabouts.
+-- whereabouts. While batches are pending in Append, Rewrite takes no plain record and no end of an atomic group.
 abbrev pub Step : {E V : Type 0} → Event E V → Machine E V → Machine E V → Type 0
 Step (Take y) w v =
     (w.failed ≡ false)
@@ -156,7 +156,8 @@ abbrev pub Steps : {E V : Type 0} → Machine E V → List (Event E V) → Machi
 Steps w [] v = v ≡ w
 Steps {E} {V} w (e ∷ es) v = (next : Machine E V) × Step e w next × Steps next es v
 
--- what the records of these queues do to each slot of raft group `g`
+-- what the records of each queue's live range, and all records of Rewrite that may be read, do to each slot of raft
+-- group `g`
 abbrev pub said_of : {E V : Type 0} → ℕ → Store E V → SaysOfSlot E V
 said_of g q = record {
   lowest = λ s. says s (rewritten g (all_records q.rewrite));
@@ -164,7 +165,7 @@ said_of g q = record {
   append = λ s. says s (appended g (q.append.live ++ q.append.pending));
 }
 
--- The invariant of the machine. The directory holds its map. No other record comes between those of an atomic group of
+-- The invariant of the machine. The queues hold its map. No other record comes between those of an atomic group of
 -- Rewrite. No run in Rewrite ends above 2^64 - 1. Unless the engine has failed, the whereabouts agree with the records.
 pub record IsKept {E V : Type 0} (w : Machine E V) : Type 0 where
   pub holds : HoldsMap w.store w.map

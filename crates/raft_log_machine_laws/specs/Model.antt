@@ -9,8 +9,8 @@ use Rattle.raft_log_machine_laws.specs.Replay.{IsReplayable}
 use Rattle.raft_log_machine_laws.specs.Images.{HasRuns}
 use Rattle.raft_log_machine_laws.specs.Fresh.{nothing_stands, nowhere}
 
--- the files of both queues; the first of Rewrite's after the last gap has the number `rewrite_from`, the first of
--- Append's `append_from`
+-- The files of both queues. After the last gap in its numbers, Rewrite's first file has the number `rewrite_from`, and
+-- Append's has `append_from`.
 pub record Files (E V : Type 0) : Type 0 where
   pub rewrite : FileQueue E V
   pub rewrite_from : ℕ
@@ -38,8 +38,8 @@ machine_of d = record {
   failed = d.failed;
 }
 
--- all invariants of the machine are true; after the last gap, each queue's files have consecutive numbers from
--- `rewrite_from` or `append_from` on
+-- All invariants of the machine are true. After the last gap, Rewrite's files have consecutive numbers from
+-- `rewrite_from` on, and Append's from `append_from` on.
 pub record IsModelSound {E V : Type 0} (d : Model E V) : Type 0 where
   pub kept : IsKept (machine_of d)
   pub replay : IsReplayable (machine_of d)

@@ -1,6 +1,6 @@
--- For each slot, an engine notes a file of the queue. In Append, a record of this file has the slot's content. In
--- Rewrite, the records from this file on are enough to get it. The queue's live range may begin at the lowest noted
--- file, or before it.
+-- For each slot, an engine notes a file of the queue that stores the slot's content. In Append, a record of this file
+-- touches the slot. In Rewrite, an item that touches the slot counts if only the files from this one on are read. The
+-- queue's live range may begin at the lowest noted file, or before it.
 use Rattle.std.specs.Prelude.{◌≡◌, ℕ, ◌<◌, ◌≤◌, ◌⊎◌, true, false, List, [], ◌∷◌, ◌++◌, None}
 use Rattle.raft_log_model_laws.specs.Item.{Record, Tagged, items_of}
 use Rattle.raft_log_model_laws.specs.Meaning.{Slot, says}
@@ -25,7 +25,7 @@ abbrev pub RecordLiesIn : {E V : Type 0} → ℕ → Record E V → List (LogFil
 RecordLiesIn n y [] = ⊥
 RecordLiesIn n y (f ∷ fs) = ((f.number ≡ n) × IsAmong f.records y) ⊎ RecordLiesIn n y fs
 
--- a record of file `n`, in the live range, touches slot `s` of raft group `g`
+-- in the live range, a record of file `n` touches slot `s` of raft group `g`
 abbrev pub SpeaksIn : {E V : Type 0} → FileQueue E V → ℕ → ℕ → Slot → Type 0
 SpeaksIn {E} {V} q g n s =
     (y : Record E V) × RecordLiesIn n y (span q q.pending) × IsSpoken (says s (of_group g (items_of y)))
@@ -78,8 +78,8 @@ abbrev pub RewriteStandsFrom : {E V : Type 0} → ℕ → Map E V → (ℕ → W
 RewriteStandsFrom n m whereabouts notes =
     (g : ℕ) (s : Slot) → IsInRewrite (whereabouts g) s → (m g s ≡ None) ⊎ (n ≤ notes g s)
 
--- the live range ends with the records of atomic group `n`, which has no end yet; all of them are in files from number
--- `from` on
+-- The live range ends with the records of atomic group `n`, which has no end yet. All of them are in files from number
+-- `from` on. The group's begin has the items `first`, and its middles have `more`.
 pub record GoesOnFrom {E V : Type 0} (q : FileQueue E V) (from n : ℕ) (first : List (Tagged E V))
     (more : List (List (Tagged E V))) : Type 0 where
   pub front : List (LogFile E V)

@@ -12,7 +12,7 @@ IsOwn (Take y) = ⊥
 IsOwn (Reopen r_kept r_lost r_cut r_back a_kept a_lost a_cut a_back) = ⊥
 IsOwn _ = Unit {0}
 
--- all these events are the engine's own; the events of a purge are
+-- all these events are the engine's own, as those of a purge are
 abbrev pub AllOwn : {E V : Type 0} → List (Event E V) → Type 0
 AllOwn [] = Unit {0}
 AllOwn (e ∷ es) = IsOwn e × AllOwn es

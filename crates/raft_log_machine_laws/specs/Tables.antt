@@ -55,7 +55,7 @@ pub record CarriesTo {E V : Type 0} (xs : List (Tagged E V)) (n : ℕ) (old new 
   pub noted_in_rewrite : NotesCarry xs n old new
 
 -- How the view changes from `old` to `new` when an atomic group of Rewrite ends with the items `xs`. The group began in
--- file `n`, with the items `first` and then `more`. Several of its runs may count as one.
+-- file `n`, with the items `first`, and its middles have `more`. Several of its runs may count as one.
 pub record EndsGroupTo {E V : Type 0} (first : List (Tagged E V)) (more : List (List (Tagged E V)))
     (xs : List (Tagged E V)) (n : ℕ) (old new : View E V) : Type 0 where
   pub fit : AllFit xs

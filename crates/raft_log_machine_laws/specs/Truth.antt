@@ -43,8 +43,8 @@ IsSettledKey said m t k =
     IsRightInRewrite said m (Key k) ⊎ ((t.cleaned ≡ true) ⊎ ((t.deleted k ≡ true) ⊎ (t.appended k ≡ true)))
 
 -- Whereabouts `t` are correct for a raft group with content `m`, if its records do `said` to each slot. The group's
--- entries are exactly those from `first` to below `end`. The live range of the queue that `t` says has each entry and
--- value. Each index and key is settled.
+-- entries are exactly those from `first` to below `end`. Each entry and value is in the live range of the queue in
+-- which `t` places it. Each index and key is settled.
 pub record AreCorrect {E V : Type 0} (said : SaysOfSlot E V) (m : Slot → Option (Content E V)) (t : Whereabouts)
     : Type 0 where
   pub in_order : (t.first ≤ t.split) × (t.split ≤ t.end) × (t.end ≤ top)

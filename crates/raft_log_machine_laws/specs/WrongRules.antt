@@ -24,16 +24,16 @@ lone rs = record { gone = []; live = rs; pending = [] }
 abbrev pub lone_store : List (Record ℕ ℕ) → List (Record ℕ ℕ) → Store ℕ ℕ
 lone_store rewrite append = record { rewrite = lone rewrite; append = lone append }
 
--- the directory with the records `rewrite` and `all` holds its map, but no longer after the records `out` left Append's
--- live range
+-- The directory with the records `rewrite` in Rewrite and `all` in Append holds its map. After the records `out` left
+-- Append's live range and `stay` stayed, it doesn't.
 abbrev pub LosesByAppend : (rewrite out stay all : List (Record ℕ ℕ)) → Type 0
 LosesByAppend rewrite out stay all =
     HoldsMap (lone_store rewrite all) (directory_meaning rewrite all)
     × (HoldsMap (with_append (lone_store rewrite all) (raised (lone all) out stay))
     (directory_meaning rewrite all) → ⊥)
 
--- the directory with the records `all` and `append` holds its map, but no longer after the records `out` left Rewrite's
--- live range
+-- The directory with the records `all` in Rewrite and `append` in Append holds its map. After the records `out` left
+-- Rewrite's live range and `stay` stayed, it doesn't.
 abbrev pub LosesByRewrite : (append out stay all : List (Record ℕ ℕ)) → Type 0
 LosesByRewrite append out stay all =
     HoldsMap (lone_store all append) (directory_meaning all append)
@@ -52,7 +52,7 @@ compact_3 = Plain (tagged 1 (Compact 3 ∷ []))
 abbrev pub compact_4 : Record ℕ ℕ
 compact_4 = Plain (tagged 1 (Compact 4 ∷ []))
 
--- a new entry 3 of group 1, which replaces all entries from there on, and then a Compact that deletes it and all below
+-- A new entry 3 of group 1 replaces all entries from there on. Then a Compact deletes it and all below.
 abbrev pub all_compacted : Record ℕ ℕ
 all_compacted = Plain (tagged 1 (Run 3 (23 ∷ []) ∷ Compact 4 ∷ []))
 

@@ -1,5 +1,6 @@
 -- Two cases in which a crash of a running engine only loses writes. Either no record begins after what was written to
--- the active file, and the crash leaves the file unchanged. Or the queue has just rotated.
+-- the active file, and the crash leaves the file unchanged. Or the queue has just rotated to a new file, or to a
+-- suitable recycled one.
 use Rattle.std.specs.Prelude.{◌≡◌, List, []}
 use Rattle.raft_log_fs.specs.Disk.{Disk}
 use Rattle.raft_log_fs.specs.Image.{IsImage}

@@ -147,7 +147,7 @@ pub record IsToldAtStop (kind error : ErrorKind) : Type 0 where
 -- - `after_stop`: the file system had stopped before. Nothing changes, and the error is `Other`.
 -- - `wrong_argument`: the error says which argument is wrong. Nothing changes, and no failure is counted.
 -- - `failed`: no argument is wrong. A failure with this error is counted, and the call may be done in part.
--- - `stops`: the file system stops, not with `OutOfMemory`. Unless an argument is wrong, the call may be done.
+-- - `stops`: the file system stops, not with `OutOfMemory`. With right arguments, a part or all may be done.
 pub data Refused (part done : Disk → Type 0) (wrong : ErrorKind
     → Type 0) (error : ErrorKind) (old new : Disk) : Type 0 where
   after_stop : old.stopped ≡ true → new ≡ old → error ≡ Other → Refused part done wrong error old new

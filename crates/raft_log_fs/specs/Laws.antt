@@ -77,8 +77,8 @@ pub record StopIsNoWantOfMemory (wrong : ErrorKind → Type 0) (done : Disk → 
   pub whole : (error : ErrorKind) (old new : Disk)
       → new.stopped ≡ true → RefusedWhole done wrong error old new → IsStopKind error
 
--- Each call, whether it succeeds or fails, leaves a consistent disk consistent. A write or growth must end below
--- `file_limit`.
+-- Each changing call, whether it succeeds or fails, leaves a consistent disk consistent. A write or growth must end
+-- below `file_limit`.
 pub record CallsKeepSound : Type 0 where
   pub change : (d : Disk) (id : ℕ) (file : File) (change : Change) (content : List ℕ) → IsSound d
       → d.files id ≡ Some file

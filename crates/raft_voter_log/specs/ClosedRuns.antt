@@ -1,5 +1,7 @@
 -- Runs in which stores are closed and opened again, and closed logs are copied. Two events need no premise on CRC
--- collisions: a close in which no file call fails, and a crash of a running store that only loses writes.
+-- collisions: a close in which no file call fails, and a crash of a running store that only loses writes. `v`, `u` and
+-- `d` say what the store promises: of its rounds, of its purges and armed faults, and of its files. `config` gives an
+-- open store's settings, and `shows` its engine's state.
 use Rattle.std.specs.Prelude.{◌≡◌, false, List, [], ◌∷◌, ◌++◌}
 use Rattle.raft_log_fs.specs.Causes.{Fails}
 use Rattle.raft_log_fs.specs.Disk.{Disk as OnDisk}

@@ -1,6 +1,7 @@
--- Copying the log of a store, and opening a store over the copy: laws, each the contract of an empty function. Voters
--- are possible after a cut-off round if they took its requests before some position, without the refused ones. `disk`
--- gives the disk of a file system's state, and `tells` which sizes it may return as a directory's free space.
+-- Copying the log of a store, and opening a store over the copy: laws, each the contract of an empty function. `old` is
+-- the file system or its disk before a copy, and `now`, `new` or `after` the same after it. Voters are possible after a
+-- cut-off round if they took its requests before some position, without the refused ones. `disk` gives the disk of a
+-- file system's state, and `tells` which sizes it may return as a directory's free space.
 use Rattle.std.specs.Prelude.{◌≡◌, ◌<◌, ℕ, List, length}
 use Rattle.raft_log_fs.specs.Disk.{Disk}
 use Rattle.raft_log_fs.specs.Image.{IsSound}

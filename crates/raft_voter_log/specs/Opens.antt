@@ -14,7 +14,8 @@ use Rattle.raft_voter_recovery.specs.declared.unread.Unread.{Unread}
 use Rattle.raft_voter_recovery.specs.declared.unread.Unread.TheVariants as causes
 use Rattle.raft_voter_store.specs.Opening.{FailsToOpenVoters, OpensVoters}
 
--- if an open succeeds, the engine's log stores the voters of `W`, and the store's outlines are theirs
+-- If an open succeeds, with the engine's state `t` and the store's outlines `os`, the log stores the voters of `W`.
+-- `os` are their outlines.
 abbrev pub ServesFound : {F : Type 0} → (F → Disk) → (F → List ℕ → ℕ → Type 0) → Config → F → World → Type 0
 ServesFound disk tells config old W = (t : EngineState) (os : ℕ → State) → OpensVoters disk tells config old t os
     → Keeps (home_of config) t W × AreOutlines os W

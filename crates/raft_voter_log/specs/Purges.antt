@@ -1,4 +1,5 @@
--- What a purge does to the voters of a store in a simulated run, and why it fails.
+-- What a purge does to the voters of a store in a simulated run, and why it fails. `u` says what a purge may do. `old`
+-- is the store before the purge, `new` the store after it, and `shows` gives a store's engine's state.
 use Rattle.std.specs.Prelude.{◌≡◌, ◌⊎◌, true, List, Some}
 use Rattle.raft_log_fs.specs.Causes.{Fails}
 use Rattle.raft_log_file_settings.specs.declared.config.Config.{Config}

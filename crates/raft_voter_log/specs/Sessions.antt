@@ -1,4 +1,6 @@
--- Sessions on a log in which running stores crash, by the bytes that the crashes leave.
+-- Sessions on a log in which running stores crash, by the bytes that the crashes leave. `v`, `u` and `d` say what the
+-- store promises: of its rounds, of its purges and armed faults, and of its files. `config` gives an open store's
+-- settings, and `shows` its engine's state.
 use Rattle.std.specs.Prelude.{◌≡◌, ◌⊎◌, false, List, [], ◌∷◌, ◌++◌}
 use Rattle.raft_log_fs.specs.Disk.{Disk as OnDisk}
 use Rattle.raft_log_fs_memory.specs.Memory.{disk_of}

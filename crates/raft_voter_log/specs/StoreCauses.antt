@@ -1,4 +1,5 @@
--- Why rounds are cut off and purges fail, for a store whose log stores voters.
+-- Why rounds are cut off and purges fail, for a store whose log stores voters. `s` is its engine's state before the
+-- call, and `t` the one after it.
 use Rattle.std.specs.Prelude.{◌≡◌, ◌⊎◌, ℕ, true, List}
 use Rattle.raft_log_fs.specs.Causes.{Fails}
 use Rattle.raft_log_record_base.specs.declared.errors.Error.{Error}
@@ -30,8 +31,8 @@ abbrev pub FailedPurgesHaveFailed : Type 0
 FailedPurgesHaveFailed = (home : LogDirectories) (V : World) (s t : EngineState) (error : Error) → Keeps home s V
     → StopsPurge s t error → has_failed t ≡ true → Fails s.pipes.disk t.pipes.disk
 
--- A purge with the states `s` before and `t` after it may fail with this error if the log's contents store voters. The
--- reasons are those of any purge, with two exceptions:
+-- A purge may fail with this error if the log's contents `m` store voters. The reasons are those of any purge, with two
+-- exceptions:
 -- - `InvalidArgument` never occurs: no group has a key that is reserved for the log.
 -- - `Full` occurs only if the record of the owed tombstones is too long.
 abbrev pub HasVotersReason : LogDirectories → LogMap → Error → EngineState → EngineState → Type 0

@@ -42,8 +42,9 @@ pub record AreAlike (home : LogDirectories) (s t : EngineState) (os us : ℕ →
   pub second : Keeps home t world × AreOutlines us world
   pub listed : (voters others : List (ℕ × State)) → ListsVoters s voters → ListsVoters t others → voters ≡ others
 
--- Suppose two opens of the same files succeed, and the files are as `AreAStores` says. Then the two stores are alike.
--- The settings `one` and `other` need only name the same directories.
+-- Suppose two opens of the same files `old` succeed, and the files are as `AreAStores` says. Then the two stores are
+-- alike. The settings `one` and `other` need only name the same directories. `s` and `os` are of the first store, `t`
+-- and `us` of the second.
 abbrev pub WorkersOpenAlike : {F : Type 0} → (F → Disk) → (F → List ℕ → ℕ → Type 0) → Type 0
 WorkersOpenAlike {F} disk tells = (home : LogDirectories) → 0 < length home.append → 0 < length home.rewrite → (old : F)
     → IsSound (disk old) → AreAStores home (disk old) → (one other : Config) → home_of one ≡ home

@@ -13,7 +13,7 @@ use Rattle.raft_voter_log.specs.StoreWorkers.{AreAlike}
 
 -- Suppose the files have voters that are possible after some round, as `FilesLeave` says, and no CRC collision. Then
 -- two opens that succeed, with `workers` and with `others` recovery threads, give stores with the same voters, outlines
--- and lists of voters.
+-- and lists of voters. `s` and `os` are of the first store, `t` and `us` of the second.
 abbrev pub AnyWorkersOpenAlike : (MemoryFileSystem → List ℕ → ℕ → Type 0) → Type 0
 AnyWorkersOpenAlike tells = (files : LogFiles) (cut : CutRound)
     (known : FilesLeave files.config (disk_of files.files) cut)

@@ -1,4 +1,5 @@
--- How each call changes the disk, if it succeeds, and what it may leave if it fails.
+-- How each call changes the disk, if it succeeds, and what it may leave if it fails. `old` is the disk before the call,
+-- and `new` the disk after it. `left` is the disk of a failed call, before the failure or the stop is noted on it.
 use Rattle.std.specs.Prelude.{◌≡◌, ℕ, ◌+◌, ◌<◌, ◌≤◌, ◌⊎◌, Bool, true, false, cond, Option, Some, None, List, [], ◌∷◌, ◌++◌, length, slice_index, suc}
 use Rattle.std.specs.Map.{update}
 use Rattle.std.specs.Str.{bytes_eq}
@@ -81,8 +82,8 @@ pub record IsTorn (at : ℕ) (bytes old new : List ℕ) : Type 0 where
   pub longer : length old ≤ length new
   pub within : (size : ℕ) → length old ≤ size → at + length bytes ≤ size → length new ≤ size
 
--- What a failed change may leave of the content `old`. A write may be torn. A truncation is done or not. A growth may
--- have added some of its zeros.
+-- What a failed change may leave of the content `old`; `new` is that content. A write may be torn. A truncation is done
+-- or not. A growth may have added some of its zeros.
 abbrev pub InPart : Change → List ℕ → List ℕ → Type 0
 InPart (Wrote at bytes) old new = IsTorn at bytes old new
 InPart (ShortenedTo size) old new = (new ≡ old) ⊎ (new ≡ take size old)

@@ -43,8 +43,8 @@ abbrev pub UndisturbedHasNoCause : (ℕ → Type 0) → Type 0
 UndisturbedHasNoCause files = (old new : Disk) → IsUndisturbed new → new.failures ≡ old.failures
     → HasCause files old new → ⊥
 
--- Unreadable offsets of other files are no cause for a call to fail. If every offset of the call's files is readable,
--- a failure was counted, or the file system has stopped.
+-- Unreadable offsets of other files are no cause for a call to fail. If every offset of the call's files is readable
+-- after it, a failure was counted, or the file system has stopped.
 abbrev pub OtherFilesAreNoCause : (ℕ → Type 0) → Type 0
 OtherFilesAreNoCause files = (old new : Disk) → ((id place : ℕ) → files id → new.unreadable id place ≡ false)
     → HasCause files old new → Fails old new

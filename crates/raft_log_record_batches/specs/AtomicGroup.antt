@@ -17,8 +17,8 @@ IsGroupOpen (Some Begin) = Unit {0}
 IsGroupOpen (Some Middle) = Unit {0}
 IsGroupOpen (Some End) = ⊥
 
--- The builder's last status became `status`, and `batch` got the mark for it as its last item. Apart from capacities,
--- nothing else changed.
+-- The builder `old` became `new`, with `status` as its last status. The batch `batch` became `marked`: it got the mark
+-- for this status as its last item. Apart from capacities, nothing else changed.
 abbrev pub Marks : AtomicGroup → AtomicGroup → Batch → Batch → AtomicGroupStatus → Type 0
 Marks old new batch marked status =
     (new ≡ record old { status = Some status }) × Becomes (with_item batch (mark_item old.id status)) marked

@@ -1,4 +1,5 @@
--- A batch as callers see it: what was added to it, and how far it is on its way to a file.
+-- A batch as callers see it: what was added to it, and how far it is on its way to a file. `old` is a batch before an
+-- addition, and `new` the batch after it.
 use Rattle.std.specs.Prelude.{◌≡◌, ℕ, ◌+◌, ◌≤◌, ◌<◌, ◌^◌, List, [], ◌∷◌, ◌++◌, length, map, take, drop, replicate, Option, None, unwrap_or, nat_lt, if◌then◌else◌, vec_len, vec_capacity}
 use Rattle.std.specs.Global.{Vec}
 use Rattle.raft_log_record_base.specs.declared.pipe_log.FileBlockHandle.{FileBlockHandle}

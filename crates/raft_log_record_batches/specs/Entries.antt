@@ -1,4 +1,5 @@
--- Entries that are added to a batch: their indexes and their bytes.
+-- Entries that are added to a batch: their indexes and their bytes. `old` is a batch before an addition, and `new` the
+-- batch after it.
 use Rattle.std.specs.Prelude.{◌≡◌, ◌⊎◌, ℕ, ◌+◌, ◌≤◌, ◌<◌, ◌^◌, ◌==◌, if◌then◌else◌, codes, List, [], ◌∷◌, ◌++◌, length, map, sum_by, flat_map, Option, All}
 use Rattle.std.specs.Borrow.{Bor}
 use Rattle.std.specs.Fmt.{decimal}

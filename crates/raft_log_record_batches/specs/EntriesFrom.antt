@@ -1,4 +1,5 @@
 -- Entries that are added to a batch with consecutive indexes, from `first` on. `texts` are the bytes of each entry.
+-- `old` is a batch before an addition, and `new` the batch after it.
 use Rattle.std.specs.Prelude.{◌≡◌, ℕ, zero, suc, ◌+◌, List, [], ◌∷◌, ◌++◌, length, Some, slice_get}
 use Rattle.raft_log_record_base.specs.declared.errors.Error.{Error}
 use Rattle.raft_log_record_items.specs.declared.entry.EntryIndex.{EntryIndex}

@@ -1,4 +1,5 @@
 -- What the calls of a file system in memory return and do, in more detail than the contracts of every file system.
+-- `old` is the file system or the disk before the call, and `new` the one after it.
 use Rattle.std.specs.Prelude.{◌≡◌, ◌⊎◌, ◌++◌, ℕ, true, false, None, List, [], ◌∷◌, Result}
 use Rattle.std.specs.Result.{IfErr}
 use Rattle.std.specs.declared.io.ErrorKind.{ErrorKind}

@@ -1,5 +1,6 @@
 -- Failures that a test arms in a file system in memory, and how they make a changing call fail. A changing call is one
 -- that changes names or files, or syncs. An armed failure is due at a call given by its number, counted from now on.
+-- `old` is what there was before a call, `new` what there is after it, and `left` what a failed call leaves.
 use Rattle.std.specs.Prelude.{◌≡◌, ℕ, ◌-◌, ◌⊎◌, Bool, true, false, cond, Option, Some, None, List, [], ◌∷◌, ◌++◌, Result}
 use Rattle.std.specs.Result.{MatchResult}
 use Rattle.std.specs.String.{string_bytes}

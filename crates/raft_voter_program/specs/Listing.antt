@@ -1,5 +1,6 @@
 -- The text that is written for the voters of a store, after it was opened. `old` and `new` are the bytes that the
--- writer has before and after, `None` if they aren't known.
+-- writer has before and after, `None` if they aren't known. The arguments `v` and `d` say what the store promises of
+-- its rounds and of its files.
 use Rattle.std.specs.Prelude.{◌≡◌, ◌≢◌, ◌<◌, ◌⊎◌, ℕ, List, Option, length, codes}
 use Rattle.std.specs.Io.KnownBytes.{Appends, Keeps}
 use Rattle.std.specs.List.{AllAdjacentBelow}

@@ -1,5 +1,6 @@
 -- What the program writes, and its exit status. `old` and `new` are the bytes that the writer has before and after,
--- `None` if they aren't known.
+-- `None` if they aren't known. The arguments `v`, `u`, `d` and `s` say what the store promises: of its rounds, of its
+-- purges and armed faults, of its files, and of its settings.
 use Rattle.std.specs.Prelude.{◌≡◌, ◌↔◌, ◌⊎◌, ℕ, Bool, true, false, IsTrue, if◌then◌else◌, List, [], map, Option, Result, Ok, Err, codes}
 use Rattle.std.specs.Io.KnownBytes.{Appends, Keeps}
 use Rattle.std.specs.declared.io.ErrorKind.{ErrorKind}

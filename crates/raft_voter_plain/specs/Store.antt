@@ -1,4 +1,5 @@
--- The plain store: voters in memory, and a file to which each change is written as a record.
+-- The plain store: voters in memory, and a file to which each change is written as a record. `old` is the store before
+-- requests, and `new` or `now` the store after them.
 use Rattle.std.specs.Prelude.{◌≡◌, ◌<◌, ◌≤◌, ◌⊎◌, ℕ, Bool, true, false, List, [], ◌∷◌, ◌++◌, length, take}
 use Rattle.raft_voter_messages.specs.declared.reply.Reply.{Reply}
 use Rattle.raft_voter_messages.specs.declared.request.Request.{Request}

@@ -1,5 +1,6 @@
 -- What a shared store does with rounds of several callers. It serves them together, as one round, and appends a record
--- of each to the journal. Each caller gets the answer to its own round.
+-- of each to the journal. Each caller gets the answer to its own round. `v` says what the store promises. `old` is the
+-- store before the rounds, and `new` the store after them.
 use Rattle.std.specs.Prelude.{◌≡◌, ◌≤◌, ◌<◌, ℕ, ◌+◌, ◌-◌, ◌++◌, ◌==◌, ◌||◌, ◌&&◌, nat_le, nat_lt, Bool, true, if◌then◌else◌, List, [], ◌∷◌, length, map, take, drop, Result, Ok, Err}
 use Rattle.std.specs.List.{AllZip}
 use Rattle.raft_voter_messages.specs.declared.reply.Reply.{Reply}

@@ -1,5 +1,5 @@
 -- Which groups a purge of Append picks: those that the caller is asked to compact, and those that the purge rewrites
--- itself.
+-- itself. `marks` are the purge's watermarks, and `m` the tables of all groups.
 use Rattle.std.specs.Prelude.{◌≡◌, ℕ, Bool, false, ◌&&◌, ◌||◌, nat_lt, List, Option, Some, None, unwrap_or}
 use Rattle.std.specs.BTreeMap.{get}
 use Rattle.std.specs.List.{filter}

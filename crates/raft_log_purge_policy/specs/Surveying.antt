@@ -8,7 +8,7 @@ use Rattle.raft_log_purge_policy.specs.declared.survey.Survey.{Survey}
 use Rattle.raft_log_purge_policy.specs.declared.watermarks.Watermarks.{Watermarks}
 
 -- `seen` is what a survey of the tables `m` found:
--- - the groups that a purge of Append up to these watermarks picks, as in `ListsPicked`
+-- - the groups that a purge of Append up to the watermarks `marks` picks, as in `ListsPicked`
 -- - the tombstones owed to Rewrite
 -- - how many live entries and values Rewrite has
 pub record Surveys (marks : Watermarks) (counts : ℕ → ℕ) (restated : Bool) (m : MemTables) (seen : Survey)

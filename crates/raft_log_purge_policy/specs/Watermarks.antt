@@ -1,4 +1,4 @@
--- Which queues a purge collects, and up to which file.
+-- Which queues a purge collects, and up to which file. `v` are the log's pipes, and `t` the thresholds of the settings.
 use Rattle.std.specs.Prelude.{◌≡◌, ◌⊎◌, ℕ, ◌*◌, ◌-◌, ◌<◌, min, Some}
 use Rattle.raft_log_machine_laws.specs.Calls.{Which}
 use Rattle.raft_log_machine_laws.specs.Calls.Which.{InAppend, InRewrite}

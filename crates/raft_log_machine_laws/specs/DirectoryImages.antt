@@ -33,7 +33,8 @@ pub record IsAllowed {D E V : Type 0} (r : Readings D E V) (f : Files E V) (imag
 abbrev pub Allows : {D E V : Type 0} → Readings D E V → D → Files E V → Type 0
 Allows {D} r d f = (image : D) → r.leaves d image → IsAllowed r f image
 
--- a recovery gets map `m` from this image, whichever files it starts at
+-- A recovery gets map `m` from this image, whichever files it starts at: number `s` in Rewrite, and number `t` in
+-- Append.
 abbrev pub Means : {D E V : Type 0} → Readings D E V → D → Map E V → Type 0
 Means {D} {E} {V} r image m =
     (s t : ℕ) (rewrite append : List (LogFile E V)) → r.rewrite image s rewrite → r.append image t append

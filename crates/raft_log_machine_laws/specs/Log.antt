@@ -58,7 +58,8 @@ pub record IsAt {E V : Type 0} (may_be : Files E V → Type 0) (v : View E V) (m
   pub stands : Stands v files m pending
   pub there : may_be files
 
--- the view is true of some files that `may_be` allows; a prefix of the batches is synced, and the others are pending
+-- The view is true of some files that `may_be` allows. They hold map `m` after a prefix of these batches, and the
+-- others are pending.
 pub record ViewEndsAt {E V : Type 0} (may_be : Files E V → Type 0) (v : View E V) (m : Map E V)
     (pending : List (Record E V)) : Type 0 where
   pub done : List (Record E V)

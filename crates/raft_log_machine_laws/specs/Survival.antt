@@ -41,23 +41,23 @@ IsHarmless word value append_word = (word ≡ None) ⊎ ((word ≡ Some value) �
 abbrev pub counting : {E V : Type 0} → Queue E V → List (Record E V) → Record E V → ℕ → List (Item E V)
 counting q back y g = of_group g (counts (opened none_open (back ++ (q.live ++ q.pending))) y)
 
--- Rewrite may take record `y`. From every start, the items that start to count with `y` change nothing, even without
--- Append's pending records.
+-- Rewrite may take record `y`, if the directory `q` holds map `m`. From every start, the items that start to count with
+-- `y` change nothing, even without Append's pending records.
 abbrev pub MayRewrite : {E V : Type 0} → Store E V → Map E V → Record E V → Type 0
 MayRewrite {E} {V} q m y =
     (g : ℕ) (s : Slot) (cut back : List (Record E V)) → cut ++ back ≡ q.rewrite.gone
     → IsHarmless (says s (counting q.rewrite back y g)) (m g s) (says s (appended g q.append.live))
 
--- Append's live range may begin at the records `n2`. For each slot, these touch it, or Rewrite's synced records alone
--- leave in it what the map has, from each of Rewrite's starts.
+-- Append's live range may begin at the records `n2`, if the directory `q` holds map `m`. For each slot, these touch it,
+-- or Rewrite's synced records alone leave in it what the map has, from each of Rewrite's starts.
 abbrev pub MayRaiseAppend : {E V : Type 0} → Store E V → Map E V → List (Record E V) → Type 0
 MayRaiseAppend {E} {V} q m n2 =
     (g : ℕ) (s : Slot) → IsSpoken (says s (appended g n2))
     ⊎ ((cut back : List (Record E V)) → cut ++ back ≡ q.rewrite.gone
     → holds s (rewritten g (back ++ q.rewrite.live)) ≡ m g s)
 
--- Rewrite's live range may begin at the records `n2`. For each slot, an item that counts in these touches it, or the
--- map has nothing in it, or Append's synced records override Rewrite there.
+-- Rewrite's live range may begin at the records `n2`, if the directory `q` holds map `m`. For each slot, an item that
+-- counts in these touches it, or the map has nothing in it, or Append's synced records override Rewrite there.
 abbrev pub MayRaiseRewrite : {E V : Type 0} → Store E V → Map E V → List (Record E V) → Type 0
 MayRaiseRewrite {E} {V} q m n2 =
     (g : ℕ) (s : Slot) → IsSpoken (says s (rewritten g n2)) ⊎ ((m g s ≡ None)

@@ -1,4 +1,5 @@
--- How an engine's view changes with each record. The engine's tables ensure this before the record is written.
+-- How an engine's view changes with each record, from `old` to `new`. The engine's tables ensure this before the record
+-- is written.
 use Rattle.std.specs.Prelude.{◌≡◌, ℕ, ◌≤◌, ◌⊎◌, List, [], ◌∷◌, ◌++◌}
 use Rattle.raft_log_model_laws.specs.Item.{Item, Tagged, Record, items_of}
 use Rattle.raft_log_model_laws.specs.Meaning.{Slot, says}

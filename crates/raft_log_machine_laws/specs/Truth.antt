@@ -1,5 +1,6 @@
 -- The invariant that connects a raft group's whereabouts with the records of both queues. Whereabouts say in which
--- queue each entry and value is stored, and which tombstones are owed to Rewrite.
+-- queue each entry and value is stored, and which tombstones are owed to Rewrite. `m` is the content of a raft group,
+-- and `t` its whereabouts.
 use Rattle.std.specs.Prelude.{◌≡◌, ℕ, ◌<◌, ◌≤◌, ◌⊎◌, true, false, List, Option, Some, None, unwrap_or}
 use Rattle.raft_log_model_laws.specs.Meaning.{Slot, Content}
 use Rattle.raft_log_model_laws.specs.Meaning.Slot.{Index, Key}

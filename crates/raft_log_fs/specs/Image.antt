@@ -59,7 +59,7 @@ pub record IsSoundFile (file : File) : Type 0 where
   pub ends : All (λ change. end_of change < file_limit) file.changes
 
 -- The disk is consistent. The file of each path exists, and no file has two paths. No path is both a file's and a
--- directory's, and each path of a file is in a directory that exists. Unused numbers have no file. Each file is
+-- directory's. If a file's path is in a directory, that directory exists. Unused numbers have no file. Each file is
 -- consistent.
 pub record IsSound (d : Disk) : Type 0 where
   pub named : (path : List ℕ) (id : ℕ) → d.names path ≡ Some id → d.files id ≡ None → ⊥

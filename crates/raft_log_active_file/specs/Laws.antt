@@ -16,8 +16,8 @@ pub record FilesAreKept {R : Type 0} (F : Format R) (own : List ℕ → Type 0) 
   pub left_over : (base : Disk) (q : LogFiles R) (path : List ℕ) (id : ℕ) (N : Names) (d : Disk)
       → Stands F own base q path id (IsLeftover F q) N d → KeepsQueue F q d
 
--- After any stop, a queue can be read from any file number on, if no file is missing from there on. The last file may
--- contain anything.
+-- After any stop, a queue on a sound disk can be read from any file number on, if no file is missing from there on. The
+-- last file may contain anything.
 abbrev pub FilesAreReadable : {R : Type 0} → Format R → (List ℕ → Type 0) → Type 0
 FilesAreReadable {R} F own = CanTellFormat F → (base : Disk) (q : LogFiles R) (path : List ℕ) (id : ℕ)
     (N : Names) (d : Disk)

@@ -1,5 +1,5 @@
 -- What is on disk after an attempt to reopen the last file of a queue. The call truncates the file after its last whole
--- record and syncs it; the writer continues there.
+-- record and syncs it; the writer continues there. `F`, `own`, `base` and `N` are as in `Exits`.
 use Rattle.std.specs.Prelude.{◌≡◌, ℕ, ◌⊎◌, false, Option, Some, None, List, [], unwrap_or}
 use Rattle.std.specs.declared.io.ErrorKind.{ErrorKind}
 use Rattle.raft_log_fs.specs.Disk.{Disk, at_rest, grown}
@@ -30,7 +30,8 @@ pub record IsLeftBehind {R : Type 0} (F : Format R) (own : List ℕ → Type 0) 
 abbrev pub HandleBeginsWith : {R : Type 0} → Format R → Handle → List ℕ → Disk → Type 0
 HandleBeginsWith F handle header d = HasFile handle.file (λ file. HasHeader F header file.content) d
 
--- `front` is the header that the queue's last file has from now on: its own, or `header` if it has none (`None`)
+-- `front` is the header that the queue's last file has from now on: its own, or `header` if it has none (`None`, not an
+-- offset)
 abbrev pub GoesOnBehind : {R : Type 0} → Format R → Handle → Option ℕ → List ℕ → Disk → List ℕ → Type 0
 GoesOnBehind F handle (Some end) header d front = HandleBeginsWith F handle front d
 GoesOnBehind F handle None header d front = front ≡ header
@@ -43,7 +44,7 @@ pub record Trims (handle : Handle) (size : ℕ) (old new : Disk) : Type 0 where
   pub shortens : Shortens handle size old cut
   pub syncs : Syncs handle cut new
 
--- `error` is why the file wasn't truncated: the truncation failed, or the sync after it
+-- the truncation failed, or the sync after it; `error` is the error of that call
 pub data TrimMakes (handle : Handle) (size : ℕ) (error : ErrorKind) (old new : Disk) : Type 0 where
   uncut : FailsToShorten handle size error old new → TrimMakes handle size error old new
   unsynced : (cut : Disk) → Shortens handle size old cut → FailsToSync handle error cut new
@@ -81,7 +82,7 @@ TrimsLeftover {R} F own handle end old new = (base : Disk) (q : LogFiles R) (pat
     → IsTrimmed F own base handle end q path N old new
 
 -- Truncating the queue's last file failed. Suppose the queue was as a stop left it. Then a file call failed, and the
--- queue still has all records that were read, whatever header its last file is to get.
+-- queue still has all records that were read. That is so for each header that a last file without one may get.
 abbrev pub FailsToTrim : {R : Type 0} → Format R → (List ℕ → Type 0) → Handle → Option ℕ → Disk → Disk
     → Type 0
 FailsToTrim {R} F own handle end old new = (base : Disk) (q : LogFiles R) (path : List ℕ) (N : Names)
@@ -91,8 +92,8 @@ FailsToTrim {R} F own handle end old new = (base : Disk) (q : LogFiles R) (path 
 
 -- Reopening the file.
 
--- `error` is why no writer was opened after the truncation: the file's size couldn't be read, or the file has no header
--- and didn't get one
+-- no writer was opened after the truncation: the file's size couldn't be read, or the file has no header and didn't get
+-- one; `error` is the error of the failed call
 abbrev pub TakeUpMakes : Handle → Option ℕ → List ℕ → ErrorKind → Disk → Disk → Type 0
 TakeUpMakes handle (Some end) header error old new = FailsToTakeUp handle [] false error old new
 TakeUpMakes handle None header error old new = BeginMakes handle header error old new
@@ -111,7 +112,8 @@ pub record ReopensBy (handle : Handle) (end : Option ℕ) (header : List ℕ) (w
   pub trims : Trims handle (unwrap_or end 0) old trimmed
   pub takes : TakesUpBy handle end header writer trimmed new
 
--- `error` is why a file wasn't reopened: truncating or syncing it failed, or opening its writer after that
+-- a file wasn't reopened: truncating or syncing it failed, or opening its writer after that; `error` is the error of
+-- the failed call
 pub data ReopenMakes (handle : Handle) (end : Option ℕ) (header : List ℕ) (error : ErrorKind)
     (old new : Disk) : Type 0 where
   not_trimmed : TrimMakes handle (unwrap_or end 0) error old new → ReopenMakes handle end header error old new

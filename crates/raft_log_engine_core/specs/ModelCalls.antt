@@ -51,8 +51,8 @@ ModelSyncs (Ok done) m pending next = next ≡ running (taken m pending) []
 ModelSyncs (Err errors.Failed) m pending next = next ≡ failed m pending
 ModelSyncs (Err error) m pending next = ⊥
 
--- A compaction adds its record, and fails, as a write without a sync does. If the group has no entry below the index,
--- the compaction may also add nothing.
+-- A compaction adds its record as a write without a sync adds a batch, and fails as one does. If the group has no entry
+-- below the index, the compaction may also add nothing.
 abbrev pub ModelCompacts : ℕ → ℕ → Result ℕ Error → Contents → List BatchRecord → ModelLog → Type 0
 ModelCompacts group index (Ok count) m pending next = Compacts m pending group index next
 ModelCompacts group index (Err errors.Failed) m pending next = FailsAt m pending (compacts group index) next

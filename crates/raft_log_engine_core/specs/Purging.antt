@@ -23,7 +23,8 @@ use Rattle.raft_log_purge.specs.raft_log_engine_laws.specs.Fetching.{HadFailed}
 use Rattle.raft_log_purge.specs.raft_log_engine_laws.specs.EngineState.{EngineState}
 use Rattle.raft_log_engine_core.specs.Reads.{Lives}
 
--- `thresholds` are those of the completed settings `config`; `rounds` counts no purge that asked to compact a group
+-- `thresholds` are those of the settings `config`, completed (`sanitized`); `rounds` counts no purge that asked for a
+-- group
 pub record IsPurgedBy (config : Config) (thresholds : Thresholds) (rounds : Rounds) : Type 0 where
   pub sizes : thresholds ≡ thresholds_of (sanitized (settings_of config))
   pub unasked : (g : ℕ) → count_of rounds g ≡ 0

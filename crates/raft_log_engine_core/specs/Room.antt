@@ -39,7 +39,9 @@ StaysWritable old new = IsWritable old.state → IsWritable new.state
 abbrev pub IsMadeIfTried : Error → Batch → Batch → EngineState → EngineState → Type 0
 IsMadeIfTried error old new s t = (IsUnfit old s.tables error × (t ≡ s)) ⊎ (new.state ≡ Populated)
 
--- The write of batch `old` failed: the batch was rejected, and nothing was done; its record is encoded now, in the
--- batch `new`; or the error is `Failed`.
+-- The write of batch `old` failed, in one of three ways:
+-- - The batch was rejected, and nothing was done.
+-- - Its record is encoded now, in the batch `new`.
+-- - The error is `Failed`.
 abbrev pub IsMadeUnlessFailed : Error → Batch → Batch → EngineState → EngineState → Type 0
 IsMadeUnlessFailed error old new s t = IsMadeIfTried error old new s t ⊎ (error ≡ errors.Failed)

@@ -148,8 +148,8 @@ pub record RewritesAppend (watermark exit : Option ℕ) (m : MemTables) (s t : E
 
 -- Failures.
 
--- A step failed. If no tombstone was owed and nothing pending before it, the log still has the same contents, or the
--- engine has failed and its files can be opened with these contents.
+-- A step failed. Suppose that no tombstone was owed and nothing pending before it. Then the log still has the same
+-- contents, or the engine has failed and its files can be opened with them.
 abbrev pub StaysOrIsLeftSettled : Error → EngineState → EngineState → Type 0
 StaysOrIsLeftSettled error s t = OweNothing s.tables → (home : LogDirectories) (m : LogMap) → HoldsSettled home s m
     → Represents home t m [] ⊎ ((error ≡ errors.Failed) × IsRecoverableAs home t.pipes.disk m [])

@@ -50,9 +50,9 @@ pub record PicksGroups (marks : Watermarks) (restated : Bool) (m : MemTables) (o
 
 -- Append's files.
 
--- Files left Append's live range. `least` is the lowest of three: the first pinned file (`held`), the active file, and
--- the first file in which, by the tables `m`, a group has an entry or value. If nothing was pending, the live range
--- begins at `least` now, or where it began if that is later. If also no tombstone is owed, the log keeps its contents.
+-- Files left Append's live range. `least` is the lowest of three files: the first pinned one (`held`), the active one,
+-- and the first that has an entry or value of a group, by the tables `m`. If nothing was pending, the live range begins
+-- at `least` now, or where it began if that is later. If also no tombstone is owed, the log keeps its contents.
 pub record LosesBelow (held : Option ℕ) (m : MemTables) (s t : EngineState) : Type 0 where
   pub least : ℕ
   pub is : IsLeastOf Append (up_to held (last_of InAppend s.pipes)) m least
@@ -135,7 +135,7 @@ PurgesIfPast thresholds held restated before after old new groups s t =
     (TakesAppend thresholds s.pipes × PurgesAppend held restated before after old new groups s t)
     ⊎ ((TakesAppend thresholds s.pipes → ⊥) × LeavesAppend restated before old new groups s t)
 
--- A purge of Append failed with `error`. If no batch was pending, `HasPurgeReason` gives the reason, and the log has
+-- A purge of Append failed with `error`. If no batch was pending, `HasPurgeReason` gives the reason. Then the log has
 -- the same contents, or the engine has failed and its files can be opened with them.
 pub record FailsToPurgeAppend (error : Error) (s t : EngineState) : Type 0 where
   pub tells : has_failed s ≡ false → IsTrue (has_failed t) ↔ (error ≡ errors.Failed)

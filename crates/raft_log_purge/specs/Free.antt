@@ -10,9 +10,9 @@ use Rattle.raft_log_purge.specs.declared.expired_files.PurgeCounts.{PurgeCounts}
 use Rattle.raft_log_purge.specs.Expired.{LosesBelow}
 use Rattle.raft_log_purge.specs.ExpiredFiles.{PurgesExpired}
 
--- Suppose that no file is pinned, and Append is past its threshold. Then a purge ends with the step `LosesBelow`
--- without a pinned file. Append's live range then begins at the first file in which a group has an entry or value, or
--- at the active file if that is lower.
+-- Suppose that no file is pinned, and Append is past its threshold. Then the last step of a purge is `LosesBelow`
+-- without a pinned file. By this, all files leave Append's live range that are below the active file and below the
+-- first file in use. A file is in use if a group has an entry or value in it.
 abbrev pub FreeFilesGo : (LogPipes → Option ℕ → Type 0) → Type 0
 FreeFilesGo hold_back = NothingIsHeldBack hold_back → (thresholds : Thresholds) (before after : MemTables)
     (old new : PurgeCounts) (groups : List ℕ) (s t : EngineState)

@@ -17,8 +17,8 @@ use Rattle.raft_log_purge_copy.specs.raft_log_engine_laws.specs.EngineState.{Eng
 use Rattle.raft_log_purge_copy.specs.Restated.{last_file}
 use Rattle.raft_log_purge.specs.RewriteQueue.{RestatesAll, reset_counts}
 
--- `n` of a group's live entries and values in Rewrite count as restated: all of them, if the group's lowest file of
--- Rewrite, `least`, is after `file`; else none. `v` is the group's table.
+-- `n` of a group's live entries and values in Rewrite count as restated. These are all, if the group's lowest file of
+-- Rewrite (`least`) is after `file`; else none. `v` is the group's table.
 abbrev pub CountsFrom : ℕ → Option ℕ → Shown → ℕ → Type 0
 CountsFrom file None v n = n ≡ 0
 CountsFrom file (Some least) v n = ((file < least) × StandIn v n) ⊎ ((least ≤ file) × (n ≡ 0))

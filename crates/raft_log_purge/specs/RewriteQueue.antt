@@ -65,7 +65,7 @@ pub record RewritesRewrite (m : MemTables) (s t : EngineState) : Type 0 where
       → IsRestatedFrom (last_file s + 1) (s.tables g) (t.tables g)
   pub settles : (home : LogDirectories) (log : LogMap) → Represents home s log [] → HoldsSettled home t log
 
--- A rewrite of Rewrite failed with `error`. If no batch was pending, `GivesReason` gives the reason, and the log has
+-- A rewrite of Rewrite failed with `error`. If no batch was pending, `GivesReason` gives the reason. Then the log has
 -- the same contents, or the engine has failed and its files can be opened with them.
 pub record FailsToRewriteRewrite (error : Error) (s t : EngineState) : Type 0 where
   pub counts : t.counts ≡ s.counts

@@ -29,7 +29,7 @@ logged says found = record { number = found.number; records = said says found.re
 -- `files` are the numbered files of the queue `q`, whose live range begins at `first`.
 -- - `gone`, `full`: the files from `low` on and below `first`, and the live range without its last file.
 -- - `last`, `synced`, `pending`: the last file's number, synced records and unsynced records.
--- - `gap`, `behind`: the number just below `low` has no file, and all files of `behind` have numbers below `low`.
+-- - `gap`, `behind`: the number just below `low` has no file, and each file of `behind` has a lower number.
 pub record IsFileQueue {R E V : Type 0} (says : R → Record E V) (F : Format R) (q : LogFiles R)
     (low first : ℕ)
     (d : Disk) (files : FileQueue E V) : Type 0 where

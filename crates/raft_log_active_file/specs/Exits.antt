@@ -83,8 +83,8 @@ AppendMakes (Failed kind) before after bytes target old new = (middle : LogFileW
     × (error : ErrorKind) × FailsToWriteNext before middle bytes target error old between
     × FailsToClose middle after kind between new
 
--- a file didn't get its header: its size couldn't be read, or writing the header failed, or the sync after that;
--- `error` is the error of that call
+-- A file didn't get its header: its size couldn't be read, or writing the header failed, or the sync after that.
+-- `error` is the error of the call that failed.
 abbrev pub BeginMakes : Handle → List ℕ → ErrorKind → Disk → Disk → Type 0
 BeginMakes handle header error old new = FailsToTakeUp handle header true error old new
     ⊎ ((writer : LogFileWriter) × (between : Disk) × TakesUp handle header true writer old between

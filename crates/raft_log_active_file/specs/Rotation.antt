@@ -108,8 +108,8 @@ abbrev pub FilesStay : ℕ → ℕ → Disk → Disk → Type 0
 FilesStay a b old new = (id : ℕ) (file : File) → (id ≡ a → ⊥) → (id ≡ b → ⊥) → old.files id ≡ Some file
     → new.files id ≡ Some file
 
--- The calls of a rotation, in their order: the active file is truncated after its records and synced, the next file is
--- created or renamed (`Names`), and it gets its header.
+-- The calls of a rotation, in their order. The active file is truncated after its records and synced. The next file is
+-- created or renamed (`Names`). Then it gets its header.
 pub record RotatesBy (before : LogFileWriter) (header : List ℕ) (Names : Handle → Disk → Disk → Type 0)
     (handle : Handle) (after : LogFileWriter) (old new : Disk) : Type 0 where
   pub finished : LogFileWriter

@@ -30,8 +30,7 @@ pub record IsLeftBehind {R : Type 0} (F : Format R) (own : List ℕ → Type 0) 
 abbrev pub HandleBeginsWith : {R : Type 0} → Format R → Handle → List ℕ → Disk → Type 0
 HandleBeginsWith F handle header d = HasFile handle.file (λ file. HasHeader F header file.content) d
 
--- `front` is the header that the queue's last file has from now on: its own, or `header` if it has none (`None`, not an
--- offset)
+-- `front` is the header that the queue's last file has from now on: its own, or `header` if it has none (`None`)
 abbrev pub GoesOnBehind : {R : Type 0} → Format R → Handle → Option ℕ → List ℕ → Disk → List ℕ → Type 0
 GoesOnBehind F handle (Some end) header d front = HandleBeginsWith F handle front d
 GoesOnBehind F handle None header d front = front ≡ header
@@ -73,8 +72,8 @@ IsHalfOpen F own base handle end header q old new = (front stale : List ℕ)
     × GoesOnBehind F handle end header old front × IsWhatItHeld handle stale old
     × StandsWithRecords F own base (reread front stale q) new
 
--- If the queue was as a stop left it, its last file was truncated and synced as `IsTrimmed` says: after its records, or
--- to nothing if it had no header.
+-- If the queue was as a stop left it, its last file was truncated and synced as `IsTrimmed` says. It was truncated
+-- after its records, or to nothing if it had no header.
 abbrev pub TrimsLeftover : {R : Type 0} → Format R → (List ℕ → Type 0) → Handle → Option ℕ → Disk → Disk
     → Type 0
 TrimsLeftover {R} F own handle end old new = (base : Disk) (q : LogFiles R) (path : List ℕ) (N : Names)
@@ -92,8 +91,8 @@ FailsToTrim {R} F own handle end old new = (base : Disk) (q : LogFiles R) (path 
 
 -- Reopening the file.
 
--- no writer was opened after the truncation: the file's size couldn't be read, or the file has no header and didn't get
--- one; `error` is the error of the failed call
+-- No writer was opened after the truncation: the file's size couldn't be read, or the file has no header and didn't get
+-- one. `error` is the error of the call that failed.
 abbrev pub TakeUpMakes : Handle → Option ℕ → List ℕ → ErrorKind → Disk → Disk → Type 0
 TakeUpMakes handle (Some end) header error old new = FailsToTakeUp handle [] false error old new
 TakeUpMakes handle None header error old new = BeginMakes handle header error old new
@@ -112,15 +111,15 @@ pub record ReopensBy (handle : Handle) (end : Option ℕ) (header : List ℕ) (w
   pub trims : Trims handle (unwrap_or end 0) old trimmed
   pub takes : TakesUpBy handle end header writer trimmed new
 
--- a file wasn't reopened: truncating or syncing it failed, or opening its writer after that; `error` is the error of
--- the failed call
+-- A file wasn't reopened: truncating or syncing it failed, or opening its writer after that. `error` is the error of
+-- the call that failed.
 pub data ReopenMakes (handle : Handle) (end : Option ℕ) (header : List ℕ) (error : ErrorKind)
     (old new : Disk) : Type 0 where
   not_trimmed : TrimMakes handle (unwrap_or end 0) error old new → ReopenMakes handle end header error old new
   not_taken_up : (trimmed : Disk) → Trims handle (unwrap_or end 0) old trimmed
       → TakeUpMakes handle end header error trimmed new → ReopenMakes handle end header error old new
 
--- If the queue was as a stop left it, it can be appended to: all records that were read are durable, and the writer has
+-- If the queue was as a stop left it, it can be appended to. All records that were read are durable, and the writer has
 -- its last file open. Zeros may be allocated after the records.
 abbrev pub Reopens : {R : Type 0} → Format R → (List ℕ → Type 0) → Handle → Option ℕ → List ℕ
     → LogFileWriter → Disk → Disk → Type 0

@@ -36,7 +36,7 @@ cuts_at rounds (Some (InRounds first end)) place =
     untaken (take first rounds) ++ (spread place (between first end rounds) ++ untaken (drop end rounds))
 cuts_at rounds failure place = untaken rounds
 
--- World `X` has the voters after the round `cut`, which was cut off at position `place`: the voters before it took its
+-- World `X` has the voters after the round `cut`, which was cut off at position `place`. The voters before it took its
 -- requests below `place`, except the refused ones.
 abbrev pub TookUpTo : CutRound → World → ℕ → Type 0
 TookUpTo cut X place =
@@ -66,8 +66,8 @@ all_rounds ss = flat_map (λ s. s.journal) ss
 abbrev pub all_cuts : List Session → List ℕ
 all_cuts ss = flat_map (λ s. cuts_at s.journal s.failure s.place) ss
 
--- If openings lead from world `W` to `X`, voters that start in `W` and never fail give exactly the replies in the
--- openings' rounds, with the cuts `all_cuts`. Afterwards these voters are those of `X`.
+-- Suppose that openings lead from world `W` to `X`. Then voters that start in `W` and never fail give exactly the
+-- replies in the openings' rounds, with the cuts `all_cuts`. Afterwards these voters are those of `X`.
 abbrev pub OpeningsLead : Type 0
 OpeningsLead = (W X : World) (ss : List Session) → Openings W ss X → Leads W (all_rounds ss) (all_cuts ss) X
 

@@ -64,8 +64,8 @@ unfinished_after us (r ∷ rs) = unfinished_after (next_unfinished us r) rs
 abbrev pub unfinished : {E V : Type 0} → List (Record E V) → List (Unfinished E V)
 unfinished rs = unfinished_after [] rs
 
--- which items of an unfinished group begin to count in the next segment: `xs` are the group's items so far, and the
--- `Head` says what that segment does with the group
+-- Which items of an unfinished group begin to count in the next segment. `xs` are the group's items so far, and the
+-- `Head` says what that segment does with the group.
 abbrev pub finish : {E V : Type 0} → List (Tagged E V) → Head E V → List (Tagged E V)
 finish xs (GoesOn ys) = []
 finish xs (Ends ys) = xs ++ ys
@@ -87,8 +87,10 @@ abbrev pub carried_on : {E V : Type 0} → List (Unfinished E V) → (ℕ → He
 carried_on [] heads = []
 carried_on (u ∷ us) heads = go_on u.number u.items (heads u.number) ++ carried_on us heads
 
--- The summary of a segment: the items that count in it, what it does with each atomic group that is open before it,
--- and the groups that it leaves unfinished.
+-- The summary of a segment:
+-- - `counted`: the items that count in it
+-- - `heads`: what it does with each atomic group that is open before it
+-- - `left_open`: the groups that it leaves unfinished
 pub record Segment (E V : Type 0) : Type 0 where
   pub counted : List (Tagged E V)
   pub heads : ℕ → Head E V

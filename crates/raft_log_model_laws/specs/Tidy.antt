@@ -1,5 +1,5 @@
--- Tidy records: between the begin and the end of an atomic group, no item of a raft group that has items in the atomic
--- group starts to count.
+-- Tidy records. An atomic group has items of some raft groups. Between its begin and its end, no other item of these
+-- raft groups starts to count.
 use Rattle.std.specs.Prelude.{ℕ, List, [], ◌∷◌, ◌++◌, ◌≡◌, ◌⊎◌, ◌==◌, MatchBool, ⊤}
 use Rattle.raft_log_model_laws.specs.Item.{Tagged, Record}
 use Rattle.raft_log_model_laws.specs.Item.Record.{Plain, Part}
@@ -26,8 +26,8 @@ Undisturbed n xs said o (Part (End k) ys ∷ rs) =
     MatchBool (k == n) (Apart (xs ++ ys) said)
     (Undisturbed n xs (said ++ counts o (Part (End k) ys)) (opens o (Part (End k) ys)) rs)
 
--- for each atomic group that begins and ends in these records, no raft group has items both in it and in what starts to
--- count between its begin and its end
+-- Take each atomic group that begins and ends in these records. No raft group has items both in it and in what starts
+-- to count between its begin and its end.
 abbrev pub Tidy : {E V : Type 0} → List (Record E V) → Type 0
 Tidy [] = ⊤
 Tidy (Plain xs ∷ rs) = Tidy rs

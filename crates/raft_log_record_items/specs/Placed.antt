@@ -76,9 +76,10 @@ pub record ArePlaced (handle : FileBlockHandle) (plain items : List LogItem) (le
   pub sum : len ≡ min (entries_len plain) (2 ^ 64 - 1)
   pub places : entries_len plain < 2 ^ 32 → items ≡ placed handle plain
 
--- A decoder's result on the bytes `old`; `new` are the bytes that it left. `reading` is what the grammar gives for
--- `old`. The decoder returned the items of `reading`, with their places in the block at `handle`, and the length of
--- their entries. If it fails, it does so as `reading` does, or for lack of memory, and it consumes nothing.
+-- A decoder's result on the bytes `old`; `new` are the bytes that it left. `reading` is the result of reading `old`
+-- without a block (`Reading.antt`). The decoder returned the items of `reading`, with their places in the block at
+-- `handle`, and the length of their entries. If it fails, it does so as `reading` does, or for lack of memory, and it
+-- consumes nothing.
 abbrev pub ReadsPlaced :
     FileBlockHandle → Result (Vec LogItem × ℕ) Error → List ℕ → List ℕ
     → Result (List LogItem × List ℕ) Fault → Type 0

@@ -1,5 +1,5 @@
 -- Which voters are possible after a journal: those after all its records. If the store failed in rounds that it served
--- together, the voters may have taken any prefix of these rounds' requests instead.
+-- together, the voters before these rounds took any prefix of their requests, except the refused ones.
 use Rattle.std.specs.Prelude.{ℕ, ◌+◌, ◌-◌, ◌&&◌, nat_le, nat_lt, Bool, true, false, List, [], ◌∷◌, ◌++◌, length, map, take, drop, Option, Some}
 use Rattle.std.specs.List.{flat_map, list_all}
 use Rattle.raft_voter_messages.specs.declared.request.Request.{Request}

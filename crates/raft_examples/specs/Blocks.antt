@@ -5,8 +5,8 @@ use Rattle.raft_log_dual_pipes.specs.Pipes.{LogPipes}
 use Rattle.raft_log_block_cache.specs.Blocks.{ReadsEntry}
 use Rattle.raft_log_block_cache.specs.declared.block_cache.BlockCache.{BlockCache}
 
--- The entries `first` and `last` were read, in this order, as the messages `one` and `other`. The cache was empty
--- before. `last` was read with the cache that the read of `first` left.
+-- From the files of the pipes `v`, the entry `first` was read as the message `one`, and then the entry `last` as
+-- `other`. The cache was empty before. `last` was read with the cache that the read of `first` left.
 pub record ReadsEnds {M : Type 0} (reading : List ℕ → Option M) (v : LogPipes) (first last : EntryIndex)
     (one other : M) : Type 0 where
   pub empty : BlockCache

@@ -1,4 +1,4 @@
--- What the examples of one pipe do.
+-- What the examples of one pipe do. `before` and `after` are the pipe's files, `old` and `new` the disk.
 use Rattle.std.specs.Prelude.{ℕ, List}
 use Rattle.raft_log_record_base.specs.declared.pipe_log.FileBlockHandle.{FileBlockHandle}
 use Rattle.raft_log_record_base.specs.declared.pipe_log.LogFileContext.{LogFileContext}

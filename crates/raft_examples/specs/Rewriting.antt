@@ -1,4 +1,5 @@
--- What the example that rewrites one group does, with the parts of a purge.
+-- What the example that rewrites one group does, with the parts of a purge. `s` and `t` are the engine's states before
+-- and after.
 use Rattle.std.specs.Prelude.{ℕ}
 use Rattle.raft_log_machine_laws.specs.Calls.Which.{InAppend, InRewrite}
 use Rattle.raft_log_dual_pipes.specs.Calls.{SyncsQueue}

@@ -8,7 +8,8 @@ use Rattle.raft_log_replay.specs.Sources.{HoldEach}
 abbrev pub IsCountOf : List Batch → ℕ → Type 0
 IsCountOf batches count = count ≡ min (length batches) (2 ^ 64 - 1)
 
--- the first `segments` segments were read, and `count` is the number of all batches in them, but at most 2^64 - 1
+-- The first `segments` segments (consecutive files that one worker reads) were read. `count` is the number of all
+-- batches in them, but at most 2^64 - 1.
 pub record CountsRecords {E : Type 0} (holds : ℕ → List Batch → E → Type 0) (segments count : ℕ) : Type 0 where
   pub batches : List (List Batch)
   pub endings : List E

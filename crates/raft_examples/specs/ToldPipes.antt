@@ -11,7 +11,8 @@ up_to None end = end
 up_to (Some first) end = min first end
 
 -- A queue's files below `end` have left its live range, except those from the first pinned file on. `one` and `other`
--- say from which file on each of two listeners pins files. `held` is the lower of these, or `None`.
+-- say from which file on each of two listeners pins files. `held` is the lower of these; it is `None` if neither pins
+-- any.
 pub record PurgesFree (one other : Option ℕ → Type 0) (which : Which) (end : ℕ) (old new : LogPipes)
     : Type 0 where
   pub held : Option ℕ

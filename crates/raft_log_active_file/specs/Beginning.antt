@@ -1,4 +1,5 @@
--- How a queue of files begins on a disk that has no file of it.
+-- How a queue of files begins on a disk that has none of its files. `F` is the format of the files, and `own` says
+-- which paths are the queue's.
 use Rattle.std.specs.Prelude.{ℕ, ◌<◌, List, []}
 use Rattle.raft_log_model_laws.specs.Item.{Record}
 use Rattle.raft_log_machine_laws.specs.Files.{fresh_files}
@@ -17,8 +18,8 @@ pub record IsFresh {R : Type 0} (F : Format R) (own : List ℕ → Type 0) (base
   pub places : (m : ℕ) (path : List ℕ) → m < F.limit → F.IsPath m path → IsPlace path d
   pub others : TouchesOnlyNames own base d
 
--- A queue that has only file 1, with this header and no record. `older` gives the contents of earlier files, and
--- doesn't matter, as there are none.
+-- A queue that has only file 1, with this header and no record. `older`, the contents of earlier files, doesn't matter,
+-- as there are none.
 abbrev pub fresh_queue : {R : Type 0} → (ℕ → Past R) → List ℕ → LogFiles R
 fresh_queue older header = record {
   older = older;
@@ -29,7 +30,8 @@ fresh_queue older header = record {
   pending = [];
 }
 
--- if there is no file 0, the numbered files of a queue that has begun are those of a new log (`fresh_files`)
+-- If there is no file 0, a queue that has begun corresponds to the numbered files of a new log (`fresh_files`). Zeros
+-- may be allocated in its file (`room`).
 abbrev pub BeginsNumbered : {R E V : Type 0} → (R → Record E V) → Format R → Type 0
 BeginsNumbered {R} says F = (older : ℕ → Past R) (header : List ℕ) (room : ℕ) (d : Disk) → IsAbsent F 0 d
     → IsFileQueue says F (with_room room (fresh_queue older header)) 1 1 d fresh_files

@@ -13,7 +13,7 @@ use Rattle.raft_log_file_writer.specs.LogQueue.{Past, LogFiles, Found, IsAbsent,
 abbrev pub said : {R E V : Type 0} → (R → Record E V) → List (Written R) → List (Record E V)
 said says ws = map (λ w. says w.value) ws
 
--- the `k` files with the numbers from `s` on, as numbered files
+-- the `k` files with the numbers from `s` on, as numbered files; `older` gives the records of each
 abbrev pub filed : {R E V : Type 0} → (R → Record E V) → (ℕ → Past R) → ℕ → ℕ → List (LogFile E V)
 filed says older s zero = []
 filed says older s (suc k) = record {
@@ -27,9 +27,9 @@ abbrev pub logged : {R E V : Type 0} → (R → Record E V) → Found R → LogF
 logged says found = record { number = found.number; records = said says found.records }
 
 -- `files` are the numbered files of the queue `q`, whose live range begins at `first`.
--- - `gone`, `full`: the files from `low` on that are below the live range, and the live range without its last file.
+-- - `gone`, `full`: the files from `low` on and below `first`, and the live range without its last file.
 -- - `last`, `synced`, `pending`: the last file's number, synced records and unsynced records.
--- - `gap`, `behind`: the number just below `low` has no file, and all other files have lower numbers.
+-- - `gap`, `behind`: the number just below `low` has no file, and each file of `behind` has a lower number.
 pub record IsFileQueue {R E V : Type 0} (says : R → Record E V) (F : Format R) (q : LogFiles R)
     (low first : ℕ)
     (d : Disk) (files : FileQueue E V) : Type 0 where
@@ -64,6 +64,6 @@ abbrev pub StepsTo : {R E V : Type 0} → (R → Record E V) → Format R → Fi
 StepsTo {R} {E} {V} says F event files q low first d =
     (next : FileQueue E V) × FileStep event files next × IsFileQueue says F q low first d next
 
--- if a number below that of the last file has no file in `old`, it has none in `new`
+-- if a number below that of the last file has no file on the disk `old`, it has none on `new`
 abbrev pub GapsStay : {R : Type 0} → Format R → LogFiles R → Disk → Disk → Type 0
 GapsStay F q old new = (m : ℕ) → m < q.last → IsAbsent F m old → IsAbsent F m new

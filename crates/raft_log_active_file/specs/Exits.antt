@@ -1,4 +1,6 @@
--- What is on disk after each call on the last file of a queue, whether it succeeds or fails.
+-- What is on disk after each call on the last file of a queue, whether it succeeds or fails. `F` is the format of the
+-- files; `own` says which paths are the queue's. Since the disk `base`, only these have changed. `N` are the names on
+-- the disk.
 use Rattle.std.specs.Prelude.{◌≡◌, ℕ, ◌⊎◌, true, List, [], ◌∷◌, length}
 use Rattle.raft_log_fs.specs.Disk.{Disk}
 use Rattle.raft_log_fs.specs.Causes.{Fails}
@@ -18,8 +20,8 @@ use Rattle.raft_log_active_file.specs.LastFile.{IsActiveTo, IsPastTo}
 use Rattle.raft_log_active_file.specs.declared.last_file.WriteFault.{WriteFault}
 use Rattle.raft_log_active_file.specs.declared.last_file.WriteFault.TheVariants.{CutBack, Failed}
 
--- The queue's files are on the disk, and its last file is active: it has its header and its records, then stale bytes.
--- The writer's offset is after the records, and its capacity is no less than the file's length.
+-- The queue is open to the writer: its files are on the disk, and its last file, at `path`, is active (`IsActive`). The
+-- writer's offset is after the records, and its capacity is no less than the file's length.
 pub record IsOpen {R : Type 0} (F : Format R) (own : List ℕ → Type 0) (base : Disk)
     (writer : LogFileWriter) (q : LogFiles R)
     (path : List ℕ) (N : Names) (d : Disk) : Type 0 where
@@ -71,9 +73,9 @@ FailsToAppend {R} F own bytes fault before after old new = (base : Disk) (q : Lo
     → F.IsFrame q.last q.header w.bytes w.value → w.bytes ≡ bytes → IsOpen F own base before q path N old
     → Fails old new × AppendLeaves F own fault base w q before after path N new
 
--- The calls of a failed append, and which of them returned the error in the fault.
--- - `CutBack`: the write did, and the file was truncated after the records before it and synced.
--- - `Failed`: the write failed, and then the truncation or its sync, which returned the error.
+-- The file calls of a failed append. The fault has the error of one of them:
+-- - `CutBack`: that of the write. The file was then truncated after the earlier records, and synced.
+-- - `Failed`: that of the truncation after the failed write, or of its sync.
 abbrev pub AppendMakes : WriteFault → LogFileWriter → LogFileWriter → List ℕ → ℕ → Disk → Disk → Type 0
 AppendMakes (CutBack kind) before after bytes target old new = (middle : LogFileWriter) × (between : Disk)
     × FailsToWriteNext before middle bytes target kind old between × Closes middle after between new
@@ -81,8 +83,8 @@ AppendMakes (Failed kind) before after bytes target old new = (middle : LogFileW
     × (error : ErrorKind) × FailsToWriteNext before middle bytes target error old between
     × FailsToClose middle after kind between new
 
--- `error` is why a file didn't get its header: its size couldn't be read, or writing the header failed, or the sync
--- after that
+-- A file didn't get its header: its size couldn't be read, or writing the header failed, or the sync after that.
+-- `error` is the error of the call that failed.
 abbrev pub BeginMakes : Handle → List ℕ → ErrorKind → Disk → Disk → Type 0
 BeginMakes handle header error old new = FailsToTakeUp handle header true error old new
     ⊎ ((writer : LogFileWriter) × (between : Disk) × TakesUp handle header true writer old between

@@ -13,14 +13,15 @@ pub record IsActiveTo {R : Type 0} (F : Format R) (capacity : ℕ) (q : LogFiles
   pub active : IsActive F q file
   pub ends : length file.content ≤ capacity
 
--- the file is as a failed write left it: it begins with its header and its records, and is at most `capacity` bytes
--- long
+-- The file is as a failed write left it: it begins with its header and its records, and is at most `capacity` bytes
+-- long. `more` are the records of that write.
 pub record IsFrontTo {R : Type 0} (F : Format R) (capacity : ℕ) (q : LogFiles R) (more : List (Written R))
     (file : File) : Type 0 where
   pub front : IsFront F q more file
   pub ends : length file.content ≤ capacity
 
--- after a failed write, the file was truncated to its records; it is at most `capacity` bytes long
+-- after a failed write of the records `more`, the file was truncated to the records before; it is at most `capacity`
+-- bytes long
 pub record IsCutTo {R : Type 0} (F : Format R) (capacity : ℕ) (q : LogFiles R) (more : List (Written R))
     (file : File) : Type 0 where
   pub cut : IsCut F q more file

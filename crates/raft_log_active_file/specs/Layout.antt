@@ -7,9 +7,8 @@ use Rattle.raft_log_file_format.specs.declared.header.LogFileFormat.{LogFileForm
 use Rattle.raft_log_active_file.specs.Standing.{OwnsPaths}
 use Rattle.raft_log_active_file.specs.declared.format.File.{File}
 
--- Whether names at `place` have a plus sign before the number. A place below `count`, the number of directories, is the
--- position of a directory, for names without a sign. A place from `count` on is such a position plus `count`, for names
--- with a sign.
+-- Whether file names at `place` have a plus sign before the number. Each of the `count` directories has two places. Its
+-- position is the one for names without a sign; its position plus `count` is the one for names with a sign.
 abbrev pub has_sign : ℕ → ℕ → Bool
 has_sign count place = nat_le count place
 
@@ -17,7 +16,7 @@ has_sign count place = nat_le count place
 abbrev pub place_of : ℕ → ℕ → Bool → ℕ
 place_of count place signed = cond signed (count + place) place
 
--- the position of the directory that a place is in
+-- the position of the directory that has this place
 abbrev pub plain_place : ℕ → ℕ → ℕ
 plain_place count place = cond (has_sign count place) (place - count) place
 

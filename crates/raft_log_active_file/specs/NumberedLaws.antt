@@ -13,8 +13,8 @@ use Rattle.raft_log_active_file.specs.Queue.{with_more, synced}
 use Rattle.raft_log_active_file.specs.Standing.{Names, Stands}
 use Rattle.raft_log_active_file.specs.Bridge.{said, filed, IsFileQueue, ReadsAsFiles, StepsTo, GapsStay}
 
--- On a sound disk, what is read of a queue after a stop without a CRC collision is what its numbered files allow. Its
--- last file must hold its records, or be as a stop left it.
+-- On a sound disk, a read of a queue after a stop without a CRC collision gives what its numbered files allow
+-- (`ReadsAsFiles`). Its last file must hold its records, or be as a stop left it.
 abbrev pub ReadsAsNumbered : {R E V : Type 0} → (R → Record E V) → Format R → (List ℕ → Type 0) → Type 0
 ReadsAsNumbered {R} {E} {V} says F own = CanTellFormat F → (base : Disk) (q : LogFiles R) (path : List ℕ)
     (id : ℕ) (N : Names) (d : Disk)

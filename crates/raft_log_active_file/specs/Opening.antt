@@ -59,7 +59,8 @@ pub record BeginsQueueBy (path header : List ℕ) (handle : Handle) (writer : Lo
   pub creates : Creates path handle.file old made
   pub begins : BeginsBy handle header writer made new
 
--- `error` is why a queue didn't begin: creating its file failed, or that file didn't get its header
+-- a queue didn't begin: creating its file failed, or that file didn't get its header; `error` is the error of the
+-- failed call
 abbrev pub BeginQueueMakes : List ℕ → List ℕ → ErrorKind → Disk → Disk → Type 0
 BeginQueueMakes path header error old new = FailsToCreate path error old new
     ⊎ ((handle : Handle) × (made : Disk) × Creates path handle.file old made

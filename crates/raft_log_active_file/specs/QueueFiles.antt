@@ -11,8 +11,8 @@ use Rattle.raft_log_active_file.specs.Layout.{FilePaths, IsUnaligned}
 use Rattle.raft_log_active_file.specs.Paths.{IsPathWith, numbered_path, reserved_path}
 use Rattle.raft_log_active_file.specs.declared.record.LogRecord.{LogRecord}
 
--- `bytes` are the record `said`, in the file with number `n` and this header. Its entry block is whole, and it is
--- signed with `n` if the version in the header has signatures.
+-- `bytes` are the record `said`, in the file with number `n` and this header. Its entry block is whole. In version 2 it
+-- is signed with the low 32 bits of `n` (`signature`).
 pub record IsRecordIn (n : ℕ) (header bytes : List ℕ) (said : LogRecord) : Type 0 where
   pub format : LogFileFormat
   pub says : IsFileHeader header format
@@ -23,7 +23,7 @@ pub record IsRecordIn (n : ℕ) (header bytes : List ℕ) (said : LogRecord) : T
 abbrev pub IsAHeader : List ℕ → Type 0
 IsAHeader bytes = (format : LogFileFormat) × IsFileHeader bytes format × IsUnaligned format
 
--- `bytes` begin with the header of a format with an alignment, and contain, at any offset, a record of the file with
+-- `bytes` begin with the header of a format with an alignment, and at some offset they have a record of the file with
 -- number `n`. An open assumes that another program wrote such a file, with padding between records.
 pub record IsAlignedFile (n : ℕ) (bytes : List ℕ) : Type 0 where
   pub header : List ℕ

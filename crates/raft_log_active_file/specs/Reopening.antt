@@ -5,8 +5,8 @@ use Rattle.raft_log_file_writer.specs.LawsChains.{Written, Reads, spelled}
 use Rattle.raft_log_file_writer.specs.LogFormat.{Format, HasHeader}
 use Rattle.raft_log_file_writer.specs.LogQueue.{LogFiles, recent}
 
--- With `Some end`: the file has a header, and its header and whole records end at this offset. With `None`: it begins
--- with no header.
+-- The file with number `n` was read. `Some end`: it has a header, and its header and whole records end at this offset.
+-- `None`: it begins with no header.
 abbrev pub IsReadTo : {R : Type 0} → Format R → ℕ → Option ℕ → File → Type 0
 IsReadTo {R} F n (Some end) file = (header : List ℕ) × (ws : List (Written R))
     × HasHeader F header file.content × Reads (F.IsFrame n header) (length header) ws file.content

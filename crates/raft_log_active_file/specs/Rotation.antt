@@ -1,4 +1,5 @@
--- What is on disk after a rotation, and after the deletion of a file, whether the call succeeds or fails.
+-- What is on disk after a rotation, and after the deletion of a file, whether the call succeeds or fails. `F`, `own`,
+-- `base` and `N` are as in `Exits`.
 use Rattle.std.specs.Prelude.{◌≡◌, ℕ, ◌<◌, ◌≤◌, ◌⊎◌, Some, None, List, [], suc}
 use Rattle.std.specs.Map.{update}
 use Rattle.std.specs.Str.{bytes_eq}
@@ -18,7 +19,7 @@ use Rattle.raft_log_active_file.specs.Standing.{Names, Stands}
 use Rattle.raft_log_active_file.specs.Bridge.{GapsStay}
 use Rattle.raft_log_active_file.specs.Exits.{IsOpen, BeginMakes, BeginsBy}
 
--- the number after the last one is in range, `to` is a path of it, and `header` is a header
+-- the queue can rotate: the next number is in range, `to` is a path of it, and `header` is a header of the format
 pub record CanRotate {R : Type 0} (F : Format R) (q : LogFiles R) (header to : List ℕ) : Type 0 where
   pub bound : suc q.last < F.limit
   pub header_is : F.IsHeader header
@@ -51,15 +52,15 @@ abbrev pub IsLeftTurned : {R : Type 0} → Format R → (List ℕ → Type 0) �
 IsLeftTurned F own base q header stale d = StandsWithRecords F own base q d ⊎
     ((room : ℕ) × StandsWithRecords F own base (with_room room (rotated header stale q)) d)
 
--- The queue has rotated into the next file, at the path `to`, over the bytes `stale`. It is open to the writer, and
--- zeros may be allocated. If a number below the old last one had no file, it still has none.
+-- The queue has rotated into the next file, at the path `to`, which held the bytes `stale` before. The queue is open to
+-- the writer, and zeros may be allocated. If a number below the old last one had no file, it still has none.
 abbrev pub QueueGoesOnInNext : {R : Type 0} → Format R → (List ℕ → Type 0) → Disk → LogFileWriter → LogFiles R
     → List ℕ → List ℕ → List ℕ → Names → Disk → Disk → Type 0
 QueueGoesOnInNext F own base writer q header stale to N old new = (room : ℕ)
     × IsOpen F own base writer (with_room room (rotated header stale q)) to N new × GapsStay F q old new
 
 -- The rotation failed because a file call failed. The queue is unchanged or has a next file without records, and its
--- last file holds its records. No gap was filled.
+-- last file holds its records. If a number below the old last one had no file, it still has none.
 abbrev pub StaysBehind : {R : Type 0} → Format R → (List ℕ → Type 0) → Disk → LogFiles R → List ℕ
     → List ℕ → Disk → Disk → Type 0
 StaysBehind F own base q header stale old new = Fails old new
@@ -107,8 +108,8 @@ abbrev pub FilesStay : ℕ → ℕ → Disk → Disk → Type 0
 FilesStay a b old new = (id : ℕ) (file : File) → (id ≡ a → ⊥) → (id ≡ b → ⊥) → old.files id ≡ Some file
     → new.files id ≡ Some file
 
--- The calls of a rotation, in their order: the active file is truncated after its records and synced, the next file is
--- created or renamed (`Names`), and it gets its header.
+-- The calls of a rotation, in their order. The active file is truncated after its records and synced. The next file is
+-- created or renamed (`Names`). Then it gets its header.
 pub record RotatesBy (before : LogFileWriter) (header : List ℕ) (Names : Handle → Disk → Disk → Type 0)
     (handle : Handle) (after : LogFileWriter) (old new : Disk) : Type 0 where
   pub finished : LogFileWriter
@@ -118,8 +119,8 @@ pub record RotatesBy (before : LogFileWriter) (header : List ℕ) (Names : Handl
   pub names : Names handle closed named
   pub begins : BeginsBy handle header after named new
 
--- `error` is why a rotation failed: the active file couldn't be truncated or synced, or the next file couldn't be
--- created or renamed, or it didn't get its header
+-- A rotation failed: the active file couldn't be truncated or synced, or the next file couldn't be created or renamed,
+-- or it didn't get its header. `error` is the error of the failed call.
 pub data RotationMakes (before : LogFileWriter) (header : List ℕ) (Fails : ErrorKind → Disk → Disk → Type 0)
     (Names : Handle → Disk → Disk → Type 0) (error : ErrorKind) (old new : Disk) : Type 0 where
   unfinished : (after : LogFileWriter) → FailsToClose before after error old new
@@ -138,7 +139,8 @@ pub record CanDrop {R : Type 0} (F : Format R) (own : List ℕ → Type 0) (q : 
   pub id : ℕ
   pub named : N gone ≡ Some id
 
--- if the queue was open to the writer, its file at `gone` was deleted, and the rest of the queue is unchanged
+-- If the queue was open to the writer, its file at `gone` was deleted, and the rest of the queue is unchanged. If a
+-- number below the last one had no file, it still has none.
 abbrev pub Drops : {R : Type 0} → Format R → (List ℕ → Type 0) → List ℕ → Disk → Disk → Type 0
 Drops {R} F own gone old new = (base : Disk) (writer : LogFileWriter) (q : LogFiles R) (path : List ℕ)
     (N : Names)

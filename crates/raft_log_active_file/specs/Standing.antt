@@ -6,7 +6,7 @@ use Rattle.raft_log_file_writer.specs.LogFormat.{Format}
 use Rattle.raft_log_file_writer.specs.LogQueue.{LogFiles, IsPast}
 use Rattle.raft_log_fs.specs.Touching.{HasFile, TouchesOnlyNames}
 
--- the number of the file that each path names, if it names one
+-- the node number of the file that each path names, if it names one
 abbrev pub Names : Type 0
 Names = List ℕ → Option ℕ
 
@@ -29,7 +29,7 @@ abbrev pub OwnsPaths : {R : Type 0} → Format R → (List ℕ → Type 0) → T
 OwnsPaths F own = (m : ℕ) (path : List ℕ) → m < F.limit → F.IsPath m path → own path
 
 -- The files of a queue are on the disk `d`, whose names are `N`.
--- - `at`, `named`, `file`: the last file is at `path`, it is the file `id`, and `P` holds for it.
+-- - `at`, `named`, `file`: the last file is at `path`, has the node number `id`, and `P` holds for it.
 -- - `alone`, `none`: no other file has its number, and no file has a higher number.
 -- - `older`, `single`: a file with a lower number is as the queue has finished it, and no two files have one number.
 -- - `others`: since `base`, only the queue's own paths and files have changed.

@@ -1,5 +1,5 @@
--- The states of a queue's last file between the file calls of a pipe. From each of them follows what a stop leaves of
--- the file.
+-- The states of a queue's last file between the file calls of a pipe. Each of them implies what a stop leaves of the
+-- file.
 use Rattle.std.specs.Prelude.{◌≡◌, ℕ, ◌++◌, List, [], length, take, drop}
 use Rattle.raft_log_fs.specs.Disk.{File}
 use Rattle.raft_log_file_writer.specs.LawsChains.{Written}
@@ -8,7 +8,8 @@ use Rattle.raft_log_file_writer.specs.LogFormat.{Format}
 use Rattle.raft_log_file_writer.specs.LogQueue.{LogFiles, HeaderStands}
 use Rattle.raft_log_active_file.specs.Queue.{whole}
 
--- the last file holds its records (`HoldsChain`); `more` count as pending ones, as any part of them may be on disk
+-- the last file holds its records (`HoldsChain`); the records `more` count as pending, as any part of them may be on
+-- disk
 abbrev pub HoldsMore : {R : Type 0} → Format R → LogFiles R → List (Written R) → File → Type 0
 HoldsMore F q more file = HoldsChain (F.IsFrame q.last q.header) (length q.header) q.stale q.durable
     (q.pending ++ more) file

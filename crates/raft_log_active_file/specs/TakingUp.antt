@@ -1,5 +1,5 @@
 -- What is on disk after an attempt to reopen the last file of a queue. The call truncates the file after its last whole
--- record and syncs it; the writer continues there.
+-- record and syncs it; the writer continues there. `F`, `own`, `base` and `N` are as in `Exits`.
 use Rattle.std.specs.Prelude.{◌≡◌, ℕ, ◌⊎◌, false, Option, Some, None, List, [], unwrap_or}
 use Rattle.std.specs.declared.io.ErrorKind.{ErrorKind}
 use Rattle.raft_log_fs.specs.Disk.{Disk, at_rest, grown}
@@ -43,7 +43,7 @@ pub record Trims (handle : Handle) (size : ℕ) (old new : Disk) : Type 0 where
   pub shortens : Shortens handle size old cut
   pub syncs : Syncs handle cut new
 
--- `error` is why the file wasn't truncated: the truncation failed, or the sync after it
+-- the truncation failed, or the sync after it; `error` is the error of that call
 pub data TrimMakes (handle : Handle) (size : ℕ) (error : ErrorKind) (old new : Disk) : Type 0 where
   uncut : FailsToShorten handle size error old new → TrimMakes handle size error old new
   unsynced : (cut : Disk) → Shortens handle size old cut → FailsToSync handle error cut new
@@ -72,8 +72,8 @@ IsHalfOpen F own base handle end header q old new = (front stale : List ℕ)
     × GoesOnBehind F handle end header old front × IsWhatItHeld handle stale old
     × StandsWithRecords F own base (reread front stale q) new
 
--- If the queue was as a stop left it, its last file was truncated and synced as `IsTrimmed` says: after its records, or
--- to nothing if it had no header.
+-- If the queue was as a stop left it, its last file was truncated and synced as `IsTrimmed` says. It was truncated
+-- after its records, or to nothing if it had no header.
 abbrev pub TrimsLeftover : {R : Type 0} → Format R → (List ℕ → Type 0) → Handle → Option ℕ → Disk → Disk
     → Type 0
 TrimsLeftover {R} F own handle end old new = (base : Disk) (q : LogFiles R) (path : List ℕ) (N : Names)
@@ -81,7 +81,7 @@ TrimsLeftover {R} F own handle end old new = (base : Disk) (q : LogFiles R) (pat
     → IsTrimmed F own base handle end q path N old new
 
 -- Truncating the queue's last file failed. Suppose the queue was as a stop left it. Then a file call failed, and the
--- queue still has all records that were read, whatever header its last file is to get.
+-- queue still has all records that were read. That is so for each header that a last file without one may get.
 abbrev pub FailsToTrim : {R : Type 0} → Format R → (List ℕ → Type 0) → Handle → Option ℕ → Disk → Disk
     → Type 0
 FailsToTrim {R} F own handle end old new = (base : Disk) (q : LogFiles R) (path : List ℕ) (N : Names)
@@ -91,8 +91,8 @@ FailsToTrim {R} F own handle end old new = (base : Disk) (q : LogFiles R) (path 
 
 -- Reopening the file.
 
--- `error` is why no writer was opened after the truncation: the file's size couldn't be read, or the file has no header
--- and didn't get one
+-- No writer was opened after the truncation: the file's size couldn't be read, or the file has no header and didn't get
+-- one. `error` is the error of the call that failed.
 abbrev pub TakeUpMakes : Handle → Option ℕ → List ℕ → ErrorKind → Disk → Disk → Type 0
 TakeUpMakes handle (Some end) header error old new = FailsToTakeUp handle [] false error old new
 TakeUpMakes handle None header error old new = BeginMakes handle header error old new
@@ -111,14 +111,15 @@ pub record ReopensBy (handle : Handle) (end : Option ℕ) (header : List ℕ) (w
   pub trims : Trims handle (unwrap_or end 0) old trimmed
   pub takes : TakesUpBy handle end header writer trimmed new
 
--- `error` is why a file wasn't reopened: truncating or syncing it failed, or opening its writer after that
+-- A file wasn't reopened: truncating or syncing it failed, or opening its writer after that. `error` is the error of
+-- the call that failed.
 pub data ReopenMakes (handle : Handle) (end : Option ℕ) (header : List ℕ) (error : ErrorKind)
     (old new : Disk) : Type 0 where
   not_trimmed : TrimMakes handle (unwrap_or end 0) error old new → ReopenMakes handle end header error old new
   not_taken_up : (trimmed : Disk) → Trims handle (unwrap_or end 0) old trimmed
       → TakeUpMakes handle end header error trimmed new → ReopenMakes handle end header error old new
 
--- If the queue was as a stop left it, it can be appended to: all records that were read are durable, and the writer has
+-- If the queue was as a stop left it, it can be appended to. All records that were read are durable, and the writer has
 -- its last file open. Zeros may be allocated after the records.
 abbrev pub Reopens : {R : Type 0} → Format R → (List ℕ → Type 0) → Handle → Option ℕ → List ℕ
     → LogFileWriter → Disk → Disk → Type 0

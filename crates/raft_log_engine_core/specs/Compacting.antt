@@ -1,4 +1,5 @@
--- Log compaction: deletes a group's entries below an index.
+-- Log compaction: deletes a group's entries below an index. `s` is the engine's state before the call, `t` the one
+-- after.
 use Rattle.std.specs.Prelude.{◌≡◌, ◌⊎◌, ◌-◌, ℕ, false, min, [], ◌∷◌, length, Option, None, Some, if◌then◌else◌, nat_lt}
 use Rattle.raft_log_record_base.specs.declared.errors.Error.{Error}
 use Rattle.raft_log_record_base.specs.declared.errors.Error.TheVariants as errors
@@ -12,7 +13,7 @@ use Rattle.raft_log_purge.specs.raft_log_engine_laws.specs.EngineState.{EngineSt
 use Rattle.raft_log_purge.specs.raft_log_engine_laws.specs.Writing.{NotWritten, Writes}
 use Rattle.raft_log_engine_core.specs.Touching.{LeavesRecord, WritesRecord}
 
--- how many entries the group with table `v` has below `index`; none if it has no entries at all
+-- how many entries the group with table `v` has below `index`; `None` if it has no entries at all
 abbrev pub entries_below : Shown → ℕ → Option ℕ
 entries_below v index =
     if nat_lt 0 (length v.places) then Some (min (index - v.first) (length v.places)) else None

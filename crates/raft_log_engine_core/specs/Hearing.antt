@@ -1,4 +1,5 @@
--- Which events listeners hear during a write.
+-- Which events listeners hear during a write. `v` and `w` are the pipes before and after it, `old` and `new` the
+-- listener. `hears` relates the listener before and after one event.
 use Rattle.std.specs.Prelude.{◌≡◌, ◌⊎◌, ℕ, Bool, true, false, None, [], ◌∷◌, ◌++◌}
 use Rattle.raft_log_record_base.specs.declared.errors.Error.{Error}
 use Rattle.raft_log_record_base.specs.declared.errors.Error.TheVariants as errors

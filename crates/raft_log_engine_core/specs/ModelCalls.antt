@@ -1,5 +1,6 @@
 -- What each call of an engine does to its log, in the words of the model log of `raft_log_world`. The clauses `model`
--- say so.
+-- of the calls use these definitions. `m` are the durable contents before, `pending` the batches not synced yet, and
+-- `next` is the log afterwards.
 use Rattle.std.specs.Prelude.{◌≡◌, ◌⊎◌, ◌++◌, ℕ, Bool, true, List, [], length, map, Option, Some, option_map, Result, Ok, Err}
 use Rattle.std.specs.Global.{Vec}
 use Rattle.raft_log_model_laws.specs.Groups.{taken}
@@ -19,17 +20,17 @@ use Rattle.raft_log_engine_core.specs.Messages.{VisitsMessages}
 use Rattle.raft_log_engine_core.specs.Whole.{IsMessageOf}
 
 -- An engine with the state `e` has this log open, in the directories `home`:
--- - a running one has the durable contents and the pending batches
--- - the files of a failed one can be opened with these
+-- - a running engine has the durable contents `m` and the batches `pending`
+-- - a failed engine has left files that can be opened with these
 abbrev pub IsEngineLog : LogDirectories → EngineState → ModelLog → Type 0
 IsEngineLog home e (running m pending) = Represents home e m pending
 IsEngineLog home e (failed m pending) = (has_failed e ≡ true) × IsRecoverableAs home e.pipes.disk m pending
 IsEngineLog home e (resting m) = ⊥
 IsEngineLog home e (left m pending) = ⊥
 
--- A call of an engine ended with `result`:
--- - If the engine ran, with the contents `m` and these pending batches, it is now a log `next` of the model, and `does`
---   says which.
+-- A call ended with `result`; `s` and `t` are the engine's states before and after it:
+-- - If the engine ran, with the contents `m` and the batches `pending`, it now has a log `next` of the model open, and
+--   `does` says which.
 -- - If it had failed, the call failed with `Failed`, and changed nothing.
 pub record FollowsModel {A : Type 0} (does : Result A Error → Contents → List BatchRecord → ModelLog → Type 0)
     (result : Result A Error) (s t : EngineState) : Type 0 where
@@ -50,8 +51,8 @@ ModelSyncs (Ok done) m pending next = next ≡ running (taken m pending) []
 ModelSyncs (Err errors.Failed) m pending next = next ≡ failed m pending
 ModelSyncs (Err error) m pending next = ⊥
 
--- A compaction adds its record, and fails, as a write without a sync does. If the group has no entry below the index,
--- the compaction may also add nothing.
+-- A compaction adds its record as a write without a sync adds a batch, and fails as one does. If the group has no entry
+-- below the index, the compaction may also add nothing.
 abbrev pub ModelCompacts : ℕ → ℕ → Result ℕ Error → Contents → List BatchRecord → ModelLog → Type 0
 ModelCompacts group index (Ok count) m pending next = Compacts m pending group index next
 ModelCompacts group index (Err errors.Failed) m pending next = FailsAt m pending (compacts group index) next

@@ -23,7 +23,8 @@ use Rattle.raft_log_purge.specs.raft_log_engine_laws.specs.Fetching.{HadFailed}
 use Rattle.raft_log_purge.specs.raft_log_engine_laws.specs.EngineState.{EngineState}
 use Rattle.raft_log_engine_core.specs.Reads.{Lives}
 
--- `thresholds` are those of the completed settings `config`; `rounds` counts no purge that asked to compact a group
+-- `thresholds` are those of the settings `config`, completed (`sanitized`); `rounds` counts no purge that asked for a
+-- group
 pub record IsPurgedBy (config : Config) (thresholds : Thresholds) (rounds : Rounds) : Type 0 where
   pub sizes : thresholds ≡ thresholds_of (sanitized (settings_of config))
   pub unasked : (g : ℕ) → count_of rounds g ≡ 0
@@ -43,23 +44,24 @@ StopsRewritingAppend s t error = HadFailed s t error ⊎ (Lives s × FailsToRewr
 abbrev pub StopsPurgingExpired : EngineState → EngineState → Error → Type 0
 StopsPurgingExpired s t error = HadFailed s t error ⊎ (Lives s × FailsToPurgeExpired error s t)
 
--- What an open counts for later purges. `written` entries and values were read from Rewrite's files, live or not. They
--- count as written to Rewrite, and none of them as deleted. No entry counts as live in Append.
+-- The counts after an open, for later purges. The open read `written` entries and values from Rewrite's files, live or
+-- not. They count as written to Rewrite, and none of them as garbage. No entry counts as live in Append.
 pub record CountsBrought (config : Config) (d : Disk) (counts : PurgeCounts) : Type 0 where
   pub written : ℕ
   pub brings : BringsInRewrite config d written
   pub stats : counts.stats ≡ added Rewrite written no_entries
 
--- The counts after a purge of expired files failed: unchanged, or as `CountsIfPast` says. There, the counts are updated
--- before the purge if a queue is past its threshold. Then the step that failed decides which counts are kept.
+-- The counts after a purge of expired files failed: unchanged, or as `CountsIfPast` says. `m` are the memtables before.
+-- By `CountsIfPast`, the counts are updated first if a queue is past its threshold; then they depend on the failed
+-- step.
 abbrev pub StopsCountingIfPast : Thresholds → MemTables → PurgeCounts → PurgeCounts → EngineState → EngineState → Type 0
 StopsCountingIfPast thresholds m old new s t = (new ≡ old) ⊎ CountsIfPast thresholds m old new s t
 
--- The counts after a rewrite of Rewrite failed: unchanged; or updated before the rewrite, and then kept as the step
--- that failed decides.
+-- The counts after a rewrite of Rewrite failed: unchanged; or updated before the rewrite, and then as the step that
+-- failed leaves them. `m` are the memtables before.
 abbrev pub StopsCounting : MemTables → PurgeCounts → PurgeCounts → EngineState → EngineState → Type 0
 StopsCounting m old new s t = (new ≡ old) ⊎ CountsAndKeeps m old new s t
 
--- the counts after a rewrite of Append failed: unchanged, or updated with what was live in Rewrite before
+-- the counts after a rewrite of Append failed: unchanged, or updated with what is live in Rewrite by the memtables `m`
 abbrev pub MayCountStanding : MemTables → PurgeCounts → PurgeCounts → Type 0
 MayCountStanding m old new = (new ≡ old) ⊎ CountsStanding m old new

@@ -13,7 +13,7 @@ pub record HasListFor (b : Batch) (room : Room) : Type 0 where
   pub none : room.items.items ≡ []
   pub fits : vec_len room.items + length b.items ≤ vec_capacity room.items
 
--- The errors with which a write rejects a batch, whatever the tables are:
+-- The errors with which a write rejects batch `b`, whatever the memtables hold:
 -- - `InvalidArgument`: it was signed or written already, or its marks of an atomic group are broken
 -- - `Memory`: memory ran out
 abbrev pub IsUnfitItself : Batch → Error → Type 0
@@ -21,24 +21,27 @@ IsUnfitItself b (errors.InvalidArgument text) = IsWritable b.state → IsWellMar
 IsUnfitItself b errors.Memory = Unit {0}
 IsUnfitItself b _ = ⊥
 
--- A write of batch `b` failed with `error`. Either it was rejected, and nothing was done; or an append of its record
--- failed.
+-- A write of batch `b` failed with `error`. Either the batch was rejected, and nothing was done; or Append's pipe
+-- failed to append its record.
 abbrev pub PutFails : Batch → Error → EngineState → EngineState → Type 0
 PutFails b error s t = (IsUnfit b s.tables error × (t ≡ s)) ⊎ PipesRefused b error s t
 
--- after its write, a batch keeps at most `max_kept_len` bytes of its buffer; this doesn't apply to an empty batch
+-- batch `old` was written and is `new` now: its buffer has at most `max_kept_len` bytes, unless `old` was empty
 abbrev pub KeepsLittle : Batch → Batch → Type 0
 KeepsLittle old new = (old.items ≡ []) ⊎ (new.buffer ≤ max_kept_len)
 
--- if batch `old` may be written, so may `new`: its record isn't signed for a file
+-- if the batch could be written before a call (`old`), so it can after it (`new`): its record isn't signed for a file
 abbrev pub StaysWritable : Batch → Batch → Type 0
 StaysWritable old new = IsWritable old.state → IsWritable new.state
 
--- After a write of a batch failed: it was rejected, and nothing was done; or its record is encoded in `new`.
+-- The write of batch `old` failed. Either the batch was rejected, and nothing was done; or its record is encoded now,
+-- in the batch `new`.
 abbrev pub IsMadeIfTried : Error → Batch → Batch → EngineState → EngineState → Type 0
 IsMadeIfTried error old new s t = (IsUnfit old s.tables error × (t ≡ s)) ⊎ (new.state ≡ Populated)
 
--- After a write of a batch failed: it was rejected, and nothing was done; its record is encoded in `new`; or the error
--- is `Failed`.
+-- The write of batch `old` failed, in one of three ways:
+-- - The batch was rejected, and nothing was done.
+-- - Its record is encoded now, in the batch `new`.
+-- - The error is `Failed`.
 abbrev pub IsMadeUnlessFailed : Error → Batch → Batch → EngineState → EngineState → Type 0
 IsMadeUnlessFailed error old new s t = IsMadeIfTried error old new s t ⊎ (error ≡ errors.Failed)

@@ -1,5 +1,5 @@
--- What a write does to the files of a log. Also what it means that a call leaves the purge's thresholds and counts
--- unchanged.
+-- What a write does to the files of a log: `v` are the pipes before, `w` after. Also what it means that a call leaves
+-- the purge's thresholds and counts unchanged.
 use Rattle.std.specs.Prelude.{◌≡◌, ◌⊎◌, ℕ, Bool, true, false, List, []}
 use Rattle.raft_log_record_base.specs.declared.errors.Error.{Error}
 use Rattle.raft_log_record_base.specs.declared.errors.Error.TheVariants as errors
@@ -31,10 +31,10 @@ abbrev pub PipeTakes : (LogFileContext → List ℕ) → FileBlockHandle → Log
 PipeTakes signed block v w = PipeAppends InAppend signed block v w
     ⊎ ((mid : LogPipes) × FindsNoSpace signed v mid × PipeAppends InAppend signed block mid w)
 
--- Append's pipe failed to append a record. Either the first try failed with an error other than `TryAgain`; or the
--- first try found no space, and the second try failed. After `Io` or `TryAgain`, the bytes of the failed write were
--- truncated away, and the truncation was synced. `Io` has the kind of the failed write, and the pipe hasn't rotated
--- after it. `TryAgain` is lack of space, and the pipe has rotated.
+-- Append's pipe failed to append a record, in one of two ways:
+-- - The first try failed with an error other than `TryAgain`.
+-- - The first try found no space, and the second try failed, with any error.
+-- `PipeFailsToAppend` says what each error means for the files.
 abbrev pub PipeRefuses : (LogFileContext → List ℕ) → Error → LogPipes → LogPipes → Type 0
 PipeRefuses signed error v w = ((SaysTryAgain error → ⊥) × PipeFailsToAppend InAppend signed error v w)
     ⊎ ((mid : LogPipes) × FindsNoSpace signed v mid × PipeFailsToAppend InAppend signed error mid w)

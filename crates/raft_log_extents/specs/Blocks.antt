@@ -1,5 +1,5 @@
--- Places, each of which says where the bytes of an entry are: the file, the offset and length of a block, and the
--- offset and length in the block. A piece is a list of places that are adjacent in one block.
+-- Places: each says where the bytes of an entry are. It has the file, the offset and length of a block, and the offset
+-- and length in the block. A piece is a list of places that are adjacent in one block.
 use Rattle.std.specs.Prelude.{◌≡◌, ℕ, zero, suc, ◌+◌, ◌-◌, Bool, true, ◌&&◌, List, [], ◌∷◌, if◌then◌else◌, ◌==◌}
 use Rattle.raft_log_extents.specs.declared.place.Place.{Place}
 
@@ -9,7 +9,7 @@ follows p q =
     (((p.file == q.file) && (p.offset == q.offset)) && (p.len == q.len))
     && (p.entry_offset + p.entry_len == q.entry_offset)
 
--- how many of the places `ps` don't follow the place before them; the place before the first is `p`
+-- how many of the places `ps` don't follow the place before them (`follows`); the place before the first is `p`
 abbrev pub gaps : Place → List Place → ℕ
 gaps p [] = 0
 gaps p (q ∷ ps) = if follows p q then gaps q ps else suc (gaps q ps)
@@ -46,7 +46,7 @@ abbrev pub rising : ℕ → ℕ → ℕ → List ℕ
 rising x s zero = []
 rising x s (suc n) = x ∷ rising (x + s) s n
 
--- the adjacent places in the block of `b`, of which each begins at one of these offsets and ends at the next
+-- adjacent places in the block of `b`: each begins at one of these offsets, and ends at the next one
 abbrev pub between : Place → List ℕ → List Place
 between b [] = []
 between b (x ∷ []) = []

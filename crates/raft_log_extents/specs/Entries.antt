@@ -10,8 +10,8 @@ use Rattle.raft_log_model_laws.specs.Item.Item.{Run}
 use Rattle.raft_log_extents.specs.declared.place.Place.{Place}
 use Rattle.raft_log_extents.specs.Blocks.{between}
 
--- The places of a table's entries. `runs` and `starts` are the numbers of runs and of starts that store them. `wanted`
--- is for how many more places memory is reserved in advance, and `moves` for how many replacements.
+-- The places of a table's entries. They are stored as that many `runs` and `starts` (`Runs.antt` says what these are).
+-- Memory is reserved in advance for `wanted` more places, and for `moves` replacements.
 pub record PlaceList : Type 0 where
   pub items : List Place
   pub runs : ℕ
@@ -39,7 +39,7 @@ place_in (Some block) e = record {
 abbrev pub place_of : EntryIndex → Place
 place_of e = place_in e.entries e
 
--- the queue of an entry: Rewrite if it is rewritten, else Append
+-- the queue of an entry: Rewrite if it was copied there (`rewritten`), else Append
 abbrev pub queue_of : Bool → LogQueue
 queue_of rewritten = if rewritten then Rewrite else Append
 

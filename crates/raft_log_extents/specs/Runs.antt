@@ -1,7 +1,7 @@
--- Lists of runs, which encode the locations of a group's consecutive entries. The first entries of a run are adjacent
--- in one block. If they have one length, the run is even, and stores only the offset of its first entry. Otherwise a
--- second list, of starts, has the offset of each. The other entries of a run are each alone in a block: the list of
--- starts has each one's place, as eight numbers.
+-- Lists of runs, which encode the places of a group's consecutive entries. The first entries of a run are adjacent in
+-- one block. If they have one length, the run is even, and stores only the offset of its first entry. Otherwise the
+-- offset of each is in a second list, `starts`. Each other entry of a run is alone in its block; `starts` has its
+-- place, as eight numbers.
 use Rattle.std.specs.Prelude.{◌≡◌, ℕ, ◌+◌, ◌-◌, ◌*◌, ◌<◌, ◌≤◌, ◌^◌, Bool, true, false, List, [], ◌∷◌, ◌++◌, if◌then◌else◌, nat_le, nat_lt, length, map, take, drop, slice_index_or}
 use Rattle.std.specs.Coded.{Unit-prop, le_prop, Coded-set, coded_ℕ}
 use Rattle.raft_log_record_items.specs.declared.entry.EntryIndex.{EntryIndex}
@@ -14,7 +14,8 @@ use Rattle.raft_log_extents.specs.Words.{whole_places}
 abbrev pub block : Run → Place
 block r = record { file = r.file; offset = r.offset; len = r.len; entry_offset = 0; entry_len = 0 }
 
--- how many starts are stored for `count` entries in the block: none if they have one length, else one for each
+-- how many starts are stored for `count` entries in a run's block: none if they have one length (`true`), else one for
+-- each
 abbrev pub width_of : Bool → ℕ → ℕ
 width_of true count = 0
 width_of false count = count
@@ -100,7 +101,7 @@ renumbered first at (r ∷ rs) =
     record r { first = first; at = at } ∷ renumbered (first + total r) (at + width r) rs
 
 -- The invariant of a list of runs and its starts. Entries are numbered from `front`, and starts from `base`. The runs
--- have `len` entries in total, and as many starts as are stored. No number reaches 2 ^ 64.
+-- have `len` entries in total, and `starts` has exactly the starts that they store. No number reaches 2 ^ 64.
 pub record IsSound (front base len : ℕ) (rs : List Run) (starts : List ℕ) : Type 0 where
   pub numbered : IsNumbered front base rs
   pub count : counts rs ≡ len
@@ -108,15 +109,16 @@ pub record IsSound (front base len : ℕ) (rs : List Run) (starts : List ℕ) : 
   pub fits : front + len < 2 ^ 64
   pub starts_fit : base + length starts < 2 ^ 64
 
--- The runs `more` were appended to the runs `old`, and the starts `kept` to the starts `were`. They are numbered from
--- `first` and `at`, and encode `len` entries at the places `ps`.
+-- The runs `more` were appended to the runs `old`, which gives `new`; the starts `kept` were appended to `were`, which
+-- gives `starts`. The entries of `more` are numbered from `first`, and the starts from `at`. They encode `len` entries,
+-- at the places `ps`.
 pub record AreAdded (first at len : ℕ) (ps : List Place) (old new : List Run) (were starts : List ℕ) (more : List Run) (kept : List ℕ) : Type 0 where
   pub runs : new ≡ old ++ more
   pub starts_are : starts ≡ were ++ kept
   pub sound : IsSound first at len more kept
   pub places : expand more kept ≡ ps
 
--- run number `k` has the entry of this number, if any run has it
+-- the run at position `k` has the entry with the number `number`, if any run has it
 pub record IsFound (number : ℕ) (rs : List Run) (k : ℕ) : Type 0 where
   pub within : k < length rs
   pub low : (d : Run) → (slice_index_or rs k d).first ≤ number
@@ -126,7 +128,7 @@ pub record IsFound (number : ℕ) (rs : List Run) (k : ℕ) : Type 0 where
 abbrev pub start_of_entry : EntryIndex → ℕ
 start_of_entry e = e.entry_offset
 
--- the starts that are stored for these entries: none if they have one length, else the offset of each
+-- the starts that are stored for these entries: none if they have one length (`true`), else the offset of each
 abbrev pub starts_for : Bool → List EntryIndex → List ℕ
 starts_for true es = []
 starts_for false es = map start_of_entry es

@@ -4,10 +4,10 @@ use Rattle.raft_log_extents.specs.declared.run.Run.{Run}
 use Rattle.raft_log_extents.specs.declared.spot.Spot.{Spot}
 use Rattle.raft_log_extents.specs.Runs.{counts, total, width, widths}
 
--- `s` says where the entry at `position` is in the runs `rs`. `starts` are the offsets and places that the list stores
--- for its runs (`Runs.antt`). `run` is the run that has the entry, and `at` is the number of runs before that one.
--- `from` is the number of starts that are stored for these earlier runs. `within` is the number of entries before this
--- one in its run.
+-- `s` says where the entry at `position` is in the runs `rs`, whose starts are `starts` (`Runs.antt`).
+-- - `run`, `at`: the run that has the entry, and the number of runs before that one.
+-- - `from`: the number of starts that are stored for these earlier runs.
+-- - `within`: the number of entries before this one in its run.
 pub record IsSpot (rs : List Run) (starts : List ℕ) (position : ℕ) (s : Spot) : Type 0 where
   pub there : s.at < length rs
   pub run_is : s.run ≡ slice_index_or rs s.at s.run

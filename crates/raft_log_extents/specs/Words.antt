@@ -2,7 +2,7 @@
 use Rattle.std.specs.Prelude.{ℕ, zero, suc, ◌+◌, ◌*◌, ◌/◌, ◌%◌, ◌^◌, List, [], ◌∷◌, drop, slice_index_or}
 use Rattle.raft_log_extents.specs.declared.place.Place.{Place}
 
--- the number whose low half is at position `i`, and whose high half is next
+-- the number of 64 bits whose low half is at position `i` of `ws`, and whose high half is at the next one
 abbrev pub number_at : List ℕ → ℕ → ℕ
 number_at ws i = slice_index_or ws i 0 + slice_index_or ws (i + 1) 0 * 2 ^ 32
 

@@ -19,7 +19,7 @@ pub record IsNumberText (name : List ℕ) (n : ℕ) : Type 0 where
   pub digits : IsNumeral 10 (without_leading_plus (take 16 name))
   pub value : n ≡ digits_value 10 (without_leading_plus (take 16 name))
 
--- `name` has the number `n`, and ends with `suffix`
+-- `name` begins with the number `n`, and ends with `suffix`; it may have more in between
 abbrev pub IsNamed : List ℕ → List ℕ → ℕ → Type 0
 IsNamed suffix name n = IsNumberText name n × EndsWith suffix name
 
@@ -40,7 +40,7 @@ sixteen_digits n = replicate (16 - length (decimal n)) 48 ++ decimal n
 abbrev pub signed_digits : ℕ → List ℕ
 signed_digits n = 43 ∷ (replicate (15 - length (decimal n)) 48 ++ decimal n)
 
--- numbers below this limit have names; with a plus sign (`true`) there is one digit less
+-- numbers below this limit have names with a plus sign (`true`), which leaves fifteen digits, or without one
 abbrev pub name_limit : Bool → ℕ
 name_limit true = 10 ^ 15
 name_limit false = 10 ^ 16
@@ -50,7 +50,7 @@ abbrev pub number_text : Bool → ℕ → List ℕ
 number_text true n = cond (nat_lt n (10 ^ 15)) (signed_digits n) (sixteen_digits n)
 number_text false n = sixteen_digits n
 
--- the name that this code gives to a file
+-- the name that `build_file_name` makes for a file
 abbrev pub file_name : FileId → List ℕ
 file_name id = sixteen_digits id.seq ++ suffix_of id.queue
 

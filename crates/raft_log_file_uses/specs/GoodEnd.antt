@@ -12,7 +12,8 @@ use Rattle.raft_log_file_reader.specs.Reader.{IsReading, file_of, end_of, size_i
 use Rattle.raft_log_file_reader.specs.declared.open_file.OpenFile.{OpenFile}
 use Rattle.raft_log_file_reader.specs.declared.reader.LogItemBatchFileReader.{LogItemBatchFileReader}
 
--- `file` is open by this handle, and its batches follow one another from the end of its header up to offset `end`
+-- `file`, the log file `id` on the disk `d`, is open by this handle. Its batches follow one another from the end of its
+-- header up to offset `end`.
 pub record HasReadTo (id : FileId) (handle : Handle) (d : Disk) (file : OpenFile) (end : ℕ) : Type 0 where
   pub is : file.id ≡ id
   pub reads_by : file.source.handle ≡ handle
@@ -28,8 +29,8 @@ pub record EndsItsBatches (id : FileId) (handle : Handle) (d : Disk) (end : ℕ)
   pub read : HasReadTo id handle d file end
   pub ends : EndsBehind file (bytes_of file.source d) end
 
--- the reader has this file open, and has read its batches from the end of the header up to the reader's offset; all its
--- reads were honest
+-- The reader has this file open, and has read its batches from the end of the header up to the reader's offset. All its
+-- reads were honest: each returned what the disk holds.
 pub record HasReadSoFar (id : FileId) (handle : Handle) (d : Disk)
     (reader : LogItemBatchFileReader) : Type 0 where
   pub reading : IsReading d reader

@@ -1,4 +1,5 @@
--- Encodings of items and records by simpler types. Ghost fields that keep lists of them need these.
+-- Encodings (`Coded`) of items, marks and records by simpler types. A ghost field that keeps a list of items or records
+-- needs one.
 use Rattle.std.specs.Prelude.{◌≡◌, ◌⊎◌, ℕ, List, refl}
 use Rattle.std.specs.Coded.{Coded, code_by, coded×, coded⊎, coded_ℕ, coded_list}
 use base.Stored.{coded_unit}

@@ -16,7 +16,7 @@ abbrev pub upward : ℕ → ℕ → List ℕ
 upward first zero = []
 upward first (suc n) = first ∷ upward (suc first) n
 
--- what is at `n` consecutive indexes of a directory, from `first` on
+-- what is at `n` consecutive indexes, from `first` on, of a directory with these items in Rewrite and in Append
 abbrev pub shown : ℕ → ℕ → List (Item ℕ ℕ) → List (Item ℕ ℕ) → List (Option (Content ℕ ℕ))
 shown first n rewrite append = map (λ i. directory (Index i) rewrite append) (upward first n)
 
@@ -24,7 +24,7 @@ shown first n rewrite append = map (λ i. directory (Index i) rewrite append) (u
 abbrev pub voter : List ℕ
 voter = 118 ∷ 111 ∷ 116 ∷ 101 ∷ 114 ∷ []
 
--- the value of the key `voter` in a directory
+-- the value of the key `voter` in a directory with these items in Rewrite and in Append
 abbrev pub voter_in : List (Item ℕ ℕ) → List (Item ℕ ℕ) → Option (Content ℕ ℕ)
 voter_in rewrite append = directory (Key voter) rewrite append
 
@@ -92,12 +92,12 @@ append_from_5 = Compact 4 ∷ append_from_6
 abbrev pub append_from_4 : List (Item ℕ ℕ)
 append_from_4 = Run 3 (3 ∷ 4 ∷ 5 ∷ []) ∷ Put voter 2 ∷ append_from_5
 
--- what is at indexes 0 to 6: entries 4 and 5
+-- what is at indexes 0 to 6 after each step of this purge: entries 4 and 5
 abbrev pub four_and_five : List (Option (Content ℕ ℕ))
 four_and_five = None ∷ None ∷ None ∷ None ∷ Some (Entry 4) ∷ Some (Entry 105) ∷ None ∷ []
 
--- Rewrite of a directory: entry 6. What is left of its Append (`eight_then_seven`) starts past the end of Rewrite, and
--- then continues right after it.
+-- Rewrite of a directory: entry 6. The first run of its Append (`eight_then_seven`) starts past the end of Rewrite's
+-- entries, and the second one right after them.
 abbrev pub six : List (Item ℕ ℕ)
 six = Run 6 (6 ∷ []) ∷ []
 
@@ -109,7 +109,7 @@ eight_then_seven = Run 8 (upward 8 4) ∷ Run 7 (7 ∷ []) ∷ []
 abbrev pub shown_in : Table ℕ ℕ → ℕ → ℕ → List (Option (Content ℕ ℕ))
 shown_in t first n = map (λ i. content t (Index i)) (upward first n)
 
--- what is at indexes 5 to 11 of that directory: entries 6 and 7
+-- what is at indexes 5 to 11 of the directory of `six` and `eight_then_seven`: entries 6 and 7
 abbrev pub six_and_seven : List (Option (Content ℕ ℕ))
 six_and_seven = None ∷ Some (Entry 6) ∷ Some (Entry 7) ∷ None ∷ None ∷ None ∷ None ∷ []
 
@@ -137,15 +137,15 @@ half = Plain (of 1 (Run 1 (1 ∷ 2 ∷ [])) ∷ []) ∷ []
 abbrev pub far_run : List (Item ℕ ℕ)
 far_run = Run 1 (1 ∷ 2 ∷ 3 ∷ []) ∷ Run 5 (5 ∷ []) ∷ []
 
--- what is at index `i` after these runs, if a run past the end drops all earlier entries
+-- what is at index `i` after the runs of `far_run`, if a run past the end drops all earlier entries
 abbrev pub hole_at : ℕ → Option (Content ℕ ℕ)
 hole_at i = holds_past (Index i) far_run
 
--- what is at index `i` after these runs, if only the last item that touches it counts
+-- what is at index `i` after the runs of `far_run`, if only the last item that touches it counts
 abbrev pub last_word_at : ℕ → Option (Content ℕ ℕ)
 last_word_at i = holds (Index i) far_run
 
--- Rewrite of an irregular directory: entries 1 to 10
+-- Rewrite of a directory with a gap: entries 1 to 10
 abbrev pub low_entries : List (Item ℕ ℕ)
 low_entries = Run 1 (upward 1 10) ∷ []
 
@@ -157,11 +157,11 @@ far_entries = Run 25 (upward 25 6) ∷ []
 abbrev pub closing_run : List (Item ℕ ℕ)
 closing_run = Run 11 (11 ∷ 12 ∷ []) ∷ []
 
--- what is at index `i` of this directory, computed from the ends of runs
+-- what is at index `i` of this directory (`directory_by_intervals`)
 abbrev pub with_gap : ℕ → Option (Content ℕ ℕ)
 with_gap i = directory_by_intervals i low_entries far_entries
 
--- what is at index `i`, computed from the ends of runs, after the two entries
+-- what is at index `i` of this directory after the two entries of `closing_run` too
 abbrev pub gap_closed : ℕ → Option (Content ℕ ℕ)
 gap_closed i = directory_by_intervals i low_entries (far_entries ++ closing_run)
 

@@ -64,8 +64,8 @@ unfinished_after us (r ∷ rs) = unfinished_after (next_unfinished us r) rs
 abbrev pub unfinished : {E V : Type 0} → List (Record E V) → List (Unfinished E V)
 unfinished rs = unfinished_after [] rs
 
--- which items of an unfinished group begin to count in the next segment; `xs` are the group's items so far, and the
--- `Head` says what the segment does with the group
+-- Which items of an unfinished group begin to count in the next segment. `xs` are the group's items so far, and the
+-- `Head` says what that segment does with the group.
 abbrev pub finish : {E V : Type 0} → List (Tagged E V) → Head E V → List (Tagged E V)
 finish xs (GoesOn ys) = []
 finish xs (Ends ys) = xs ++ ys
@@ -87,8 +87,10 @@ abbrev pub carried_on : {E V : Type 0} → List (Unfinished E V) → (ℕ → He
 carried_on [] heads = []
 carried_on (u ∷ us) heads = go_on u.number u.items (heads u.number) ++ carried_on us heads
 
--- The summary of a segment: the items that count in it, what it does with each atomic group that is open before it,
--- and the groups that it leaves unfinished.
+-- The summary of a segment:
+-- - `counted`: the items that count in it
+-- - `heads`: what it does with each atomic group that is open before it
+-- - `left_open`: the groups that it leaves unfinished
 pub record Segment (E V : Type 0) : Type 0 where
   pub counted : List (Tagged E V)
   pub heads : ℕ → Head E V
@@ -98,8 +100,8 @@ pub record Segment (E V : Type 0) : Type 0 where
 abbrev pub segment : {E V : Type 0} → List (Record E V) → Segment E V
 segment rs = record { counted = settled rs; heads = λ n. head n [] rs; left_open = unfinished rs }
 
--- The summary of two consecutive segments, `a` and then `b`. First the items of `a` count, then those of groups that
--- `a` leaves unfinished and `b` ends, then those of `b`.
+-- The summary of two consecutive segments, `a` and then `b`. These items count, in this order: those of `a`; those of
+-- the groups that `a` leaves unfinished and `b` ends; those of `b`.
 abbrev pub merge : {E V : Type 0} → Segment E V → Segment E V → Segment E V
 merge a b = record {
   counted = a.counted ++ (completed a.left_open b.heads ++ b.counted);
@@ -107,14 +109,14 @@ merge a b = record {
   left_open = carried_on a.left_open b.heads ++ b.left_open;
 }
 
--- In the two summaries the same items count for each raft group. They do the same with each atomic group that is open
+-- In both summaries the same items count for each raft group. Both do the same with each atomic group that is open
 -- before the segment, and leave the same atomic groups unfinished.
 pub record IsSameSegment {E V : Type 0} (a b : Segment E V) : Type 0 where
   pub counted : (g : ℕ) → of_group g a.counted ≡ of_group g b.counted
   pub heads : (n : ℕ) → a.heads n ≡ b.heads n
   pub left_open : a.left_open ≡ b.left_open
 
--- consecutive segments as a tree: the order in which their summaries are merged
+-- consecutive segments as a tree, which says which neighbours' summaries are merged first
 pub data Bracketing (A : Type 0) : Type 0 where
   One : List A → Bracketing A
   Both : Bracketing A → Bracketing A → Bracketing A
@@ -124,7 +126,7 @@ abbrev pub all_of : {A : Type 0} → Bracketing A → List A
 all_of (One rs) = rs
 all_of (Both s t) = all_of s ++ all_of t
 
--- the summary of these segments: each is summarized on its own, and the summaries are merged in this order
+-- the summary of these segments: each is summarized on its own, and the summaries are merged as the tree says
 abbrev pub merge_all : {E V : Type 0} → Bracketing (Record E V) → Segment E V
 merge_all (One rs) = segment rs
 merge_all (Both s t) = merge (merge_all s) (merge_all t)

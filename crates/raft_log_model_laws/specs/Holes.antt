@@ -89,7 +89,7 @@ low [] = 0
 low (Compact c ∷ xs) = max c (low xs)
 low (x ∷ xs) = low xs
 
--- `n` or the bound, whichever is less
+-- the lower of `n` and the bound; `n` if there is no bound
 abbrev pub least : ℕ → Option ℕ → ℕ
 least n None = n
 least n (Some b) = min n b
@@ -119,8 +119,8 @@ has_gap w append =
     && (nat_lt (window nothing append).first (window nothing append).end
     && nat_lt (least w.end (high append)) (window nothing append).first)
 
--- What is at index `i` of a directory, computed from the ends of runs. This is Append's entry if there is one.
--- Otherwise it is Rewrite's, if Append's items don't touch `i` and leave no gap.
+-- What is at index `i` of a directory: Append's entry, if there is one. Otherwise it is Rewrite's, if Append's items
+-- don't touch `i` (`is_silent`) and leave no gap (`has_gap`).
 abbrev pub directory_by_intervals : {E V : Type 0} → ℕ → List (Item E V) → List (Item E V)
     → Option (Content E V)
 directory_by_intervals i rewrite append =

@@ -12,8 +12,10 @@ use Rattle.raft_log_model_laws.specs.Table.{Table, content, span_of, no_table, c
 use Rattle.raft_log_model_laws.specs.Fragments.{Bracketing}
 use Rattle.raft_log_model_laws.specs.Fragments.Bracketing.{One, Both}
 
--- A table of what the items leave. `cleaned`: they have a Clean. `low`: the greatest index of a Compact. `high`: the
--- lowest start of a run. `deleted`: they have a Del of this key.
+-- A table of what the items leave, and what they delete of earlier ones:
+-- - `cleaned`: they have a Clean.
+-- - `low`, `high`: the greatest index of a Compact, or 0, and the lowest start of a run with entries.
+-- - `deleted`: they have a Del of this key.
 pub record Summary (E V : Type 0) : Type 0 where
   pub table : Table E V
   pub cleaned : Bool
@@ -85,7 +87,7 @@ join a z = record {
   deleted = λ k. z.deleted k || a.deleted k;
 }
 
--- the summary of these segments: each is summarized on its own, and the summaries are joined in this order
+-- the summary of these segments: each is summarized on its own, and the summaries are joined as the tree says
 abbrev pub join_all : {E V : Type 0} → Bracketing (Item E V) → Summary E V
 join_all (One xs) = summary xs
 join_all (Both s t) = join (join_all s) (join_all t)

@@ -39,8 +39,8 @@ abbrev pub cut_from : {E V : Type 0} → Table E V → Option ℕ → Table E V
 cut_from t None = t
 cut_from t (Some h) = record t { entries = take (h - t.first) t.entries }
 
--- the table after a run `es` from index `f` on, which replaces all entries from there on; `f` must not be past the end
--- of the table's entries
+-- The table after a run `es` from index `f` on, which replaces all entries from there on. `f` must not be past the end
+-- of the table's entries.
 abbrev pub run_onto : {E V : Type 0} → Table E V → ℕ → List E → Table E V
 run_onto t f es = record t {
   first = if nat_lt t.first f && nat_lt 0 (length t.entries) then t.first else f;

@@ -1,5 +1,6 @@
--- A rewrite of Append: all that groups have in its files up to the gate is copied to Rewrite, and then these files
--- leave Append's live range.
+-- A rewrite of Append: all that groups have in its files up to the gate, the last file to be rewritten, is copied to
+-- Rewrite. Then these files leave Append's live range. `s` and `t` are the engine's states before and after a step, `m`
+-- the memtables.
 use Rattle.std.specs.Prelude.{◌≡◌, ◌⊎◌, ◌↔◌, ◌<◌, ◌==◌, IsTrue, ℕ, suc, min, max, Bool, true, false, List, [], Option, Some, None, MatchBool}
 use Rattle.std.specs.List.{list_any}
 use Rattle.raft_log_model_laws.specs.Groups.{taken}
@@ -41,7 +42,8 @@ abbrev pub GoesOnPast : ℕ → LogPipes → LogPipes → Type 0
 GoesOnPast gate v w = ((gate ≡ last_of InAppend v) × RotatesQueue InAppend v w)
     ⊎ ((gate < last_of InAppend v) × (w ≡ v))
 
--- the gate was chosen, and Append's active file is after it
+-- the gate is the requested file (`watermark`), or the active file if that is lower or none was requested; afterwards
+-- Append's active file is after the gate
 pub record PassesGate (watermark : Option ℕ) (gate : ℕ) (v w : LogPipes) : Type 0 where
   pub is : gate ≡ gate_of watermark v
   pub goes : GoesOnPast gate v w
@@ -83,8 +85,8 @@ RewritesAll gate s t = RewritesSynced (λ g. true) gate s t
 abbrev pub beginning : ℕ → ℕ → LogPipes → ℕ
 beginning gate least v = max (first_at InAppend v) (max (suc gate) least)
 
--- Files left Append's live range. `least` is the lowest file in which a group has an entry or value, or the active file
--- if that is lower. If nothing was pending:
+-- Files left Append's live range. `least` is the lowest file in which, by the tables `m`, a group has an entry or
+-- value, or the active file if that is lower. If nothing was pending:
 -- - `begins`: the live range begins at the latest of three files: the one after the gate, `least`, and where it began.
 -- - `keeps`: the log keeps its contents, if no group has anything in files up to the gate and no tombstone is owed.
 pub record LosesTo (gate : ℕ) (m : MemTables) (s t : EngineState) : Type 0 where
@@ -146,15 +148,15 @@ pub record RewritesAppend (watermark exit : Option ℕ) (m : MemTables) (s t : E
 
 -- Failures.
 
--- A step failed. Let no tombstone be owed and nothing pending before it. Then the log still has the same contents, or
--- the engine has failed and its files can be opened with these contents.
+-- A step failed. Suppose that no tombstone was owed and nothing pending before it. Then the log still has the same
+-- contents, or the engine has failed and its files can be opened with them.
 abbrev pub StaysOrIsLeftSettled : Error → EngineState → EngineState → Type 0
 StaysOrIsLeftSettled error s t = OweNothing s.tables → (home : LogDirectories) (m : LogMap) → HoldsSettled home s m
     → Represents home t m [] ⊎ ((error ≡ errors.Failed) × IsRecoverableAs home t.pipes.disk m [])
 
 -- Taking Append's files up to the gate out of the live range failed.
 -- - `remains`: if no group had anything in these files, the contents are kept as `StaysOrIsLeftSettled` says.
--- - `cause`: if the gate was before Append's active file and nothing was pending, the error says why.
+-- - `cause`: if the gate was before Append's active file and nothing was pending, `HasFileReason` gives the reason.
 pub record FailsToLoseTo (gate : ℕ) (error : Error) (s t : EngineState) : Type 0 where
   pub tells : has_failed s ≡ false → IsTrue (has_failed t) ↔ (error ≡ errors.Failed)
   pub later : IsLater s.pipes.disk t.pipes.disk
@@ -164,7 +166,8 @@ pub record FailsToLoseTo (gate : ℕ) (error : Error) (s t : EngineState) : Type
 
 -- A step after the owed tombstones were written failed.
 -- - `remains`: the contents are kept as `StaysOrIsLeftSettled` says.
--- - `cause`: if the gate was before Append's active file, no tombstone owed and nothing pending, the error says why.
+-- - `cause`: if the gate was before Append's active file, no tombstone was owed and nothing pending, `HasReason` gives
+--   the reason.
 pub record StopsGoingOn (gate : ℕ) (error : Error) (s t : EngineState) : Type 0 where
   pub tells : has_failed s ≡ false → IsTrue (has_failed t) ↔ (error ≡ errors.Failed)
   pub later : IsLater s.pipes.disk t.pipes.disk
@@ -172,7 +175,7 @@ pub record StopsGoingOn (gate : ℕ) (error : Error) (s t : EngineState) : Type 
   pub cause : gate < last_of InAppend s.pipes → OweNothing s.tables → (home : LogDirectories) (log : LogMap)
       → HoldsSettled home s log → HasReason home log error s t
 
--- A rewrite of Append failed, and the error says why. One of two is so:
+-- A rewrite of Append failed with `error`, and `HasPurgeReason` gives the reason. Afterwards one of two is true:
 -- - The log has the same contents, and no batch is pending any more.
 -- - The engine has failed, and its files can be opened with these contents. The batches that were pending are durable
 --   or still pending.

@@ -1,4 +1,5 @@
--- Purges that update the counts of Rewrite with what is live there, before and after.
+-- Purges that update the counts of Rewrite with what is live there. `before` and `after` are the tables before and
+-- after the purge, `old` and `new` the counts.
 use Rattle.std.specs.Prelude.{◌≡◌, ◌↔◌, IsTrue, ℕ, Bool, List, Option}
 use Rattle.raft_log_memtables.specs.declared.mem_tables.MemTables.{MemTables}
 use Rattle.raft_log_dual_pipes.specs.Pipes.{LogPipes}
@@ -32,7 +33,8 @@ pub record CountsIfPast (thresholds : Thresholds) (before : MemTables) (old new 
   pub first : CountsIf past before old counted
   pub kept : KeepsCounts thresholds before counted new s t
 
--- Rewrite was rewritten: the counts were updated before with what was live there, and then the garbage was subtracted.
+-- Rewrite was rewritten. Before that, the counts were updated with what was live there; after it, they were reset
+-- (`reset_counts`).
 pub record CountsAndResets (before : MemTables) (old new : PurgeCounts) : Type 0 where
   pub counted : PurgeCounts
   pub first : CountsStanding before old counted

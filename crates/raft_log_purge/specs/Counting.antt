@@ -1,5 +1,5 @@
--- What a purge counts of Rewrite, for the next purge: how many entries and values were written there, and how many of
--- these are garbage.
+-- What a purge counts in Rewrite, for the next purge: how many entries and values were written there, and how many of
+-- these are garbage. `old` and `new` are the counts before and after.
 use Rattle.std.specs.Prelude.{◌≡◌, ◌-◌, ℕ, Bool, true, false}
 use Rattle.raft_log_record_base.specs.declared.pipe_log.LogQueue.TheVariants.{Rewrite}
 use Rattle.raft_log_memtable.specs.declared.global_stats.GlobalStats.{GlobalStats}
@@ -26,8 +26,7 @@ abbrev pub CountsIf : Bool → MemTables → PurgeCounts → PurgeCounts → Typ
 CountsIf true m old new = CountsStanding m old new
 CountsIf false m old new = new ≡ old
 
--- the counts were updated with what was live in Rewrite before something was written there, and then with what was
--- live after it
+-- the counts were updated twice: with what is live in Rewrite by the tables `before`, and then by the tables `after`
 pub record CountsTwice (before after : MemTables) (old new : PurgeCounts) : Type 0 where
   pub between : PurgeCounts
   pub first : CountsStanding before old between

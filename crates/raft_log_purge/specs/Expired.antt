@@ -1,4 +1,5 @@
--- A purge of Append, if its files are together larger than the threshold.
+-- A purge of Append, if its files are together larger than the threshold. `s` and `t` are the engine's states before
+-- and after a step.
 use Rattle.std.specs.Prelude.{◌≡◌, ◌⊎◌, ◌↔◌, IsTrue, ℕ, max, Bool, true, false, List, [], Option, Some, None}
 use Rattle.raft_log_fs.specs.Causes.{IsLater}
 use Rattle.raft_log_record_base.specs.declared.errors.Error.{Error}
@@ -35,12 +36,11 @@ abbrev pub CountsRound : Watermarks → MemTables → Rounds → Rounds → Type
 CountsRound marks m old new =
     (g : ℕ) → count_of new g ≡ round_behind (asks_at marks m g) (count_of old g)
 
--- What a purge of Append picks. It depends on the tables `m`, and on the counts `old` of purges in a row that asked for
--- each group.
+-- What a purge of Append picks, by the tables `m`, the watermarks `marks` and the counts `old` of purges in a row that
+-- asked for each group. `restated` says whether Rewrite was compacted before.
 -- - `answered`: the groups that the purge returns to its caller.
 -- - `rewritten`: the groups that the purge rewrites itself.
--- - `rounds`: the counts with this purge.
--- - `owed`: all tombstones that are owed.
+-- - `rounds`, `owed`: the counts with this purge, and all tombstones that are owed.
 pub record PicksGroups (marks : Watermarks) (restated : Bool) (m : MemTables) (old : Rounds)
     (picked : PickedGroups) : Type 0 where
   pub answered : ListsGroups (answers_at (Some marks) restated m) picked.answered.items
@@ -50,9 +50,9 @@ pub record PicksGroups (marks : Watermarks) (restated : Bool) (m : MemTables) (o
 
 -- Append's files.
 
--- Files left Append's live range. `least` is the lowest of three: the first pinned file (`held`), the active file, and
--- the first file in which a group has an entry or value. If nothing was pending, the live range begins at `least` now,
--- or where it began if that is later. If also no tombstone is owed, the log keeps its contents.
+-- Files left Append's live range. `least` is the lowest of three files: the first pinned one (`held`), the active one,
+-- and the first that has an entry or value of a group, by the tables `m`. If nothing was pending, the live range begins
+-- at `least` now, or where it began if that is later. If also no tombstone is owed, the log keeps its contents.
 pub record LosesBelow (held : Option ℕ) (m : MemTables) (s t : EngineState) : Type 0 where
   pub least : ℕ
   pub is : IsLeastOf Append (up_to held (last_of InAppend s.pipes)) m least
@@ -65,8 +65,8 @@ pub record LosesBelow (held : Option ℕ) (m : MemTables) (s t : EngineState) : 
   pub keeps : OweNothing s.tables → (home : LogDirectories) (log : LogMap) → HoldsSettled home s log
       → HoldsSettled home t log
 
--- Taking files out of Append's live range failed. If nothing was pending, the error says why. If also no tombstone was
--- owed, the log has the same contents, or the engine has failed and its files can be opened with them.
+-- Taking files out of Append's live range failed. If nothing was pending, `HasFileReason` gives the reason. If also no
+-- tombstone was owed, the log has the same contents, or the engine has failed and its files can be opened with them.
 pub record FailsToLoseBelow (error : Error) (s t : EngineState) : Type 0 where
   pub tells : has_failed s ≡ false → IsTrue (has_failed t) ↔ (error ≡ errors.Failed)
   pub later : IsLater s.pipes.disk t.pipes.disk
@@ -108,7 +108,7 @@ pub record RewritesPicked (test : ℕ → Bool) (gate : ℕ) (held : Option ℕ)
 -- Append was purged, and `groups` are returned. Each group's count of purges in a row that asked for it was updated.
 -- - `deletes`: If no tombstone was owed, files left the live range before anything was written.
 -- - `rewrites`: Then the groups that the rules pick were rewritten, and after that files left the live range.
--- The rules use the tables and the files before the purge.
+-- The rules use the tables `before` and the files before the purge.
 pub record PurgesAppend (held : Option ℕ) (restated : Bool) (before after : MemTables) (old new : Rounds)
     (groups : List ℕ) (s t : EngineState) : Type 0 where
   pub answered : ListsGroups (answers_at (Some (watermarks_of s.pipes)) restated before) groups
@@ -135,8 +135,8 @@ PurgesIfPast thresholds held restated before after old new groups s t =
     (TakesAppend thresholds s.pipes × PurgesAppend held restated before after old new groups s t)
     ⊎ ((TakesAppend thresholds s.pipes → ⊥) × LeavesAppend restated before old new groups s t)
 
--- A purge of Append failed, and the error says why. If no batch was pending, the log has the same contents, or the
--- engine has failed and its files can be opened with them.
+-- A purge of Append failed with `error`. If no batch was pending, `HasPurgeReason` gives the reason. Then the log has
+-- the same contents, or the engine has failed and its files can be opened with them.
 pub record FailsToPurgeAppend (error : Error) (s t : EngineState) : Type 0 where
   pub tells : has_failed s ≡ false → IsTrue (has_failed t) ↔ (error ≡ errors.Failed)
   pub later : IsLater s.pipes.disk t.pipes.disk

@@ -1,5 +1,5 @@
--- A purge of both queues: each is collected if its files are together larger than its threshold, Rewrite only if also
--- enough of it is garbage.
+-- A purge of both queues. Each is purged if its files are together larger than its threshold; Rewrite only if enough of
+-- it is garbage too. `s` and `t` are the engine's states before and after.
 use Rattle.std.specs.Prelude.{◌≡◌, ◌⊎◌, ℕ, Bool, true, false, List, [], Option}
 use Rattle.raft_log_model_laws.specs.Groups.{taken}
 use Rattle.raft_log_fs.specs.Causes.{IsLater}
@@ -63,23 +63,26 @@ pub record PurgesExpired (hold_back : LogPipes → Option ℕ → Type 0) (thres
   pub holds : (home : LogDirectories) (log : LogMap) (pending : List LogRecordValue) → Represents home s log pending
       → Represents home t (taken log pending) []
 
--- A purge of expired files, or a rewrite of Rewrite, failed, and the error says why. One of two is so:
+-- A purge of expired files, or a rewrite of Rewrite, failed, and `HasPurgeReason` gives the reason. Afterwards one of
+-- two is true:
 -- - The log has the same contents, and no batch is pending any more.
 -- - The engine has failed, and its files can be opened with these contents. The batches that were pending are durable
 --   or still pending.
 abbrev pub FailsToPurgeExpired : Error → EngineState → EngineState → Type 0
 FailsToPurgeExpired error s t = FailsToRewriteAppend error s t
 
--- What is counted if it failed.
+-- The counts after a failure.
 
--- The counts of Rewrite after the sync of Append failed, or after that sync succeeded and the rewrite of Rewrite
--- failed. `before` are the tables before the rewrite.
+-- The counts of Rewrite, `old` before and `new` after a failure. `before` are the tables before it. One of two is true:
+-- - Tables and counts are unchanged, as after a failed sync of Append.
+-- - Append was synced, and the rewrite of Rewrite failed (`CountsRefused`).
 abbrev pub StopsAtRewrite : MemTables → GlobalStats → GlobalStats → EngineState → EngineState → Type 0
 StopsAtRewrite before old new s t = ((t.tables ≡ s.tables) × (new ≡ old))
     ⊎ ((synced : LogPipes) × SyncsQueue InAppend s.pipes synced
     × CountsRefused before old new (record s { pipes = synced }) t)
 
--- the counts of Rewrite after the purge of Append failed: Rewrite was rewritten before, if that was due
+-- The purge of Append failed, after Append was synced and Rewrite was rewritten if that was due. The counts of Rewrite
+-- are those after the rewrite (`RewritesIfPast`).
 pub record StopsAtAppend (thresholds : Thresholds) (before : MemTables) (old new : GlobalStats) (s : EngineState)
     : Type 0 where
   pub synced : LogPipes
@@ -91,8 +94,8 @@ pub record StopsAtAppend (thresholds : Thresholds) (before : MemTables) (old new
   pub rewrites : RewritesIfPast thresholds old new before between restated
       (record s { pipes = synced }) (shows pipes between cache)
 
--- The counts after a purge failed: those of purges that asked for a group are unchanged, and those of Rewrite depend
--- on the step that failed.
+-- The counts after a purge failed. The counts of purges in a row that asked for a group are unchanged. The counts of
+-- Rewrite depend on the step that failed.
 pub record KeepsCounts (thresholds : Thresholds) (before : MemTables) (old new : PurgeCounts) (s t : EngineState)
     : Type 0 where
   pub rounds : new.rounds ≡ old.rounds

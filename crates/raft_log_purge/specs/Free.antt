@@ -10,8 +10,9 @@ use Rattle.raft_log_purge.specs.declared.expired_files.PurgeCounts.{PurgeCounts}
 use Rattle.raft_log_purge.specs.Expired.{LosesBelow}
 use Rattle.raft_log_purge.specs.ExpiredFiles.{PurgesExpired}
 
--- Let no file be pinned, and Append be past its threshold. Then a purge takes all files below the first one in which a
--- group has an entry or value out of Append's live range. The active file stays.
+-- Suppose that no file is pinned, and Append is past its threshold. Then the last step of a purge is `LosesBelow`
+-- without a pinned file. By this, all files leave Append's live range that are below the active file and below the
+-- first file in use. A file is in use if a group has an entry or value in it.
 abbrev pub FreeFilesGo : (LogPipes → Option ℕ → Type 0) → Type 0
 FreeFilesGo hold_back = NothingIsHeldBack hold_back → (thresholds : Thresholds) (before after : MemTables)
     (old new : PurgeCounts) (groups : List ℕ) (s t : EngineState)

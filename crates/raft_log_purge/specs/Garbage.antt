@@ -1,5 +1,5 @@
--- The counts of Rewrite after a rewrite of it failed: what was restated before the failure has an old copy, which is
--- garbage.
+-- The counts of Rewrite after a rewrite of it failed. What was restated (copied) before the failure has an old copy,
+-- which is garbage.
 use Rattle.std.specs.Prelude.{◌≡◌, ◌⊎◌, ◌<◌, ◌≤◌, ℕ, List, [], ◌∷◌, Option, Some, None}
 use Rattle.raft_log_record_base.specs.declared.pipe_log.LogQueue.TheVariants.{Rewrite}
 use Rattle.raft_log_machine_laws.specs.Calls.Which.{InRewrite}
@@ -17,8 +17,8 @@ use Rattle.raft_log_purge_copy.specs.raft_log_engine_laws.specs.EngineState.{Eng
 use Rattle.raft_log_purge_copy.specs.Restated.{last_file}
 use Rattle.raft_log_purge.specs.RewriteQueue.{RestatesAll, reset_counts}
 
--- How many of a group's live entries and values in Rewrite count as restated. All of them, if `least`, its lowest file
--- of Rewrite, is after `file`; else none.
+-- `n` of a group's live entries and values in Rewrite count as restated. These are all, if the group's lowest file of
+-- Rewrite (`least`) is after `file`; else none. `v` is the group's table.
 abbrev pub CountsFrom : ℕ → Option ℕ → Shown → ℕ → Type 0
 CountsFrom file None v n = n ≡ 0
 CountsFrom file (Some least) v n = ((file < least) × StandIn v n) ⊎ ((least ≤ file) × (n ≡ 0))
@@ -50,10 +50,10 @@ pub record ResetsCounts (old new : GlobalStats) (s t : EngineState) : Type 0 whe
   pub tables : t.tables ≡ restated.tables
   pub stats : new ≡ reset_counts old
 
--- The counts after a rewrite of Rewrite failed; `before` are the tables before it. One of three is so:
+-- The counts after a rewrite of Rewrite failed; `before` are the tables before it. One of three is true:
 -- - The counts are unchanged, and so are the tables.
--- - The number of restated entries and values was added to what was written, and to the garbage. What is live after the
---   file that was active at the start counts as restated (`CountsPast`).
+-- - The number of restated entries and values was added to what was written, and to the garbage. What a group has
+--   counts as restated if all of it is after the file that was active at the start (`CountsPast`).
 -- - All groups were restated, and the counts were reset.
 abbrev pub CountsRefused : MemTables → GlobalStats → GlobalStats → EngineState → EngineState → Type 0
 CountsRefused before old new s t = ((t.tables ≡ s.tables) × (new ≡ old))

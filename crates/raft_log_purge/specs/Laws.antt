@@ -36,7 +36,8 @@ abbrev pub KnownLogsAreModest : Type 0
 KnownLogsAreModest = (m : LogMap) (known : ℕ → List (List ℕ × List ℕ)) → AreKnown m known
     → ((g : ℕ) → pairs_bound (known g) < 2 ^ 54) → AreModest m
 
--- An empty log has no known keys. A batch whose runs of entries are short adds the keys and values that it puts.
+-- For an empty log, no keys need be known. A batch whose runs of entries are short adds the keys and values that it
+-- puts.
 pub record KnownPairsGrow : Type 0 where
   pub none : AreKnown (λ g s. None) (λ g. [])
   pub more : (m : LogMap) (known : ℕ → List (List ℕ × List ℕ)) (said : LogRecordValue) → AreKnown m known

@@ -31,9 +31,9 @@ pub record AreModest (m : LogMap) : Type 0 where
   pub values : (g : ℕ) (pairs : List (List ℕ × List ℕ)) → AreValuesIn m g pairs
       → IsStrictlySortedBy (slice_cmp nat_cmp) (keys_of pairs) → pairs_bound pairs < 2 ^ 54
 
--- `known` has all keys of each group in the contents `m`, with their values:
--- - no entry has an index of 2 ^ 52 or above, or more bytes than a batch may have
--- - each value of a group is in the group's list, perhaps with others
+-- What is known of the contents `m`:
+-- - No entry has an index of 2 ^ 52 or above, or more bytes than a batch may have.
+-- - `known` has each key of a group with its value in the group's list, perhaps with others.
 pub record AreKnown (m : LogMap) (known : ℕ → List (List ℕ × List ℕ)) : Type 0 where
   pub entries : (g i : ℕ) (bytes : List ℕ) → m g (Index i) ≡ Some (Entry bytes)
       → (i < 2 ^ 52) × (length bytes ≤ max_entries_len)

@@ -1,5 +1,5 @@
--- From which items of earlier batches the owed tombstones came. The record of the tombstones is no longer than a record
--- of these items may be.
+-- From which items of earlier batches the owed tombstones came. The record of the tombstones is at most as long as the
+-- bound of a record of these items (`MarksTakeNoMore`).
 use Rattle.std.specs.Prelude.{◌≡◌, ℕ, true, List}
 use Rattle.std.specs.List.{Contains}
 use Rattle.raft_log_model_laws.specs.Item.{Item}
@@ -10,13 +10,13 @@ use Rattle.raft_log_record_items.specs.declared.item.LogItem.{LogItem}
 use Rattle.raft_log_record_frames.specs.Meaning.{tagged_items}
 use Rattle.raft_log_memtable_index.specs.Shown.{Shown}
 
--- those of the items that are of group `g`
+-- the items of group `g` among these, without the group
 abbrev pub said_in : List LogItem → ℕ → List (Item EntryIndex (List ℕ))
 said_in items g = of_group g (tagged_items (λ e. e) items)
 
--- The owed tombstones came from these items. For the group that owes the tombstone, the items have:
--- - a Clean for each owed Clean
--- - a Compact, of some index, for each owed Compact
+-- The tombstones that the groups' tables `v` owe came from these items. For each group, the items have:
+-- - a Clean, if one is owed
+-- - a Compact, of some index, if one is owed
 -- - a deletion of each key whose deletion is owed
 pub record CameOf (items : List LogItem) (v : ℕ → Shown) : Type 0 where
   pub cleans : (g : ℕ) → (v g).cleaned ≡ true → Contains (said_in items g) Clean

@@ -1,5 +1,5 @@
--- How the items of a log batch are encoded, and the functions that read them from the front of a list. Numbers are
--- varints of at most 64 bits.
+-- How the items of a log batch are encoded: a grammar, which says which bytes encode which value. The functions that
+-- read them are in `Reading`. Numbers are varints of at most 64 bits.
 use Rattle.std.specs.Prelude.{◌≡◌, ℕ, zero, suc, ◌+◌, ◌^◌, Bool, List, [], ◌∷◌, length, Option, Some, None, Ok, Err, nat_lt, ◌==◌, if◌then◌else◌, IsTrue}
 use Rattle.raft_log_record_base.specs.Grammar.{Reader, IsKnown, Then, Times, Choice, ◌>>=◌}
 use Rattle.raft_log_record_base.specs.Number.{IsVarU64, IsByte, var_u64_at, byte_at_front}
@@ -68,7 +68,7 @@ AreEntriesFrom index zero = IsKnown []
 AreEntriesFrom index (suc n) = Then IsEntryLen (λ len.
     Then (AreEntriesFrom (index + 1) n) (λ es. IsKnown (unplaced_entry index len ∷ es)))
 
--- whether `first` + `count` is below 2 ^ 64, so that none of `count` indexes from `first` on is 2 ^ 64 - 1
+-- whether `first` + `count` is below 2 ^ 64: then each of the `count` indexes from `first` on is below 2 ^ 64 - 1
 abbrev pub is_first_of : ℕ → ℕ → Bool
 is_first_of count first = nat_lt (first + count) (2 ^ 64)
 

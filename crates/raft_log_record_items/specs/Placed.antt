@@ -45,30 +45,28 @@ laid_out offset (x ∷ xs) =
 abbrev pub written_entry : FileBlockHandle → EntryIndex → EntryIndex
 written_entry handle e = record e { entries = Some handle }
 
--- the content of a record whose entry block is at `handle`: entries get that handle, an operation on a key the file
--- of the block
+-- the content, once its record's entry block is at `handle`: each entry gets this handle, and an operation on a key
+-- gets the block's file
 abbrev pub written_content : FileBlockHandle → LogItemContent → LogItemContent
 written_content handle (contents.EntryIndexes es) = contents.EntryIndexes (map (written_entry handle) es)
 written_content handle (contents.Command c) = contents.Command c
 written_content handle (contents.Kv kv) = contents.Kv (record kv { file_id = Some handle.id })
 
--- the item of a record whose entry block is at `handle`: entries get that handle, an operation on a key the file of
--- the block
+-- the item, once its record's entry block is at `handle` (`written_content`)
 abbrev pub written_item : FileBlockHandle → LogItem → LogItem
 written_item handle x = record x { content = written_content handle x.content }
 
--- the items of a record whose entry block is at `handle`: entries get that handle, operations on keys the file of the
--- block
+-- the items, once their record's entry block is at `handle` (`written_content`)
 abbrev pub written : FileBlockHandle → List LogItem → List LogItem
 written handle xs = map (written_item handle) xs
 
--- The items of a record whose entry block is at `handle`. Entries get that handle and an offset in the block, the
--- first 0. Operations on keys get the file of the block.
+-- The items, once their record's entry block is at `handle`. Each entry gets this handle and its offset in the block;
+-- the first is at 0. Operations on keys get the block's file.
 abbrev pub placed : FileBlockHandle → List LogItem → List LogItem
 placed handle items = written handle (laid_out 0 items)
 
--- The item of a record whose entry block is at `handle`. Its entries get that handle and an offset in the block, the
--- first `offset`. An operation on a key gets the file of the block.
+-- The item, once its record's entry block is at `handle`. Each entry gets this handle and its offset in the block; the
+-- first is at `offset`. An operation on a key gets the block's file.
 abbrev pub placed_item : FileBlockHandle → ℕ → LogItem → LogItem
 placed_item handle offset x = written_item handle (record x { content = laid_content offset x.content })
 
@@ -78,9 +76,10 @@ pub record ArePlaced (handle : FileBlockHandle) (plain items : List LogItem) (le
   pub sum : len ≡ min (entries_len plain) (2 ^ 64 - 1)
   pub places : entries_len plain < 2 ^ 32 → items ≡ placed handle plain
 
--- The result of decoding items; `reading` is what reading the bytes `old` gives. The decoder returned the items of
--- `reading`, with their places in the block at `handle`, and the length of their entries. `new` are the bytes that are
--- left. If it fails, it does so as `reading` does, or for lack of memory, and it consumes nothing.
+-- A decoder's result on the bytes `old`; `new` are the bytes that it left. `reading` is the result of reading `old`
+-- without a block (`Reading.antt`). The decoder returned the items of `reading`, with their places in the block at
+-- `handle`, and the length of their entries. If it fails, it does so as `reading` does, or for lack of memory, and it
+-- consumes nothing.
 abbrev pub ReadsPlaced :
     FileBlockHandle → Result (Vec LogItem × ℕ) Error → List ℕ → List ℕ
     → Result (List LogItem × List ℕ) Fault → Type 0

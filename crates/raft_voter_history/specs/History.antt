@@ -1,5 +1,6 @@
--- The history of a store: the records of all rounds that it served, in order. It exists in proofs alone. A keeper and
--- its claims are passes of a cell of the standard library. The view of a pass says what the pass knows of the history.
+-- The history of a store: the records of all its rounds, in order. It exists in proofs alone. A keeper and each claim
+-- are passes of a cell of the standard library: values without bytes. The view of a pass says what the pass knows of
+-- the history.
 use Rattle.std.specs.Prelude.{◌≡◌, ℕ, List, [], ◌++◌, length, Bool, true, false}
 use mathlib.Core.Option.{some}
 use lib.ListN.{get_elem?}
@@ -30,22 +31,23 @@ claims_part first part = record { keeps = false; all = []; claims = true; first 
 abbrev pub spent : View
 spent = record { keeps = false; all = []; claims = false; first = 0; part = [] }
 
--- What the view `v` of the pass at position `by` says is true of the history `log`. Only the pass at position `seat`
--- may know the whole history, and what it knows is `log`. If the view has a claim, the claim is true.
+-- The view `v`, of the pass at position `by`, is true of the history `log`. Only the pass at position `seat` may know
+-- the whole history, and what it knows is `log`. If the view has a claim, the claim is true.
 abbrev pub IsTrue : ℕ → List Round → ℕ → View → Type 0
 IsTrue seat log by v =
     (v.keeps ≡ true → (by ≡ seat) × (v.all ≡ log)) × (v.claims ≡ true → HasPart log v.first v.part)
 
--- there is one history, of which each view is true
+-- there is one history of which each of the views is true
 abbrev pub IsOneHistory : List ℕ → List View → Type 0
 IsOneHistory words views =
     (seat : ℕ) × (log : List Round) × ((by : ℕ) (v : View) → get_elem? views by ≡ some v → IsTrue seat log by v)
 
--- the records `part` were added to the history that the pass with the view `v` knows
+-- the records `part` were added to the history that the pass with the view `v` knows; its view is `w` then
 abbrev pub Notes : List Round → View → List ℕ → List ℕ → View → Type 0
 Notes part v before after w = w ≡ knows (v.all ++ part)
 
--- the pass that knows the history still knows it, and if it took in a claim, the claim is true
+-- The pass that knows the history still knows it; its view was `v` and is `w`. If it had taken in a claim, the claim is
+-- true.
 abbrev pub Finds : View → List ℕ → List ℕ → View → Type 0
 Finds v before after w = (w ≡ knows v.all) × (v.claims ≡ true → HasPart v.all v.first v.part)
 

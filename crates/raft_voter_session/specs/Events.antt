@@ -37,14 +37,14 @@ crash_at text = do
   left ← left_at text
   Some (alone (Crash left))
 
--- `crash-at N R`: a crash that leaves `R`, at the `N`-th call that changes files
+-- `crash-at N R`: a crash at the `N`-th call from now that changes files; it leaves `R`
 unfoldable pub stop_at : List ℕ → Option Told
 stop_at text = do
   calls ← count_at text
   left ← left_at calls.1
   Some (alone (CrashAt calls.0 left))
 
--- `refuse N`: the `N`-th call that changes files fails
+-- `refuse N`: the `N`-th call from now that changes files fails
 unfoldable pub refuse_at : List ℕ → Option Told
 refuse_at text = do
   calls ← count_at text

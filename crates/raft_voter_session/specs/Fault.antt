@@ -4,7 +4,8 @@ use Rattle.raft_voter_session.specs.declared.session.SessionFault.{SessionFault}
 use Rattle.raft_voter_session.specs.declared.session.SessionFault.TheVariants.{Unreadable, Memory}
 use Rattle.raft_voter_session.specs.Told.{SessionContent}
 
--- the error may be `Unreadable` only with the number of the first unreadable line; it may always be `Memory`
+-- Which errors may be returned. `known` is what the text encodes: a session, or the number of its first unreadable
+-- line. `Unreadable` may be returned only with this number, and `Memory` always.
 abbrev pub TellsLineFault : Result SessionContent ℕ → SessionFault → Type 0
 TellsLineFault known (Unreadable number) = known ≡ Err number
 TellsLineFault known Memory = Unit {0}

@@ -109,8 +109,9 @@ abbrev pub is_last : List (List ℕ) → Bool
 is_last [] = true
 is_last (piece ∷ pieces) = false
 
--- The session after these pieces and the earlier lines, or the number of the first unreadable line. The first piece is
--- line `number`, and the last one is the text after the last line feed.
+-- The session, or the number of the first unreadable line. `so_far` is what the earlier lines encode. The first of the
+-- pieces is line `number`, and the last one is the text after the last line feed. `whole` says whether the text was
+-- short enough.
 abbrev pub read_from : List (List ℕ) → ℕ → Bool → Progress → Result SessionContent ℕ
 read_from [] number whole so_far = Err number
 read_from (piece ∷ pieces) number whole so_far =

@@ -1,4 +1,5 @@
--- The text of a transcript: its rounds with their replies, the cuts, and the verdict of the judge on them.
+-- The text of a transcript: its rounds with their replies, the cuts, and the judge's verdict: whether voters that never
+-- crash give these replies with these cuts.
 use Rattle.std.specs.Prelude.{◌≡◌, ℕ, ◌+◌, Bool, true, false, List, [], ◌∷◌, ◌++◌, codes, string_bytes, String}
 use Rattle.std.specs.declared.alloc.Global.{Global}
 use Rattle.std.specs.Fmt.{decimal}
@@ -58,7 +59,7 @@ abbrev pub verdict_text : Bool → List ℕ
 verdict_text true = codes "verdict yes\n"
 verdict_text false = codes "verdict no\n"
 
--- the text of a transcript: these rounds, numbered from 0, the line of their cuts, and the verdict
+-- the text of a transcript: these rounds, numbered from 0, the line of the cuts, and the verdict
 unfoldable pub transcript_text : List Round → List ℕ → Bool → List ℕ
 transcript_text rounds cuts verdict =
     rounds_text 0 rounds ++ codes "cuts" ++ spaced_all cuts ++ codes "\n" ++ verdict_text verdict

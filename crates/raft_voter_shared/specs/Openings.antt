@@ -16,7 +16,7 @@ abbrev pub own_cut : Outcome → ℕ → List ℕ
 own_cut (Answered replies) place = []
 own_cut Cut place = place ∷ []
 
--- the cuts of these rounds, if nothing was taken of those that were cut off: 0 for each of them
+-- the cuts of these rounds, if nothing was taken of those that were cut off: 0 for each of those
 abbrev pub untaken : List Round → List ℕ
 untaken [] = []
 untaken (r ∷ rounds) = own_cut r.outcome 0 ++ untaken rounds
@@ -36,7 +36,7 @@ cuts_at rounds (Some (InRounds first end)) place =
     untaken (take first rounds) ++ (spread place (between first end rounds) ++ untaken (drop end rounds))
 cuts_at rounds failure place = untaken rounds
 
--- World `X` has the voters after the round `cut`, which was cut off at position `place`: the voters before it took its
+-- World `X` has the voters after the round `cut`, which was cut off at position `place`. The voters before it took its
 -- requests below `place`, except the refused ones.
 abbrev pub TookUpTo : CutRound → World → ℕ → Type 0
 TookUpTo cut X place =
@@ -66,18 +66,19 @@ all_rounds ss = flat_map (λ s. s.journal) ss
 abbrev pub all_cuts : List Session → List ℕ
 all_cuts ss = flat_map (λ s. cuts_at s.journal s.failure s.place) ss
 
--- Let openings lead from world `W` to `X`. Then voters that start in `W` and never fail give exactly the replies in the
--- openings' rounds, with their cuts. Afterwards these voters are those of `X`.
+-- Suppose that openings lead from world `W` to `X`. Then voters that start in `W` and never fail give exactly the
+-- replies in the openings' rounds, with the cuts `all_cuts`. Afterwards these voters are those of `X`.
 abbrev pub OpeningsLead : Type 0
 OpeningsLead = (W X : World) (ss : List Session) → Openings W ss X → Leads W (all_rounds ss) (all_cuts ss) X
 
 -- If openings begin with fresh voters, fresh voters that never fail give exactly the replies in the openings' rounds,
--- with their cuts.
+-- with the cuts `all_cuts`.
 abbrev pub OpeningsAreExplained : Type 0
 OpeningsAreExplained = (X : World) (ss : List Session) → Openings fresh_world ss X → Explains (all_rounds ss) (all_cuts ss)
 
--- A store `old` was closed, a crash left files, and they were opened as `new`. Unless there was a CRC collision, `new`
--- serves voters that are possible after each cut-off round that `old` left.
+-- The store `old` was closed, and left `files`; a crash made of these the files `left`, and a store `new` was opened
+-- over them. Suppose there is no CRC collision in `left`, neither as an image of `files` nor of `left` itself. Then
+-- `new` serves voters that are possible after each cut-off round that `old` left.
 abbrev pub OpeningsGoOn : {S F : Type 0} → Service S → Files S F → Type 0
 OpeningsGoOn {S} {F} v f =
     (old new : S) (files left : F) (cut : CutRound) → ∥ v.leaves old cut ∥₁ → LeavesInFiles v f old files

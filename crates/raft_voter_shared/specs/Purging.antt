@@ -17,7 +17,7 @@ pub record KeepsServed {S : Type 0} (v : Service S) (old new : S) : Type 0 where
 
 -- A shared store was purged. It served voters of `served` when it was shared.
 -- - `does`: the purge changed the store `old` into `new`, as `Does` says. `keeps`: no voter changed.
--- - `history`: the rounds that it had served before. `legal`: they are a legal history.
+-- - `history`: the records of its rounds before the purge. `legal`: they are a legal history.
 -- - `serves`: unless it had failed before, it served the voters after the history.
 pub record IsPurge {S : Type 0} (v : Service S) (served : World → Type 0) (Does : S → S → Type 0) : Type 0 where
   pub old : S

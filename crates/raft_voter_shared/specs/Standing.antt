@@ -1,5 +1,5 @@
--- Which voters are possible after a journal: those after all its records. But if the store failed in rounds that it
--- served together, the voters may have taken any first part of these rounds' requests.
+-- Which voters are possible after a journal: those after all its records. If the store failed in rounds that it served
+-- together, the voters before these rounds took any prefix of their requests, except the refused ones.
 use Rattle.std.specs.Prelude.{ℕ, ◌+◌, ◌-◌, ◌&&◌, nat_le, nat_lt, Bool, true, false, List, [], ◌∷◌, ◌++◌, length, map, take, drop, Option, Some}
 use Rattle.std.specs.List.{flat_map, list_all}
 use Rattle.raft_voter_messages.specs.declared.request.Request.{Request}
@@ -47,13 +47,14 @@ is_cut Cut = true
 abbrev pub are_cut : List Round → Bool
 are_cut rounds = list_all (λ round. is_cut round.outcome) rounds
 
--- if the store failed in rounds, the journal has their records, at least one, and these and all later ones were cut off
+-- If the store failed in rounds, the journal has at least one record of them. These and all later records are of rounds
+-- that were cut off.
 abbrev pub is_last : Option Failure → List Round → Bool
 is_last (Some (InRounds first end)) rounds = nat_lt first end && nat_le end (length rounds) && are_cut (drop first rounds)
 is_last failure rounds = true
 
--- What is noted of how the store failed, after rounds were cut off together for this cause. Their records are those
--- from `first` to below `end`. Only the cause `FileSystem` changes what was noted before (`failure`).
+-- How the store failed, noted after rounds were cut off together for this cause. Their records are those from `first`
+-- to below `end`. Only the cause `FileSystem` changes what was noted before (`failure`).
 abbrev pub failure_behind : Cause → ℕ → ℕ → Option Failure → Option Failure
 failure_behind FileSystem first end failure = Some (InRounds first end)
 failure_behind cause first end failure = failure

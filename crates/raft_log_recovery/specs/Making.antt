@@ -45,7 +45,7 @@ module _ {F : Type 0} (disk : F → Disk) (tells : F → List ℕ → ℕ → Ty
       × FailsToCreate (paths.reserved directory seq) kind (disk old) (disk new))
   FailsToMake paths size seq _ old new = ⊥
 
-  -- these files were made, with rising numbers from `seq` on; `full` says whether a write failed for lack of space
+  -- these files were made, with consecutive numbers from `seq` on; `full` says whether a write failed for lack of space
   abbrev pub MakesEach : FilePaths → List ℕ → ℕ → ℕ → List File → Bool → F → F → Type 0
   MakesEach paths bytes size seq [] full old new = (full ≡ false) × (new ≡ old)
   MakesEach paths bytes size seq (file ∷ files) full old new = (one : Bool) × (others : Bool) × (mid : F)

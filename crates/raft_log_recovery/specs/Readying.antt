@@ -27,8 +27,7 @@ kept_of full wanted = if full then 0 else wanted
 
 -- `disk` gives the disk of a file system's state. `tells` says which sizes it may return as a directory's free space.
 module _ {F : Type 0} (disk : F → Disk) (tells : F → List ℕ → ℕ → Type 0) where
-  -- reserved files were made until there were `wanted`; `all` are the files that were there (`files`), then the new
-  -- ones
+  -- reserved files were made until there were `wanted`; `all` has the `files` that were there, and then the new ones
   pub record MakesMissing (paths : FilePaths) (size wanted : ℕ) (files all : List File) (full : Bool)
       (old new : F) : Type 0 where
     pub made : List File

@@ -47,7 +47,7 @@ taken_as markings.Unmarked xs = Some (Plain xs)
 taken_as (markings.Part id status) xs = Some (Part (part_of id status) xs)
 taken_as markings.Broken xs = None
 
--- the record, read from file `n`
+-- the record as one that was read from file `n`
 abbrev pub in_file : ℕ → Record Located KeyValue → ReadRecord
 in_file n r = record { file = n; taken = r }
 
@@ -81,7 +81,8 @@ AreReplayed q rs z =
     Tidy (records_of rs) → (g : ℕ) → AreHealthy (counted g rs) → IsReplayed q (counted g rs) (z g)
 
 -- If `old` is the result of replaying the items `before` of a raft group, `new` is that of replaying these and then the
--- group's items in `xs`. This is claimed only if all these runs leave no hole, and their indexes are below 2 ^ 64 - 1.
+-- group's items in `xs`: in Append if `q` is true, else in Rewrite. This is claimed only if all these runs leave no
+-- hole, and their indexes are below 2 ^ 64 - 1.
 abbrev pub TablesTake : Bool → List ReadItem → (ℕ → Replayed) → (ℕ → Replayed) → Type 0
 TablesTake q xs old new =
     (g : ℕ) (before : List (Item Located KeyValue)) → AreHealthy (before ++ of_group g xs)

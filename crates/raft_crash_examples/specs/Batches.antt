@@ -27,8 +27,8 @@ abbrev pub said_by_both : KeyChange → KeyChange → LogRecordValue
 said_by_both one other = Plain (record { group = one.group; item = word_of one.key.items one.value }
     ∷ record { group = other.group; item = word_of other.key.items other.value } ∷ [])
 
--- The log had the contents `m` before a write of the batch. Now its contents are `m` without the batch, `m` with the
--- batch, or `m` with the batch still pending. If the write succeeded (`answered`), they are `m` with the batch.
+-- The log had the contents `m`, and then the batch was written. Now its contents are `m` without the batch, `m` with
+-- the batch, or `m` with the batch still pending. If the write succeeded (`answered`), they are `m` with the batch.
 pub record MayHave (answered : Bool) (home : LogDirectories) (e : EngineState) (m : LogMap) (batch : LogRecordValue) : Type 0 where
   pub done : List LogRecordValue
   pub rest : List LogRecordValue

@@ -42,13 +42,13 @@ readings_of log = record {
   append = λ image s files. MayRead log.says log.append.format image.append.first image.disk s files;
 }
 
--- after any crash of the log `s`, a recovery reads what the numbered files `f` allow: only the newest unsynced records
--- of each queue may be missing
+-- after any crash of the log `s` without a CRC collision (`IsLeftByCrash`), a recovery reads what the numbered files
+-- `f` allow: only the newest unsynced records of each queue may be missing
 abbrev pub AllowsIn : {R E V : Type 0} → TwoQueues R E V → LogOnDisk R → Files E V → Type 0
 AllowsIn log s f = Allows (readings_of log) s f
 
--- if the last file of each queue holds its records, then after any crash a recovery reads what the log's numbered files
--- allow
+-- if the last file of each queue holds its records, then after any crash without a CRC collision a recovery reads what
+-- the log's numbered files allow
 abbrev pub HeldIsAllowed : {R E V : Type 0} → TwoQueues R E V → Type 0
 HeldIsAllowed {R} {E} {V} log = AreTwoQueues log → (s : LogOnDisk R) (f : Files E V)
     → IsSound s.disk → HoldsBoth log s → Ties log s f → AllowsIn log s f

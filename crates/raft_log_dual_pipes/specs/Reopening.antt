@@ -148,7 +148,7 @@ OpenIsAStep {R} log = AreTwoQueues log → (which : Which) (o : OpenPipes) (begi
 -- - `append_first`, `rewrite_first`, `still`: reading one queue and then the other reads both. A queue without unsynced
 --   records counts as read again.
 -- - `log_of`: the contents are the map after a prefix of the pending batches, and no batch is pending.
--- - `replays`: if the view is built from whatever is read, the step from `s` to `t` is a replay in the model.
+-- - `replays`: if an engine's view `v` is built from what was read, the step from `s` to `t` is a replay in the model.
 pub record FoundLogIsALog {R E V : Type 0} (log : TwoQueues R E V) : Type 0 where
   pub append_first : (s mid t : LogOnDisk R) → ReadsAgain (Ties log) InAppend s mid
       → ReadsAgain (Ties log) InRewrite mid t → ReadsBothAgain (Ties log) s t

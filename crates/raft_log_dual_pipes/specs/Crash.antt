@@ -1,4 +1,5 @@
--- What a crash leaves of a log on a disk, and what a recovery may read then.
+-- What a crash leaves of a log on a disk, and what a recovery may read then. Numbered files are how the model sees the
+-- files of a log: each has a number and records.
 use Rattle.std.specs.Prelude.{◌≡◌, ℕ, ◌≤◌, List, [], ◌∷◌, map}
 use Rattle.raft_log_model_laws.specs.Item.{Record}
 use Rattle.raft_log_machine_laws.specs.Files.{LogFile}

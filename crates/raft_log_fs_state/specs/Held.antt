@@ -1,4 +1,5 @@
--- The files that a file system in memory stores, and their content, synced bytes and unsynced changes.
+-- The files that a file system in memory stores, and their content, synced bytes and unsynced changes. A file's node
+-- number is given once, by the disk. A change's stamp is the number of changes, of any file, that were made before it.
 use Rattle.std.specs.Prelude.{◌≡◌, ℕ, ◌-◌, ◌<◌, min, length, take, drop, List, [], ◌∷◌, ◌++◌, Option, Some, None}
 use Rattle.std.specs.Map.{update}
 use Rattle.std.specs.List.{All}

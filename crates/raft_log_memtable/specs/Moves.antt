@@ -1,5 +1,5 @@
--- Copies of entries and values into Rewrite, and the Compact that a table owes. The gate of a purge is the last file
--- of Append whose content it may copy.
+-- Copies of entries and values into Rewrite, and the Compact that a table owes to Rewrite (a tombstone). The gate of a
+-- purge is the last file of Append whose content it may copy.
 use Rattle.std.specs.Prelude.{ℕ, ◌+◌, ◌-◌, ◌≤◌, max, min, Bool, false, not, ◌||◌, List, [], ◌∷◌, ◌++◌, length, take, drop, Option, Some, None, if◌then◌else◌, nat_le, nat_lt}
 use Rattle.raft_log_model_laws.specs.Item.{Item}
 use Rattle.raft_log_model_laws.specs.Item.Item.{Run}

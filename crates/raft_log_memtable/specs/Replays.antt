@@ -27,8 +27,8 @@ under v f =
       rewritten = min v.rewritten (f - v.first);
     }
 
--- The first index of the entries if nothing is before them. Without entries it is 0, unless a Clean is owed; then it
--- is unchanged.
+-- The first index of the entries if nothing is before them. Without entries it is 0, unless a Clean is owed (a
+-- tombstone); then it is unchanged.
 abbrev pub begin_alone : Shown → ℕ
 begin_alone v = if v.cleaned then v.first else (if nat_lt 0 (length v.places) then v.first else 0)
 

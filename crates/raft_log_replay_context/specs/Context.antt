@@ -47,8 +47,7 @@ AreCounting rs counting =
 
 -- The context has read exactly these records of a queue.
 -- - `tables`, `counting`: its tables are those of the items that take effect, and know which raft groups count.
--- - `plain`, `fit`, `none`: in Append, all records take effect at once, the indexes of their runs are below
---   2 ^ 64 - 1, and the tables record no files of atomic groups.
+-- - `plain`, `fit`, `none`: in Append, records take effect at once, indexes are below 2 ^ 64 - 1, no file is recorded.
 -- - `notes`, `ends`: in Rewrite, the tables record the files of atomic groups, but none past those that were read.
 -- - `pieces`: it has the pieces of atomic groups that the records leave open, or that began before them.
 pub record HasRead (queue : LogQueue) (rs : List ReadRecord) (c : MemTableRecoverContext) : Type 0 where

@@ -68,7 +68,8 @@ abbrev pub RunsFit : {E V : Type 0} → List (Item E V) → Type 0
 RunsFit [] = Unit {0}
 RunsFit (x ∷ xs) = Fits x × RunsFit xs
 
--- no run of the items leaves a hole, and the indexes of each run are below 2 ^ 64 - 1
+-- no run of the items leaves a hole (begins past the end of the entries before it), and the indexes of each run are
+-- below 2 ^ 64 - 1
 abbrev pub AreHealthy : {E V : Type 0} → List (Item E V) → Type 0
 AreHealthy xs = NoHole nothing xs × RunsFit xs
 

@@ -1,4 +1,4 @@
--- How an open makes the reserved files that the settings want.
+-- How an open makes the reserved files that the settings want: files kept for recycling, under names of their own.
 use Rattle.std.specs.Prelude.{◌≡◌, ◌-◌, ◌⊎◌, ◌^◌, ◌++◌, ℕ, suc, min, max, Bool, if◌then◌else◌, Option, Some, None, List, length, take, drop, reverse}
 use Rattle.std.specs.List.{last_or}
 use Rattle.raft_log_record_base.specs.declared.errors.Error.{Error}

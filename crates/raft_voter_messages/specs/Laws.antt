@@ -6,7 +6,8 @@ use Rattle.raft_voter_messages.specs.declared.stored.StoredFault.{StoredFault}
 use Rattle.raft_voter_messages.specs.declared.stored.StoredFault.TheVariants.{Memory}
 use Rattle.raft_voter_messages.specs.StoredForms.{EntryFault, IsEntry, IsState, StateFault, entry_text, state_fits, state_text, stored_entry_fits}
 
--- a voter's state with the index and term of its base in place of those of the last entry, as a store keeps it
+-- a voter's state as a store keeps it: with the index and term of its base (a snapshot's last included ones) in place
+-- of those of the last entry
 abbrev pub bare : VoterState → VoterState
 bare s = record s { last_index = s.base_index; last_term = s.base_term }
 

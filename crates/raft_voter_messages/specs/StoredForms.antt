@@ -1,5 +1,5 @@
 -- How a voter's state and its entries are stored as bytes. The first byte is the number of the form. A form defines
--- which bytes may follow and which faults they can have.
+-- which bytes may follow and which faults they can have. A state's base is a snapshot's last included index and term.
 use Rattle.std.specs.Prelude.{◌≡◌, ◌≢◌, ℕ, ◌<◌, ◌≤◌, ◌⊎◌, ◌&&◌, nat_le, Bool, true, IsTrue, List, [], ◌∷◌, ◌++◌, length, Option, None, Some}
 use Rattle.std.specs.Int.{to_be_bytes, w64}
 use Rattle.std.specs.Option.{option_map_or}

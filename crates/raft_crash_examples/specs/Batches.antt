@@ -73,9 +73,9 @@ AreBoth one other first second = (first ≡ value_behind one.group one.key.items
 abbrev pub IsNeither : Option (List ℕ) → Option (List ℕ) → Type 0
 IsNeither first second = (first ≡ None) × (second ≡ None)
 
--- Two changes were written in one batch, there was a crash, and both keys were read. Suppose that there was no log at
--- first, both settings name the same directories, and there is no CRC collision. Then either both keys have the values
--- of the changes, or neither key has a value. If the write succeeded, both have the values of the changes.
+-- Two changes were written in one batch, there was a crash, and both keys were read, with the settings `again`. Suppose
+-- that there was no log at first, both settings name the same directories, and there is no CRC collision. Then either
+-- both keys have the values of the changes, or neither key has a value. If the write succeeded, both have those values.
 pub record WritesBothOrNeither {F : Type 0} (disk : F → Disk) (tells : F → List ℕ → ℕ → Type 0) (config : Config)
     (one other : KeyChange) (again : Config) (old : F) (answered : Bool) (first second : Option (List ℕ))
     : Type 0 where

@@ -1,4 +1,5 @@
--- The log at a crash, and the premise on CRC collisions.
+-- The log at a crash, and the premise that there is no CRC collision: no bytes that pass as a record though nobody
+-- wrote it there.
 use Rattle.std.proofs.Common.{inl, inr}
 use Rattle.std.specs.Prelude.{◌≡◌, ◌⊎◌, List, true}
 use Rattle.raft_log_engine.specs.raft_log_fs.specs.Disk.{Disk}

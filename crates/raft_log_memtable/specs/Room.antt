@@ -73,7 +73,7 @@ module _ {E V : Type 0} where
   HasRoom has (Del k) = has k ≡ true
   HasRoom has _ = Unit {0}
 
-  -- Applying the item can't fail: enough places are reserved, its key has a slot, its run leaves no hole, and the
+  -- Applying the item can't fail. Enough places are reserved, and its key has a slot. Its run leaves no hole, and the
   -- indexes of the run are below 2 ^ 64 - 1.
   abbrev pub CanTake : Shown → Promise → Item E V → Type 0
   CanTake v q x = (count_of x ≤ q.wanted) × HasRoom q.has x × MayFollow (span v) x

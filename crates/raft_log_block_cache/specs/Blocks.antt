@@ -17,7 +17,7 @@ use Rattle.raft_log_dual_pipes.specs.Pipes.{LogPipes, LogSense, RunsOn, State, f
 use Rattle.raft_log_block_cache.specs.Stored.{BlockLiesIn, KeepsLog, block_at, part}
 use Rattle.raft_log_block_cache.specs.declared.block_cache.BlockCache.{BlockCache}
 
--- the file system has `bytes` at the location of `block`, in the file that the pipe of the block's queue has under the
+-- the file system has `bytes` at the location of `block`; the pipe of the block's queue has that file open under the
 -- block's file number
 abbrev pub StandsAt : LogPipes → FileBlockHandle → List ℕ → Type 0
 StandsAt v block bytes = IsReadAt (pipe_at (which_of block.id.queue) (files_of v)) block bytes v.disk

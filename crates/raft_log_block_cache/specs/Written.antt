@@ -49,8 +49,8 @@ pub record IsLaidOver (items : List LogItem) (entries : List ℕ) : Type 0 where
 abbrev pub placed_items : FileBlockHandle → List LogItem → List ℕ → List (Tagged Place (List ℕ))
 placed_items block items entries = tagged_items place_of (written (block_place block entries) items)
 
--- If the last record of Append is this batch's, with its entry block at `block`, each of its entries is in the log at
--- its location, with the bytes that were added to the batch. Premise: the entry block is whole.
+-- If the last record of Append is this batch's, at `block`, each of its entries is in the log at its location. It has
+-- the bytes there that were added to the batch. Premise: the batch's entry block is whole.
 abbrev pub WrittenEntriesAreStored : Type 0 → Type 0
 WrittenEntriesAreStored R = (s : LogOnDisk R) (said : R) (block : FileBlockHandle) (items : List LogItem)
     (entries : List ℕ)

@@ -31,8 +31,8 @@ abbrev pub OneEntry : Type 0
 OneEntry =
     (bytes : List ℕ) (i j : ℕ) (e f : Entry) → IsEntry bytes i e → IsEntry bytes j f → (i ≡ j) × (e ≡ f)
 
--- If bytes have a fault other than `Memory` for an index, they encode no entry at that index, and they have no other
--- fault for it.
+-- If bytes have a fault other than `Memory` for an index, they encode no entry at that index. They have no other fault
+-- for it.
 abbrev pub OneEntryFault : Type 0
 OneEntryFault =
     (bytes : List ℕ) (index : ℕ) (fault : StoredFault) → fault ≢ Memory → EntryFault fault bytes index

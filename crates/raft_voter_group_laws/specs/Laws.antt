@@ -25,8 +25,8 @@ abbrev pub EachGroupHasOneVoter : Type 0
 EachGroupHasOneVoter =
     (rounds : List Round) (cuts : List ℕ) → Explains rounds cuts → (group : ℕ) → HasOneVoter group rounds cuts
 
--- If the rounds lead from world `W` (each group's voter) to world `X`, the callers of each group saw exactly what the
--- group's voter in `W` shows. This voter, after its calls in these rounds, is the group's voter in `X`.
+-- Worlds `W` and `X` give each group's voter. If the rounds lead from `W` to `X`, the callers of each group saw exactly
+-- what the group's voter in `W` shows. This voter, after its calls in these rounds, is the group's voter in `X`.
 abbrev pub EachGroupKeepsItsVoter : Type 0
 EachGroupKeepsItsVoter =
     (W X : World) (rounds : List Round) (cuts : List ℕ) → Leads W rounds cuts X
@@ -62,9 +62,9 @@ GroupsAloneExplain =
     → Explains rounds cuts ↔ (PlacesFit rounds cuts × ((group : ℕ) → HasOneVoter group rounds cuts))
 
 -- An Append with the reply `Matched` brought entry `e` (a term and bytes) for index `i`. A later Read of the same group
--- returned a range with `i`. If each request in `between`, taken between these two, leaves the voter's entry at `i`
--- (`AllSpare`), the Read returned an entry with index `i` and the term of `e`. Its bytes are those of `e`, or those of
--- an entry of this term that the voter had at `i` before the Append.
+-- returned a range with `i`. Each request taken `between` them leaves the voter's entry at `i` (`AllSpare`). Then the
+-- Read returned an entry with index `i` and the term of `e`. Its bytes are those of `e`, or those of an entry of this
+-- term that the voter had at `i` before the Append.
 abbrev pub AppendedEntryIsRead : Type 0
 AppendedEntryIsRead =
     (rounds : List Round) (cuts : List ℕ) (group : ℕ) → Explains rounds cuts

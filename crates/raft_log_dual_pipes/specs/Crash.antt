@@ -48,8 +48,8 @@ readings_of log = record {
 abbrev pub AllowsIn : {R E V : Type 0} → TwoQueues R E V → LogOnDisk R → Files E V → Type 0
 AllowsIn log s f = Allows (readings_of log) s f
 
--- if the last file of each queue holds its records, then after any crash without a CRC collision a recovery reads what
--- the log's numbered files allow
+-- If the last file of each queue holds its records, a recovery reads what the log's numbered files allow. This holds
+-- after any crash without a CRC collision.
 abbrev pub HeldIsAllowed : {R E V : Type 0} → TwoQueues R E V → Type 0
 HeldIsAllowed {R} {E} {V} log = AreTwoQueues log → (s : LogOnDisk R) (f : Files E V)
     → IsSound s.disk → HoldsBoth log s → Ties log s f → AllowsIn log s f

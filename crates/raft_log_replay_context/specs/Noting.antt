@@ -31,7 +31,7 @@ ReadsParts (p ∷ ps) old new =
     (next : MemTables) × ReadsAll false p.file old next (tagged_items place_of p.items.items)
     × ReadsParts ps next new
 
--- the range of files after `so_far` was extended by the files of these records, one after another
+-- the range of files `so_far`, extended by the files of these records, one after another
 abbrev pub files_after : Option GroupFiles → List GroupPart → Option GroupFiles
 files_after so_far [] = so_far
 files_after so_far (p ∷ ps) = files_after (Some (with_file so_far p.file)) ps

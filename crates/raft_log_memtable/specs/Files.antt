@@ -55,7 +55,7 @@ abbrev pub with_group : Raw → GroupFiles → Shown
 with_group t files = record (shown t) { noted = Some (noted_after (least_rewritten t) t.noted files) }
 
 -- `u` is the table `v` after it recorded an atomic group in these files. Files recorded before are dropped if the
--- table's lowest file of Rewrite is past them.
+-- table's lowest file of Rewrite is past them, or if it has nothing in Rewrite.
 abbrev pub NotesGroup : GroupFiles → Shown → Shown → Type 0
 NotesGroup files v u =
     (least : Option ℕ) × IsLeastRewritten v least

@@ -17,8 +17,8 @@ use Rattle.raft_log_dual_pipes.specs.Pipes.{LogPipes, LogSense, RunsOn, State, f
 use Rattle.raft_log_block_cache.specs.Stored.{BlockLiesIn, KeepsLog, block_at, part}
 use Rattle.raft_log_block_cache.specs.declared.block_cache.BlockCache.{BlockCache}
 
--- the file system has `bytes` at the location of `block`; the pipe of the block's queue has that file open under the
--- block's file number
+-- `bytes` are at the location of `block`: in the file that the pipe of the block's queue lists under the block's file
+-- number
 abbrev pub StandsAt : LogPipes → FileBlockHandle → List ℕ → Type 0
 StandsAt v block bytes = IsReadAt (pipe_at (which_of block.id.queue) (files_of v)) block bytes v.disk
 
@@ -114,8 +114,8 @@ abbrev pub AddsEntries : {M : Type 0} → (List ℕ → Option M) → LogPipes �
 AddsEntries {M} reading v es old new were now =
     (more : List M) × (now ≡ were ++ more) × ReadsEntries reading v es old new more
 
--- Why reading the entries in order fails: after some of them were read, memory ran out, or reading the next one failed
--- with `error`.
+-- Why reading the entries in order fails: after some of them (or none) were read, memory ran out, or reading the next
+-- one failed with `error`.
 abbrev pub AreUnread : {M : Type 0} → (List ℕ → Option M) → LogPipes → List EntryIndex → BlockCache → BlockCache
     → Error → Type 0
 AreUnread reading v [] old new error = (error ≡ errors.Memory) × (new ≡ old)

@@ -10,7 +10,7 @@ use Rattle.raft_log_recovery_laws.specs.Left.{IsCrashOf}
 use Rattle.raft_log_recovery_laws.specs.Running.{LeavesNoChance}
 
 -- the engine runs, and its log has the contents `m` with the batches `pending`; or it has failed, and its files can be
--- opened with these
+-- opened with these contents and batches
 abbrev pub RunsOrIsLeft : LogDirectories → EngineState → LogMap → List LogRecordValue → Type 0
 RunsOrIsLeft home e m pending =
     Represents home e m pending ⊎ ((has_failed e ≡ true) × IsRecoverableAs home e.pipes.disk m pending)

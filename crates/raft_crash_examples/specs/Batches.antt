@@ -27,8 +27,8 @@ abbrev pub said_by_both : KeyChange → KeyChange → LogRecordValue
 said_by_both one other = Plain (record { group = one.group; item = word_of one.key.items one.value }
     ∷ record { group = other.group; item = word_of other.key.items other.value } ∷ [])
 
--- The log had the contents `m` before a write of the batch. Now its contents are `m` without the batch, `m` with the
--- batch, or `m` with the batch still pending. If the write succeeded (`answered`), they are `m` with the batch.
+-- The log had the contents `m`, and then the batch was written. Now its contents are `m` without the batch, `m` with
+-- the batch, or `m` with the batch still pending. If the write succeeded (`answered`), they are `m` with the batch.
 pub record MayHave (answered : Bool) (home : LogDirectories) (e : EngineState) (m : LogMap) (batch : LogRecordValue) : Type 0 where
   pub done : List LogRecordValue
   pub rest : List LogRecordValue
@@ -73,9 +73,9 @@ AreBoth one other first second = (first ≡ value_behind one.group one.key.items
 abbrev pub IsNeither : Option (List ℕ) → Option (List ℕ) → Type 0
 IsNeither first second = (first ≡ None) × (second ≡ None)
 
--- Two changes were written in one batch, there was a crash, and both keys were read. Suppose that there was no log at
--- first, both settings name the same directories, and there is no CRC collision. Then either both keys have the values
--- of the changes, or neither key has a value. If the write succeeded, both have the values of the changes.
+-- Two changes were written in one batch, there was a crash, and both keys were read, with the settings `again`. Suppose
+-- that there was no log at first, both settings name the same directories, and there is no CRC collision. Then either
+-- both keys have the values of the changes, or neither key has a value. If the write succeeded, both have those values.
 pub record WritesBothOrNeither {F : Type 0} (disk : F → Disk) (tells : F → List ℕ → ℕ → Type 0) (config : Config)
     (one other : KeyChange) (again : Config) (old : F) (answered : Bool) (first second : Option (List ℕ))
     : Type 0 where

@@ -11,8 +11,8 @@ use Rattle.raft_log_recovery_laws.specs.Running.{LeavesNoChance}
 use Rattle.raft_crash_examples.specs.Saving.{Loads, Saves}
 
 -- A value was saved in a log, on a file system that was empty before. Then there was a crash, and the key was read from
--- the crash image with the settings `again`. Suppose that these name the same directories, and there is no CRC
--- collision. Then the saved value was read.
+-- the crash image with the settings `again`. Suppose that `again` names the same directories as `config`, and there is
+-- no CRC collision. Then the saved value was read.
 pub record SavesAcrossACrash {F : Type 0} (disk : F → Disk) (tells : F → List ℕ → ℕ → Type 0)
     (config again : Config) (group : ℕ) (key value : List ℕ) (found : Option (List ℕ)) : Type 0 where
   pub nothing : F

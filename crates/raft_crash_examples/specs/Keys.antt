@@ -3,7 +3,7 @@ use Rattle.std.specs.Prelude.{◌≡◌, ◌==◌, ◌&&◌, ℕ, List, [], ◌�
 use Rattle.std.specs.Prelude.{Option, option_map, if◌then◌else◌, bytes_eq}
 use Rattle.raft_crash_examples.specs.declared.changing.KeyChange.{KeyChange}
 
--- whether the change `c` is one of this key of this group
+-- whether `c` changes this key of this group
 abbrev pub is_of : ℕ → List ℕ → KeyChange → Bool
 is_of group key c = (c.group == group) && bytes_eq c.key.items key
 

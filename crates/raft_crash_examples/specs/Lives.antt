@@ -29,7 +29,8 @@ pub record OpensAndChanges {F : Type 0} (disk : F → Disk) (tells : F → List 
   pub changed : (home : LogDirectories) (m : LogMap) → HoldsFresh home pipes tables m
       → Represents home engine (taken m (map said_by changes)) []
 
--- One life of a log: it was opened with settings that name its directories, the changes were written, and it ended.
+-- One life of a log: it was opened with settings that name its directories, the changes were written durably, and it
+-- was closed or crashed.
 pub record LivesOnce {F C : Type 0} (disk : F → Disk) (tells : F → List ℕ → ℕ → Type 0) (life : Life C)
     (old new : F) : Type 0 where
   pub config : Config

@@ -44,7 +44,7 @@ ProperClosesLeaveNoChance = (home : LogDirectories) (e : EngineState) (m : LogMa
     → ClosesWithoutChance home e.pipes d
 
 -- After a close, the pipe's active file has its header, the whole records that the pipe wrote, and then another record
--- of this file. No unsynced write of the file had been asked to write this other record there.
+-- of this file. No unsynced write of the file passed this other record there.
 pub record LeavesForeignBehind (F : Format LogRecord) (files : PipeFiles) (old new : Disk) : Type 0 where
   pub before : File
   pub was : old.files files.writer.handle.file ≡ Some before

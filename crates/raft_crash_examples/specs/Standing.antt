@@ -1,4 +1,5 @@
--- The log at a crash, and the premise on CRC collisions.
+-- The log at a crash, and the premise that there is no CRC collision: no bytes that pass as a record though nobody
+-- wrote it there.
 use Rattle.std.proofs.Common.{inl, inr}
 use Rattle.std.specs.Prelude.{◌≡◌, ◌⊎◌, List, true}
 use Rattle.raft_log_engine.specs.raft_log_fs.specs.Disk.{Disk}
@@ -9,7 +10,7 @@ use Rattle.raft_log_recovery_laws.specs.Left.{IsCrashOf}
 use Rattle.raft_log_recovery_laws.specs.Running.{LeavesNoChance}
 
 -- the engine runs, and its log has the contents `m` with the batches `pending`; or it has failed, and its files can be
--- opened with these
+-- opened with these contents and batches
 abbrev pub RunsOrIsLeft : LogDirectories → EngineState → LogMap → List LogRecordValue → Type 0
 RunsOrIsLeft home e m pending =
     Represents home e m pending ⊎ ((has_failed e ≡ true) × IsRecoverableAs home e.pipes.disk m pending)

@@ -43,10 +43,10 @@ pub record LoadsAndEnds {F C : Type 0} (disk : F → Disk) (tells : F → List �
   pub told : (home : LogDirectories) (m : LogMap) → HoldsFresh home pipes tables m → StandsUnder m group key found
   pub ends : Ends ending engine (disk new)
 
--- A value was put at a key without a sync, there was a crash, and the key was read as `first`. After more lives of the
--- log, it was read as `later`. Suppose that there was no log at first, all settings name the same directories, and
--- there is no CRC collision. Then `first` is none or the value that was put. `later` is the key's value after the
--- changes of these lives, if it was `first` before.
+-- A value was put at a key without a sync (settings `config`), there was a crash, and the key was read as `first`
+-- (`look`). After `lives` of the log, it was read as `later` (`last`). Suppose that there was no log at first, all
+-- settings name the same directories, and there is no CRC collision. Then `first` is none or the value that was put.
+-- `later` is the value that the changes of these lives give if the key had `first` before.
 pub record StaysAsRead {F C : Type 0} (disk : F → Disk) (tells : F → List ℕ → ℕ → Type 0) (config : Config)
     (group : ℕ) (key value : List ℕ) (look : Config) (ending : Ending C) (lives : List (Life C)) (last : Config)
     (old : F) (first later : Option (List ℕ)) : Type 0 where

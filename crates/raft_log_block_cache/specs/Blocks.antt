@@ -1,4 +1,5 @@
--- The cache of one entry block: which block it has, and how entries are read through it.
+-- The cache of one entry block: which block it has, and how entries are read through it. Below, `v` are the log's open
+-- pipes, and `old` and `new` the cache before and after a call.
 use Rattle.std.specs.Prelude.{◌≡◌, ℕ, ◌+◌, ◌-◌, ◌≤◌, ◌⊎◌, None, Option, Some, List, [], ◌∷◌, ◌++◌, length, IsOk, Err}
 use Rattle.raft_log_fs.specs.Reading.{IsUnread}
 use Rattle.raft_log_fs.specs.declared.handle.Handle.{Handle}
@@ -16,8 +17,8 @@ use Rattle.raft_log_dual_pipes.specs.Pipes.{LogPipes, LogSense, RunsOn, State, f
 use Rattle.raft_log_block_cache.specs.Stored.{BlockLiesIn, KeepsLog, block_at, part}
 use Rattle.raft_log_block_cache.specs.declared.block_cache.BlockCache.{BlockCache}
 
--- the file system has `bytes` at the location of `block`, in the file that this queue's pipe lists under the block's
--- file number
+-- `bytes` are at the location of `block`: in the file that the pipe of the block's queue lists under the block's file
+-- number
 abbrev pub StandsAt : LogPipes → FileBlockHandle → List ℕ → Type 0
 StandsAt v block bytes = IsReadAt (pipe_at (which_of block.id.queue) (files_of v)) block bytes v.disk
 
@@ -32,8 +33,8 @@ KeepsBlock v block old new = (new.place ≡ Some block)
     × (((old.place ≡ Some block) × (new ≡ old))
     ⊎ (IsNotKept block old × StandsAt v block new.bytes.items × IsOk (block_of new.bytes.items)))
 
--- the errors with which caching `block` can fail: reading its bytes fails, or decoding them fails, for example because
--- of a wrong checksum or for lack of memory
+-- the errors with which caching `block` can fail: those of reading its bytes, and those of decoding them, for example
+-- for a wrong checksum or lack of memory
 abbrev pub IsBlockUnread : LogPipes → FileBlockHandle → Error → Type 0
 IsBlockUnread v block error =
     IsReadRefused (pipe_at (which_of block.id.queue) (files_of v)) block v.disk error
@@ -88,7 +89,8 @@ IsEntryUnread {M} reading v entry old new error = (IsUnplaced entry error × (ne
     ⊎ (KeepsBlock v block old new × (IsNoEntry entry.entry_offset entry.entry_len new error
     ⊎ Parses {M = M} (Err error) (reading (part entry.entry_offset entry.entry_len new.bytes.items))))))
 
--- `entry` was read as `message`: its block is cached now, it is inside that block, and its bytes parse as `message`
+-- `entry` was read as `message`: its block is cached now, the entry is inside that block, and its bytes parse as
+-- `message`, as `reading` says
 pub record ReadsEntry {M : Type 0} (reading : List ℕ → Option M) (v : LogPipes) (entry : EntryIndex)
     (old new : BlockCache) (message : M) : Type 0 where
   pub block : FileBlockHandle
@@ -112,8 +114,8 @@ abbrev pub AddsEntries : {M : Type 0} → (List ℕ → Option M) → LogPipes �
 AddsEntries {M} reading v es old new were now =
     (more : List M) × (now ≡ were ++ more) × ReadsEntries reading v es old new more
 
--- Why reading the entries in order fails: after some of them were read, memory ran out, or reading the next one failed
--- with `error`.
+-- Why reading the entries in order fails: after some of them (or none) were read, memory ran out, or reading the next
+-- one failed with `error`.
 abbrev pub AreUnread : {M : Type 0} → (List ℕ → Option M) → LogPipes → List EntryIndex → BlockCache → BlockCache
     → Error → Type 0
 AreUnread reading v [] old new error = (error ≡ errors.Memory) × (new ≡ old)
@@ -140,7 +142,7 @@ IsOfLog s cache = (block : FileBlockHandle) → cache.place ≡ Some block
     → BlockIsStored s block × (cache.bytes.items ≡ written_block s block)
 
 -- After a block of the log was read through the cache, the cache has the bytes that were written to the log there. This
--- holds for each log over which the pipes run, if a block that was cached before was of this log too (`IsOfLog`).
+-- holds for each log `s` over which the pipes run. Premise: a block that was cached before is of this log (`IsOfLog`).
 abbrev pub KeptBlocksAreWritten : Type 0
 KeptBlocksAreWritten = (log : LogSense) (v : LogPipes) (s : State) → RunsOn log v s
     → (old new : BlockCache) → IsOfLog s old → (block : FileBlockHandle) → BlockIsStored s block

@@ -1,4 +1,5 @@
--- Which bytes a log has at each location: those that were written there as the file's header and records.
+-- Which bytes a log has at each location: those that were written there as the file's header and records. Below, `q` is
+-- a queue, `s` and `t` are logs on disks, and `v` is what the tables show of each group.
 use Rattle.std.specs.Prelude.{◌≡◌, ℕ, ◌+◌, ◌-◌, ◌≤◌, Bool, true, false, cond, List, [], ◌∷◌, ◌++◌, length, take, drop, IsOk}
 use Rattle.std.proofs.Common.{nat_eq}
 use Rattle.raft_log_model_laws.specs.Groups.{Map}

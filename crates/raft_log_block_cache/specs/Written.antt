@@ -32,8 +32,8 @@ RunIsStored s x = Unit {0}
 abbrev pub RunsAreStored : {R : Type 0} → LogOnDisk R → List (Tagged Place (List ℕ)) → Type 0
 RunsAreStored s xs = (g : ℕ) → Each (RunIsStored s) (of_group g xs)
 
--- Assume that the tables' entries are in the log, and a batch's entries are in Append. The batch may follow what the
--- tables show. After the tables apply the batch, all their entries are in the log.
+-- After the tables `v` apply a batch with the items `xs`, all their entries are in the log. Premises: their entries
+-- were in the log before, the batch's entries are in Append, and the batch may follow what the tables show.
 abbrev pub TakenEntriesAreStored : Type 0 → Type 0
 TakenEntriesAreStored R = (s : LogOnDisk R) (n : ℕ) (v : ℕ → Shown) (xs : List (Tagged Place (List ℕ)))
     → ((g : ℕ) → IsOrderly (v g)) → MayFollowAll v xs → AreStored s v → RunsAreStored s xs
@@ -49,8 +49,8 @@ pub record IsLaidOver (items : List LogItem) (entries : List ℕ) : Type 0 where
 abbrev pub placed_items : FileBlockHandle → List LogItem → List ℕ → List (Tagged Place (List ℕ))
 placed_items block items entries = tagged_items place_of (written (block_place block entries) items)
 
--- The last record of Append is this batch's, at `block`, and its entry block is whole. Then each of its entries is in
--- the log at its location, with the bytes that were added to the batch.
+-- If the last record of Append is this batch's, at `block`, each of its entries is in the log at its location. It has
+-- the bytes there that were added to the batch. Premise: the batch's entry block is whole.
 abbrev pub WrittenEntriesAreStored : Type 0 → Type 0
 WrittenEntriesAreStored R = (s : LogOnDisk R) (said : R) (block : FileBlockHandle) (items : List LogItem)
     (entries : List ℕ)

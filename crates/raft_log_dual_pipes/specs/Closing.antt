@@ -85,7 +85,7 @@ closed_log s append rewrite d =
     record { append = in_span s.append append; rewrite = in_span s.rewrite rewrite; disk = d }
 
 -- The closed log is on the disk `new`. The files of each queue are unchanged, or all its records are synced now.
--- - `moves`: the numbered files have changed by quiet events.
+-- - `moves`: the numbered files have changed by quiet events: syncs, rotations, losses below the live range.
 -- - `ends`: a view that was true of the log still is, except that a prefix of the pending batches may be synced now.
 pub record LiesClosed {R E V : Type 0} (log : TwoQueues R E V) (s : LogOnDisk R) (new : Disk) : Type 0 where
   pub append : LogFiles R

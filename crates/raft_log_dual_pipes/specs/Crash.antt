@@ -1,4 +1,5 @@
--- What a crash leaves of a log on a disk, and what a recovery may read then.
+-- What a crash leaves of a log on a disk, and what a recovery may read then. Numbered files are how the model sees the
+-- files of a log: each has a number and records.
 use Rattle.std.specs.Prelude.{◌≡◌, ℕ, ◌≤◌, List, [], ◌∷◌, map}
 use Rattle.raft_log_model_laws.specs.Item.{Record}
 use Rattle.raft_log_machine_laws.specs.Files.{LogFile}
@@ -42,13 +43,13 @@ readings_of log = record {
   append = λ image s files. MayRead log.says log.append.format image.append.first image.disk s files;
 }
 
--- after any crash of the log `s`, a recovery reads what the numbered files `f` allow: only the newest unsynced records
--- of each queue may be missing
+-- after any crash of the log `s` without a CRC collision (`IsLeftByCrash`), a recovery reads what the numbered files
+-- `f` allow: only the newest unsynced records of each queue may be missing
 abbrev pub AllowsIn : {R E V : Type 0} → TwoQueues R E V → LogOnDisk R → Files E V → Type 0
 AllowsIn log s f = Allows (readings_of log) s f
 
--- if the last file of each queue holds its records, then after any crash a recovery reads what the log's numbered files
--- allow
+-- If the last file of each queue holds its records, a recovery reads what the log's numbered files allow. This holds
+-- after any crash without a CRC collision.
 abbrev pub HeldIsAllowed : {R E V : Type 0} → TwoQueues R E V → Type 0
 HeldIsAllowed {R} {E} {V} log = AreTwoQueues log → (s : LogOnDisk R) (f : Files E V)
     → IsSound s.disk → HoldsBoth log s → Ties log s f → AllowsIn log s f

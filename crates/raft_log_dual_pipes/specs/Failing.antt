@@ -36,7 +36,7 @@ failed_pipe which p = with_open which (both_open p) None
 -- The log that is on the disk after a pipe fails.
 -- - `sync`: a sync failed. The log has the same contents and the same pending batches.
 -- - `rotation`: a rotation failed. The log is the same, but a prefix of the pending batches may be synced now.
--- - `batch`: a write failed. The log is as after `rotation`, with the new batch as its last one or without it.
+-- - `batch`: a write failed. The log is as after `rotation`, with the new batch (`y`) as its last one or without it.
 pub record FailedPipeLeavesALog {R E V : Type 0} (log : TwoQueues R E V) (p : Pipes) (old : Disk)
     (v : View E V) (m : Map E V) (pending : List (Record E V)) : Type 0 where
   pub sync : (which : Which) (new : Disk)

@@ -1,5 +1,5 @@
 -- Which file of a queue is the active one after an append succeeded or failed, and which files a pipe lists after a
--- purge.
+-- purge. `v` are the pipes before the call, `w` after it.
 use Rattle.std.specs.Prelude.{◌≡◌, ◌⊎◌, ℕ, suc}
 use Rattle.raft_log_record_base.specs.declared.errors.Error.{Error}
 use Rattle.raft_log_record_base.specs.declared.errors.Error.TheVariants as errors

@@ -93,9 +93,9 @@ pub record CallsLeaveRoom : Type 0 where
 
 -- Recycled files.
 
--- The next rotation uses the oldest file kept for recycling, and this leaves no CRC collision (`UsedFilesMeetIt`). The
--- file has a number of the queue, not a reserved name. It begins with the header that new files get, of version 2. Its
--- number and the queue's next one differ in their low 32 bits.
+-- When a rotation into a recycled file leaves no CRC collision (`UsedFilesMeetIt`). It uses the oldest file kept for
+-- recycling. This file has a number of the queue, not a reserved name. It begins with the header that new files get, of
+-- version 2. Its number and the queue's next one differ in their low 32 bits.
 pub record NextIsUsed (F : Format LogRecord) (format : LogFileFormat) (files : PipeFiles) (d : Disk) : Type 0 where
   pub oldest : Listed
   pub others : List Listed

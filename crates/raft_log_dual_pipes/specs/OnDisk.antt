@@ -43,7 +43,7 @@ pub record IsDurableAs {R E V : Type 0} (log : TwoQueues R E V) (d : Disk) (m : 
 -- - `nothing`: a disk without log files has an empty log at rest.
 -- - `none_found`: if an open finds no files on this disk, it has found all there is of both queues.
 -- - `engine`, `rest`: the log that an engine has open is on the disk, and so is a log at rest.
--- - `means`: on a sound disk, what recovery reads after any crash agrees with the log's contents and pending batches.
+-- - `means`: on a sound disk, what a recovery reads after a crash agrees with the contents and the pending batches.
 -- - `crashes`: a crash without a CRC collision leaves a log at rest: the map after a prefix of the pending batches.
 pub record LogsGoOn {R E V : Type 0} (log : TwoQueues R E V) : Type 0 where
   pub nothing : (d : Disk) → IsFresh log.append.format log.append.own d d

@@ -67,11 +67,10 @@ LeavesQueue {R} log which o now s new becomes takes = (files : LogFiles R) × be
     × takes s (next_log which s files new)
 
 -- A log of two queues, of which each has a running pipe or only files on the disk (`IsOpenOrClosed`).
--- - `allowed`, `log_of`: after any crash a recovery reads what the numbered files allow. So the log's contents and
---   pending batches are those of its numbered files.
+-- - `allowed`, `log_of`: its numbered files say what a recovery reads after a crash, and so give its contents.
 -- - `running`: a log over which both pipes run is such a log.
--- - `held`, `dropped`: so is one without running pipes, if each last file holds its records and each file of the live
---   ranges is there; and one whose running pipes were dropped.
+-- - `held`: so is one without pipes, if its last files hold their records and all files of the live ranges are there.
+-- - `dropped`: so is one whose running pipes were dropped.
 pub record LyingLogIsALog {R E V : Type 0} (log : TwoQueues R E V) : Type 0 where
   pub allowed : (o : OpenPipes) (s : LogOnDisk R) (f : Files E V) → IsSound s.disk → IsOpenOrClosed log o s
       → Ties log s f → AllowsIn log s f

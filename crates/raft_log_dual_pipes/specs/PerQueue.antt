@@ -1,5 +1,6 @@
 -- What each call of a running pipe leaves, whether it succeeds or fails, for any state of the other queue: its pipe may
--- run, may have failed, or may not be open.
+-- run, may have failed, or may not be open. Below, `which` is the queue of the call, `before` and `after` are its
+-- pipe's files, and `o` has the state of the other queue's pipe. `s` is the log before the call, `new` the disk after.
 use Rattle.std.specs.Prelude.{◌≡◌, ℕ, ◌⊎◌, Option, Some, None, List}
 use Rattle.raft_log_model_laws.specs.Item.{Record}
 use Rattle.raft_log_fs.specs.Disk.{Disk}

@@ -24,12 +24,12 @@ use Rattle.raft_log_dual_pipes.specs.Pipes.{LogPipes, OnePipe, is_failed, layout
 abbrev pub PipeCall : Type 1
 PipeCall = QueueLayout LogRecord → PipeSettings → PipeFiles → PipeFiles → Disk → Disk → Type 0
 
--- the operation `call` did this to the pipe of this queue
+-- the operation did to the pipe of this queue, and to the disk, what `call` says
 abbrev pub DoesToPipe : Which → PipeCall → LogPipes → LogPipes → Type 0
 DoesToPipe which call v w = call (layout_of (one_at which v)) (one_at which v).settings
     (one_at which v).files (one_at which w).files v.disk w.disk
 
--- if no pipe had failed before, the failed operation `call` did this to the pipe of this queue
+-- if no pipe had failed before, the failed operation did to the pipe of this queue, and to the disk, what `call` says
 abbrev pub LeavesPipe : Which → PipeCall → LogPipes → LogPipes → Type 0
 LeavesPipe which call v w = is_failed v ≡ false → DoesToPipe which call v w
 

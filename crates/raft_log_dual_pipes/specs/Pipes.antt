@@ -41,7 +41,7 @@ abbrev pub one_at : Which → LogPipes → OnePipe
 one_at InAppend v = v.append
 one_at InRewrite v = v.rewrite
 
--- the main directory of the log: the first one of Append's files
+-- the main directory of the log: the first directory of Append's files
 abbrev pub main_directory : LogPipes → List ℕ
 main_directory v = directory_at v.append.directories 0
 
@@ -87,7 +87,7 @@ pub record LogSense : Type 0 where
   pub append : List (List ℕ)
   pub rewrite : List (List ℕ)
 
--- the two queues of a log that is read like this
+-- the two queues of a log that is read as `log` says
 abbrev pub queues : LogSense → TwoQueues LogRecord (List ℕ) (List ℕ)
 queues log = log_queues log.says log.append log.rewrite
 

@@ -1,5 +1,5 @@
--- What quiet events make of the numbered files of one queue. Quiet are syncs, rotations, and losses of files below the
--- live range.
+-- Syncs, rotations, and losses of files below the live range are quiet events. This file says what they make of the
+-- numbered files of one queue.
 use Rattle.std.specs.Prelude.{ℕ}
 use Rattle.raft_log_model_laws.specs.Item.{Record}
 use Rattle.raft_log_machine_laws.specs.Files.{FileQueue}

@@ -1,5 +1,5 @@
--- After a stop an open finds the files of a log, and opens its pipes. The definitions say which numbered files the log
--- then has.
+-- After a stop an open finds the files of a log, and opens its pipes. The definitions say which numbered files (how the
+-- model sees files) the log then has.
 use Rattle.std.specs.Prelude.{◌≡◌, ℕ, ◌≤◌, ◌⊎◌, false, Some, None, List, [], ◌∷◌, ◌++◌, length, suc, take}
 use Rattle.raft_log_model_laws.specs.Item.{Record}
 use Rattle.raft_log_model_laws.specs.Groups.{Map, directory_meaning, taken}
@@ -148,7 +148,7 @@ OpenIsAStep {R} log = AreTwoQueues log → (which : Which) (o : OpenPipes) (begi
 -- - `append_first`, `rewrite_first`, `still`: reading one queue and then the other reads both. A queue without unsynced
 --   records counts as read again.
 -- - `log_of`: the contents are the map after a prefix of the pending batches, and no batch is pending.
--- - `replays`: if the view is built from whatever is read, the step from `s` to `t` is a replay in the model.
+-- - `replays`: if an engine's view `v` is built from what was read, the step from `s` to `t` is a replay in the model.
 pub record FoundLogIsALog {R E V : Type 0} (log : TwoQueues R E V) : Type 0 where
   pub append_first : (s mid t : LogOnDisk R) → ReadsAgain (Ties log) InAppend s mid
       → ReadsAgain (Ties log) InRewrite mid t → ReadsBothAgain (Ties log) s t

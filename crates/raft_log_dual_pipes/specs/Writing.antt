@@ -33,7 +33,8 @@ pub record EndsOn {R E V : Type 0} (log : TwoQueues R E V) (p : Pipes) (d : Disk
   pub splits : done ++ rest ≡ pending
   pub at : IsAtOn log p d v (taken m done) rest
 
--- after a batch was written to Append, it is the last pending one; a prefix of the batches may be synced now
+-- After a batch with the record `y` was written to Append, it is the last pending one; a prefix of the batches may be
+-- synced now. `v` and `u` are the engine's views before and after.
 abbrev pub WrittenIsPending : {R E V : Type 0} → TwoQueues R E V → Type 0
 WrittenIsPending {R} {E} {V} log = AreTwoQueues log → (p : Pipes) (old new : Disk) (v u : View E V)
     (m : Map E V) (pending : List (Record E V)) → IsAtOn log p old v m pending

@@ -13,11 +13,12 @@ with_rest (Wrote at bytes) rest = Wrote at (bytes ++ rest)
 with_rest (ShortenedTo size) rest = ShortenedTo size
 with_rest (GrewTo size) rest = GrewTo (size + length rest)
 
--- `landed` is what was done of `asked`: all of it, or, of a failed write or growth, only a prefix of its bytes or zeros
+-- `landed` is the part of the change `asked` that was made: all of it, or a prefix of its bytes or zeros if the write
+-- or growth failed
 abbrev pub IsLanded : disk.Change → disk.Change → Type 0
 IsLanded landed asked = (rest : List ℕ) × (asked ≡ with_rest landed rest)
 
--- a stored change as a change of a disk; a stored write has no bytes of its own, so `bytes` are those that it wrote
+-- a stored change as a change of a disk; a stored write doesn't keep the bytes that it wrote, so `bytes` gives them
 abbrev pub change_of : Change → List ℕ → disk.Change
 change_of (Write offset rest) bytes = Wrote offset bytes
 change_of (Shortening size) bytes = ShortenedTo size

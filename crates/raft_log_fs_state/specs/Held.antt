@@ -1,4 +1,5 @@
--- The files that a file system in memory stores, and their content, synced bytes and unsynced changes.
+-- The files that a file system in memory stores, and their content, synced bytes and unsynced changes. A file's node
+-- number is given once, by the disk. A change's stamp is the number of changes, of any file, that were made before it.
 use Rattle.std.specs.Prelude.{◌≡◌, ℕ, ◌-◌, ◌<◌, min, length, take, drop, List, [], ◌∷◌, ◌++◌, Option, Some, None}
 use Rattle.std.specs.Map.{update}
 use Rattle.std.specs.List.{All}
@@ -80,8 +81,7 @@ ChangesHeld id becomes old new = PutsHeld id (option_map becomes (held_of old id
 abbrev pub AllBecome : (Held → Held) → List (Option Stored) → List (Option Stored) → Type 0
 AllBecome becomes old new = (q : ℕ) → held_of new q ≡ option_map becomes (held_of old q)
 
--- the file after one more change; `rest` are the bytes or zeros that a failed write or growth was asked for, but that
--- weren't written
+-- the file after one more change; `rest` are the bytes or zeros that a failed write or growth was also asked for
 abbrev pub with_made : ℕ → Change → List ℕ → Held → Held
 with_made stamp change rest file = record {
   content = changed change file.content;

@@ -1,4 +1,5 @@
--- What a crash leaves of the unsynced changes. A test chooses this by a `Remainder`.
+-- What a crash leaves of the unsynced changes. A test chooses this by a `Remainder`. Below, `old` is a file's content
+-- before a change, or before several.
 use Rattle.std.specs.Prelude.{ℕ, false, cond, List, [], ◌∷◌, Option, Some, None, length, suc, slice_get}
 use Rattle.std.specs.Option.{option_map}
 use Rattle.std.proofs.Common.{take, nat_eq, nat_lt}
@@ -9,28 +10,28 @@ use Rattle.raft_log_fs_state.specs.declared.remainder.Remainder.TheVariants.{Las
 use Rattle.raft_log_fs_state.specs.declared.remainder.Piece.{Piece}
 use Rattle.raft_log_fs_state.specs.declared.remainder.Piece.TheVariants.{Keep, Lose, Bytes}
 
--- `old` after what a crash left of a change: the first `count` bytes of a write, nothing of a truncation or growth
+-- `old` with what a crash left of a change: the first `count` bytes of a write, nothing of a truncation or growth
 abbrev pub left_front : ℕ → disk.Change → List ℕ → List ℕ
 left_front count (Wrote at bytes) old = overwritten at (take count bytes) old
 left_front count (ShortenedTo size) old = old
 left_front count (GrewTo size) old = old
 
--- `old` after what a crash left of a change: of a write, the bytes `other` instead of its own, but at most as many; of
--- a truncation or growth, all
+-- `old` with what a crash left of a change: the bytes `other` instead of a write's own, but at most as many; all of a
+-- truncation or growth
 abbrev pub left_as : List ℕ → disk.Change → List ℕ → List ℕ
 left_as other (Wrote at bytes) old = overwritten at (take (length bytes) other) old
 left_as other (ShortenedTo size) old = changed (ShortenedTo size) old
 left_as other (GrewTo size) old = changed (GrewTo size) old
 
--- `old` after what the chosen piece keeps of `change`; without a piece (the list of pieces is too short) the change is
--- lost
+-- `old` with what the chosen piece keeps of `change`; if the list of pieces is too short, there is none, and the change
+-- is lost
 abbrev pub left_as_said : Option Piece → disk.Change → List ℕ → List ℕ
 left_as_said None change old = old
 left_as_said (Some Keep) change old = changed change old
 left_as_said (Some Lose) change old = old
 left_as_said (Some (Bytes other)) change old = left_as other.items change old
 
--- `old` after what a crash left of a change. `what` chooses this by the change's position `place` among the unsynced
+-- `old` with what a crash left of a change. `what` chooses this by the change's position `place` among the unsynced
 -- changes of all files, in the order of the calls.
 abbrev pub left_by : Remainder → ℕ → disk.Change → List ℕ → List ℕ
 left_by LastSync place change old = old

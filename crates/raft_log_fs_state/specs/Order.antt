@@ -1,4 +1,5 @@
--- The unsynced changes of all files in the order of the calls, each with its file's node number.
+-- The unsynced changes of all files in the order of the calls, each with its file's node number. The order is that of
+-- the stamps: a change's stamp is the number of changes, of any file, that were made before it.
 use Rattle.std.specs.Prelude.{◌≡◌, ℕ, ◌<◌, ◌≤◌, not, zero, suc, Option, Some, None, List, [], ◌∷◌, ◌++◌}
 use Rattle.std.specs.List.{filter}
 use Rattle.std.proofs.Common.{map, nat_eq}
@@ -6,7 +7,7 @@ use Rattle.raft_log_fs.specs.Disk.{Change}
 use Rattle.raft_log_fs_state.specs.Changes.{Made}
 use Rattle.raft_log_fs_state.specs.Held.{Held}
 
--- the changes of file `id` that have this stamp
+-- the changes that have this stamp, of the file with node number `id`
 abbrev pub with_stamp : ℕ → ℕ → Option Held → List (ℕ × Change)
 with_stamp stamp id None = []
 with_stamp stamp id (Some file) =

@@ -1,5 +1,5 @@
--- The stamps of changes. They give each change its position in the order of the calls, and so what a crash leaves of
--- it.
+-- The stamps of changes. A change's stamp is the number of changes, of any file, that were made before it. What a crash
+-- leaves of a change depends on its position among the unsynced ones, which the stamps give.
 use Rattle.std.specs.Prelude.{ℕ, suc, zero, Option, Some, None, List, [], ◌∷◌, ◌++◌, length}
 use Rattle.std.specs.List.{filter}
 use Rattle.std.proofs.Common.{map, nat_lt}
@@ -37,8 +37,8 @@ place_in stamps stamp = length (filter (λ other. nat_lt other stamp) stamps)
 abbrev pub HasAllStamps : List (Option Stored) → List ℕ → Type 0
 HasAllStamps files stamps = IsPermutation (stamps_of (held_of files) (length files)) stamps
 
--- `old` after what a crash left of a file's changes. `what` chooses this by each change's position among the unsynced
--- changes of all files, which `place` gives for the change's stamp.
+-- The content `old` with what a crash left of a file's changes. `what` chooses this by each change's position among the
+-- unsynced changes of all files, which `place` gives for the change's stamp.
 abbrev pub left_own : Remainder → (ℕ → ℕ) → List Made → List ℕ → List ℕ
 left_own what place [] old = old
 left_own what place (m ∷ ms) old = left_own what place ms (left_by what (place m.stamp) m.change old)
@@ -47,6 +47,7 @@ left_own what place (m ∷ ms) old = left_own what place ms (left_by what (place
 abbrev pub left_of_file : Remainder → List ℕ → Held → List ℕ
 left_of_file what stamps file = left_own what (place_in stamps) file.changes file.synced
 
--- a file as the restart finds it, with all bytes that the crash left synced; `place` gives each stamp's position
+-- a file as the restart finds it: it has the bytes that the crash left, and all of them count as synced; `place` gives
+-- the position of each stamp
 abbrev pub left_held : Remainder → (ℕ → ℕ) → Held → Held
 left_held what place file = resting (left_own what place file.changes file.synced)

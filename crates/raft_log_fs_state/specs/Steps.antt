@@ -1,4 +1,4 @@
--- What each change of a file system in memory does to its disk, and to the list of unsynced changes of all files.
+-- What each call of a file system in memory does to its disk, and to the list of unsynced changes of all files.
 use Rattle.std.specs.Prelude.{◌≡◌, ℕ, ◌+◌, ◌⊎◌, ◌<◌, ◌≤◌, min, cond, nat_eq, Option, Some, None, List, [], ◌∷◌, ◌++◌, length}
 use Rattle.std.specs.declared.io.ErrorKind.{ErrorKind}
 use Rattle.std.specs.declared.io.ErrorKind.TheVariants.{OutOfMemory, StorageFull}
@@ -44,7 +44,7 @@ pub record SyncsFile (id : ℕ) (old new : Storage) : Type 0 where
       → contents_of new ≡ with_file id (Some (flushed file)) (contents_of old)
   pub order : unsynced_of new ≡ without_file id (unsynced_of old)
 
--- `after` has the disk that a crash of `old` leaves, as `what` chooses
+-- `after` has the disk that a crash leaves of `old`, as `what` chooses
 abbrev pub IsLeftBy : Remainder → Storage → Storage → Type 0
 IsLeftBy what old after = contents_of after ≡ left_disk what (unsynced_of old) (contents_of old)
 

@@ -32,8 +32,8 @@ id_of queue file = record { queue = queue; seq = file.seq }
 abbrev pub AreZeros : List ℕ → Type 0
 AreZeros bytes = All (λ byte. byte ≡ 0) bytes
 
--- A file that was read up to `end` (`None`: it has no header) is undamaged. Either no fault was found; or it is its
--- queue's last file, whose space is allocated ahead of the records, and it has only zeros from `end` on.
+-- A file that was read up to `end` (`None` if it has no header) is undamaged. Either no fault was found; or it is its
+-- queue's last file (`last`), whose space is allocated ahead of the records, and it has only zeros from `end` on.
 abbrev pub IsUndamaged : Bool → List ℕ → Option ℕ → Option Error → Type 0
 IsUndamaged last content end fault =
     (fault ≡ None) ⊎ ((last ≡ true) × AreZeros (drop (unwrap_or end 0) content))
@@ -68,8 +68,8 @@ pub record IsIntactQueue (queue : LogQueue) (directories : List (List ℕ)) (d :
 abbrev pub IsClean : QueueInspection → Type 0
 IsClean inspection = (inspection.gaps.items ≡ []) × (inspection.damages.items ≡ [])
 
--- The records of a queue's files were passed to a machine. If the inspection found nothing wrong, the queue is intact,
--- and these were its records.
+-- The records of a queue's files were passed to a replay machine, which was `old` before and is `new` after. If the
+-- inspection found nothing wrong, the queue is intact, and these were its records.
 pub record InspectsQueue {M : Type 0} (reads : List Batch → M → Type 0) (queue : LogQueue)
     (directories : List (List ℕ)) (d : Disk) (old new : M) (inspection : QueueInspection) : Type 0 where
   pub batches : List Batch

@@ -17,8 +17,8 @@ use Rattle.raft_log_inspection.specs.Intact.{AreZeros, IsIntactFile}
 use Rattle.raft_log_inspection.specs.declared.damage.Damage.{Damage}
 use Rattle.raft_log_inspection.specs.declared.zeros.Piece.{Piece}
 
--- a piece of the file was read from offset `at` on, at most `room` bytes; `has_zeros` says whether all its bytes are
--- zeros
+-- `piece` was read from a file with this content, from offset `at` on, at most `room` bytes; `has_zeros` says whether
+-- all its bytes are zeros
 pub record IsPieceOf (content : List ℕ) (at room : ℕ) (piece : Piece) : Type 0 where
   pub number : piece.count ≡ min room (length content - at)
   pub zeros : IsTrue piece.has_zeros ↔ AreZeros (take piece.count (drop at content))
@@ -35,8 +35,8 @@ pub record AreOrderedFiles (kind : FileKind) (directories : List (List ℕ)) (d 
   pub all : AreFilesIn kind directories d found
   pub same : IsPermutation found files
 
--- The records of a file were passed to a machine. If no damage was found, the file is intact, and `batches` are its
--- records.
+-- The records of a file were passed to a replay machine, which was `old` before and is `new` after. If no damage was
+-- found, the file is intact, and `batches` are its records.
 pub record HandsFile {M : Type 0} (reads : List Batch → M → Type 0) (queue : LogQueue)
     (directories : List (List ℕ)) (d : Disk) (newest : ℕ) (file : FoundFile) (old new : M)
     (damage : Option Damage) : Type 0 where
@@ -44,8 +44,8 @@ pub record HandsFile {M : Type 0} (reads : List Batch → M → Type 0) (queue :
   pub taken : TakesBatches reads batches old new
   pub intact : damage ≡ None → IsIntactFile queue directories d newest file batches
 
--- The records of these files were passed to a machine. If no damage was found, the files are intact, and `segments` are
--- their records, file by file.
+-- The records of these files were passed to a replay machine (`old`, then `new`). If no damage was found, the files are
+-- intact, and `segments` are their records, file by file.
 pub record HandsFiles {M : Type 0} (reads : List Batch → M → Type 0) (queue : LogQueue)
     (directories : List (List ℕ)) (d : Disk) (newest : ℕ) (files : List FoundFile) (old new : M)
     (damages : List Damage) : Type 0 where

@@ -54,15 +54,14 @@ noted_after (Some least) old new = noting least old new
 abbrev pub with_group : Raw → GroupFiles → Shown
 with_group t files = record (shown t) { noted = Some (noted_after (least_rewritten t) t.noted files) }
 
--- `u` is the table `v` after it recorded an atomic group in these files. Files recorded before are dropped if nothing
--- of Rewrite is in them.
+-- `u` is the table `v` after it recorded an atomic group in these files. Files recorded before are dropped if the
+-- table's lowest file of Rewrite is past them, or if it has nothing in Rewrite.
 abbrev pub NotesGroup : GroupFiles → Shown → Shown → Type 0
 NotesGroup files v u =
     (least : Option ℕ) × IsLeastRewritten v least
     × (u ≡ record v { noted = Some (noted_after least v.noted files) })
 
--- The result of a replay, after an atomic group in these files was read: they are recorded in addition to the old
--- ones.
+-- the result of a replay after an atomic group in these files was read: they are recorded in addition to those before
 abbrev pub with_read_group : Replayed → GroupFiles → Replayed
 with_read_group z files =
     record z { table = record z.table { noted = both_noted z.table.noted (Some files) } }
@@ -82,7 +81,7 @@ IsLeastInAppend v least =
     ((i : ℕ) → v.first + v.rewritten ≤ i → i < v.first + length v.places → least ≤ file_at v (Index i))
     × ((k : List ℕ) (h : KeyValue) → v.held k ≡ Some h → h.appended ≡ true → least ≤ h.file)
 
--- the recorded atomic groups begin after file `n`, or end at or before it
+-- the files recorded for atomic groups begin after file `n`, or end at or before it
 abbrev pub ArePast : ℕ → Option GroupFiles → Type 0
 ArePast n None = Unit {0}
 ArePast n (Some files) = (n < files.from) ⊎ (files.to ≤ n)

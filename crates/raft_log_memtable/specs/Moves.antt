@@ -1,5 +1,5 @@
--- Copies of entries and values into Rewrite, and the Compact that a table owes. The gate of a purge is the last file
--- of Append whose content it may copy.
+-- Copies of entries and values into Rewrite, and the Compact that a table owes to Rewrite (a tombstone). The gate of a
+-- purge is the last file of Append whose content it may copy.
 use Rattle.std.specs.Prelude.{ℕ, ◌+◌, ◌-◌, ◌≤◌, max, min, Bool, false, not, ◌||◌, List, [], ◌∷◌, ◌++◌, length, take, drop, Option, Some, None, if◌then◌else◌, nat_le, nat_lt}
 use Rattle.raft_log_model_laws.specs.Item.{Item}
 use Rattle.raft_log_model_laws.specs.Item.Item.{Run}
@@ -41,7 +41,7 @@ abbrev pub movable : Shown → Option ℕ → ℕ → ℕ → ℕ
 movable v gate d count =
     min count (v.rewritten - d) + gated gate (take (count - (v.rewritten - d)) (drop v.rewritten v.places))
 
--- the table with the places `ps` in Rewrite instead of those from position `d` on
+-- the table with the places `ps` instead of as many from position `d` on; these and all before them are in Rewrite
 abbrev pub rewritten_at : Shown → ℕ → List Place → Shown
 rewritten_at v d ps = record v {
   places = take d v.places ++ (ps ++ drop (d + length ps) v.places);

@@ -1,4 +1,5 @@
--- Runs and segments that are applied to a table.
+-- A replay applies runs of entries to a table, and joins the table of a later segment: of consecutive files that a
+-- worker read by itself.
 use Rattle.std.specs.Prelude.{◌≡◌, ℕ, ◌-◌, ◌≤◌, ◌⊎◌, min, Bool, true, false, not, ◌&&◌, [], length, take, if◌then◌else◌, nat_lt}
 use Rattle.raft_log_record_base.specs.declared.errors.Error.{Error}
 use Rattle.raft_log_record_base.specs.declared.errors.Error.TheVariants as errors
@@ -26,8 +27,8 @@ under v f =
       rewritten = min v.rewritten (f - v.first);
     }
 
--- The first index of the entries if nothing is before them. Without entries it is 0, unless a Clean is owed; then it
--- is unchanged.
+-- The first index of the entries if nothing is before them. Without entries it is 0, unless a Clean is owed (a
+-- tombstone); then it is unchanged.
 abbrev pub begin_alone : Shown → ℕ
 begin_alone v = if v.cleaned then v.first else (if nat_lt 0 (length v.places) then v.first else 0)
 
@@ -38,8 +39,8 @@ leaves_hole v z =
     nat_lt 0 (length z.table.places)
     && (not (nat_lt 0 z.table.rewritten) && is_past (span (left v z.low z.high)) z.table.first)
 
--- Why a later segment isn't joined to a table. The error is `Hole` if and only if the segment's entries leave a hole.
--- Otherwise it is `Memory`.
+-- Why the later segment `z` isn't joined to the table `v`. The error is `Hole` if and only if the segment's entries
+-- leave a hole. Otherwise it is `Memory`.
 abbrev pub MergeRefused : Shown → Replayed → Error → Type 0
 MergeRefused v z error =
     ((error ≡ errors.Hole) × LeavesHole v z) ⊎ ((error ≡ errors.Memory) × (LeavesHole v z → ⊥))

@@ -7,7 +7,8 @@ use Rattle.raft_log_machine_laws.specs.Whereabouts.{with_key}
 use Rattle.raft_log_memtable_index.specs.Shown.{Shown, nothing_shown, span, next_span, MayFollow, MayAllFollow}
 
 -- What a table reserved. `wanted` is how many more places it can take, and `moves` how many entries can move into
--- Rewrite. `ends` is the range of its indexes after everything that is reserved. `has` is the keys with a slot.
+-- Rewrite. `ends` is the range of its indexes after everything that is reserved. `has` is the keys with a slot: they
+-- can be put or deleted without more memory.
 pub record Promise : Type 0 where
   pub wanted : ℕ
   pub moves : ℕ
@@ -72,7 +73,7 @@ module _ {E V : Type 0} where
   HasRoom has (Del k) = has k ≡ true
   HasRoom has _ = Unit {0}
 
-  -- Applying the item can't fail: enough places are reserved, its key has a slot, its run leaves no hole, and the
+  -- Applying the item can't fail. Enough places are reserved, and its key has a slot. Its run leaves no hole, and the
   -- indexes of the run are below 2 ^ 64 - 1.
   abbrev pub CanTake : Shown → Promise → Item E V → Type 0
   CanTake v q x = (count_of x ≤ q.wanted) × HasRoom q.has x × MayFollow (span v) x

@@ -13,7 +13,10 @@ use Rattle.raft_log_memtable_index.specs.declared.key_map.KeySlot.{KeySlot}
 use Rattle.raft_log_memtable_index.specs.Keys.{keys_of, no_keys}
 use Rattle.raft_log_memtable.specs.Room.{Promise}
 
--- The fields of a table: what it holds, what it reserved, and what a replay keeps.
+-- The fields of a table:
+-- - `ahead`: the range of its indexes after all that is prepared
+-- - `low`, `high`: of entries read before it, a replay keeps only those from `low` on and below `high`
+-- - all others: what callers see (`shown`); `places` and `keys` also have what is reserved
 pub record Raw : Type 0 where
   pub first : ℕ
   pub places : PlaceList

@@ -6,13 +6,13 @@ use Rattle.raft_log_active_file.specs.TakingUp.{TrimMakes, Trims}
 use Rattle.raft_log_active_file.specs.declared.format.File.{File}
 use Rattle.raft_log_recovery_read.specs.declared.file_ending.FileEnding.{FileEnding}
 
--- if the first argument is true, the file was truncated and synced; it ends after its last good record, or is empty if
--- it has no header
+-- If the first argument is true, the file was truncated and synced. It now ends after its last good record, or is empty
+-- if it had no header. If the first argument is false, nothing changed.
 abbrev pub CutsIf : Bool → File → FileEnding → Disk → Disk → Type 0
 CutsIf true file ending old new = Trims file.handle (unwrap_or ending.end 0) old new
 CutsIf false file ending old new = new ≡ old
 
--- if the file is damaged, which `ending` says, it was truncated and synced as in `CutsIf`
+-- if `ending`, the result of reading the file, says that it is damaged, it was truncated and synced (`CutsIf`)
 abbrev pub CutsOne : File → FileEnding → Disk → Disk → Type 0
 CutsOne file ending old new = CutsIf ending.is_damaged file ending old new
 
@@ -22,7 +22,8 @@ pub record FailsToCutOne (file : File) (ending : FileEnding) (kind : ErrorKind) 
   pub damaged : ending.is_damaged ≡ true
   pub makes : TrimMakes file.handle (unwrap_or ending.end 0) kind old new
 
--- each damaged file was truncated and synced as in `CutsIf`, in order; `endings` says which files are damaged
+-- each damaged file was truncated and synced (`CutsIf`), in order; `endings` has the result of reading each file, and
+-- so says which are damaged
 abbrev pub CutsEach : List File → List FileEnding → Disk → Disk → Type 0
 CutsEach [] endings old new = new ≡ old
 CutsEach (file ∷ files) [] old new = new ≡ old

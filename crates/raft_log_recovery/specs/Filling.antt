@@ -7,7 +7,7 @@ use Rattle.raft_log_fs.specs.Disk.{Disk}
 use Rattle.raft_log_fs.specs.Exits.{FailsToWrite, Writes}
 use Rattle.raft_log_fs.specs.declared.handle.Handle.{Handle}
 
--- `bytes` was written as often as the third argument says, one after another from the file's start
+-- `bytes` was written `count` times (the third argument), from the file's start on, each time after the ones before
 abbrev pub WritesPieces : Handle → List ℕ → ℕ → Disk → Disk → Type 0
 WritesPieces handle bytes zero old new = new ≡ old
 WritesPieces handle bytes (suc count) old new = (mid : Disk) × WritesPieces handle bytes count old mid

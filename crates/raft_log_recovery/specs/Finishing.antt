@@ -28,7 +28,7 @@ capacity_of Append config = recycle_capacity (settings_of config)
 capacity_of Rewrite config = 0
 
 -- The pipe of a queue is to be opened in the log's directories. Its new files get the format version and the size of
--- the settings, and no alignment. Its capacity is what the settings give this queue.
+-- the settings, and no alignment. Its capacity is `capacity_of` the queue.
 pub record IsWantedAs (queue : LogQueue) (config : Config) (pipe : FoundPipe) : Type 0 where
   pub lies : IsFoundAs queue (paths_of config) pipe
   pub version : pipe.settings.new_files.format.version ≡ config.format_version
@@ -60,7 +60,7 @@ pub record SyncsLog (b : DualPipesBuilder) (old new : Disk) : Type 0 where
   pub rewrite : SyncsEach (rewrite_files b) between behind
   pub reserved : SyncsEach b.reserved.items behind new
 
--- the sync of one of these files failed; those before it were synced
+-- syncing a file of a queue or one kept for recycling failed; those before it, in the order of `SyncsLog`, were synced
 pub data FailsToSyncLog (b : DualPipesBuilder) (kind : ErrorKind) (old new : Disk) : Type 0 where
   append_unsynced : FailsToSyncEach (append_files b) kind old new → FailsToSyncLog b kind old new
   rewrite_unsynced : (between : Disk) → SyncsEach (append_files b) old between
@@ -69,7 +69,8 @@ pub data FailsToSyncLog (b : DualPipesBuilder) (kind : ErrorKind) (old new : Dis
       → SyncsEach (rewrite_files b) between behind → FailsToSyncEach b.reserved.items kind behind new
       → FailsToSyncLog b kind old new
 
--- A log was opened over its recovered files: all of them were synced, and then its pipes were opened.
+-- A log was opened over its recovered files: all of them were synced, and then its pipes were opened. `v` are the open
+-- pipes.
 pub record OpensRecovered (b : DualPipesBuilder) (old : Disk) (v : LogPipes) : Type 0 where
   pub read : IsAllRead b
   pub synced : Disk
@@ -97,8 +98,10 @@ IsUnready b (errors.InvalidArgument text) = (IsAllRead b → ⊥) × (string_byt
 IsUnready b errors.Memory = Unit {0}
 IsUnready b _ = ⊥
 
--- Why opening a log over its recovered files fails: nothing was done; or the sync of a file failed, after those before
--- it; or all were synced, and opening a pipe failed.
+-- Why opening a log over its recovered files fails:
+-- - `unready`: not all files were recovered, or memory ran out, and nothing was done
+-- - `unsynced`: the sync of a file failed, after those before it were synced
+-- - `unopened`: all files were synced, and opening a pipe failed
 pub data FailsToOpenRecovered (b : DualPipesBuilder) (error : Error) (old new : Disk) : Type 0 where
   unready : IsUnready b error → new ≡ old → FailsToOpenRecovered b error old new
   unsynced : (kind : ErrorKind) → error ≡ errors.Io kind → IsAllRead b → FailsToSyncLog b kind old new

@@ -1,5 +1,5 @@
--- Reading a log without opening it, as a check of it does. Unlike an open, this reads files that have an alignment,
--- with padding between records.
+-- A log is read without being opened, for example to check it. Unlike `recover`, this also reads files that have an
+-- alignment, with padding between records.
 use Rattle.std.specs.Prelude.{◌≡◌, List}
 use Rattle.std.specs.declared.io.ErrorKind.{ErrorKind}
 use Rattle.raft_log_record_base.specs.declared.errors.Error.{Error}
@@ -13,13 +13,14 @@ use Rattle.raft_log_recovery.specs.Cutting.{CutsEach, FailsToCutEach}
 use Rattle.raft_log_recovery.specs.Recovering.{append_config, append_files, rewrite_config, rewrite_files}
 use Rattle.raft_log_recovery.specs.declared.builder.DualPipesBuilder.{DualPipesBuilder}
 
--- one machine has read all files of Append, and another all of Rewrite; the endings are the results for the files
+-- one replay machine has read all files of Append, and another all of Rewrite; the endings are the results for the
+-- files
 pub record HasReadQueues {M : Type 0} (reads : LogQueue → List Batch → M → Type 0) (b : DualPipesBuilder)
     (d : Disk) (append rewrite : M) (append_endings rewrite_endings : List FileEnding) : Type 0 where
   pub append_read : HasReadFiles reads (append_config b) (append_files b) d append append_endings
   pub rewrite_read : HasReadFiles reads (rewrite_config b) (rewrite_files b) d rewrite rewrite_endings
 
--- why reading both queues fails: reading Append failed; or that succeeded, and reading Rewrite failed
+-- why reading both queues fails: reading Append failed; or Append was read, and reading Rewrite failed
 pub data QueuesAreUnread {M : Type 0} (reads : LogQueue → List Batch → M → Type 0)
     (declines : LogQueue → List Batch → Error → Type 0) (b : DualPipesBuilder) (d : Disk) (error : Error)
     : Type 0 where
@@ -46,7 +47,7 @@ pub data FailsToCutBoth (b : DualPipesBuilder) (append_endings rewrite_endings :
       → FailsToCutEach (rewrite_files b) rewrite_endings kind between new
       → FailsToCutBoth b append_endings rewrite_endings kind old new
 
--- both queues were read, and then their damaged files were truncated
+-- both queues were read into the replay machines `append` and `rewrite`, and then their damaged files were truncated
 pub record ReadsLog {M : Type 0} (reads : LogQueue → List Batch → M → Type 0) (append rewrite : M)
     (b : DualPipesBuilder) (old new : Disk) : Type 0 where
   pub append_endings : List FileEnding

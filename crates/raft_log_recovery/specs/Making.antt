@@ -1,5 +1,5 @@
--- Reserved files are made and filled. `disk` gives the disk of a file system's state. `tells` says which sizes the file
--- system may return as a directory's free space.
+-- Reserved files are made and filled: files kept for recycling, under names of their own. `disk` gives the disk of a
+-- file system's state. `tells` says which sizes the file system may return as a directory's free space.
 use Rattle.std.specs.Prelude.{◌≡◌, ◌+◌, ◌<◌, ◌≤◌, ◌^◌, ℕ, suc, Bool, true, false, ◌||◌, List, [], ◌∷◌, length}
 use Rattle.raft_log_record_base.specs.declared.errors.Error.{Error}
 use Rattle.raft_log_record_base.specs.declared.errors.Error.TheVariants as errors
@@ -45,7 +45,7 @@ module _ {F : Type 0} (disk : F → Disk) (tells : F → List ℕ → ℕ → Ty
       × FailsToCreate (paths.reserved directory seq) kind (disk old) (disk new))
   FailsToMake paths size seq _ old new = ⊥
 
-  -- these files were made, with rising numbers from `seq` on; `full` says whether a write failed for lack of space
+  -- these files were made, with consecutive numbers from `seq` on; `full` says whether a write failed for lack of space
   abbrev pub MakesEach : FilePaths → List ℕ → ℕ → ℕ → List File → Bool → F → F → Type 0
   MakesEach paths bytes size seq [] full old new = (full ≡ false) × (new ≡ old)
   MakesEach paths bytes size seq (file ∷ files) full old new = (one : Bool) × (others : Bool) × (mid : F)

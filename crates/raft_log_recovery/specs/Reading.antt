@@ -1,4 +1,4 @@
--- What worker threads that read the files of a queue return.
+-- The files of a queue are read by worker threads, into a replay machine: what takes the batches that are read.
 use Rattle.std.specs.Prelude.{List, length}
 use Rattle.raft_log_record_base.specs.declared.errors.Error.{Error}
 use Rattle.raft_log_record_base.specs.declared.pipe_log.LogQueue.{LogQueue}
@@ -11,7 +11,8 @@ use Rattle.raft_log_recovery_read.specs.Segments.{BeginsFile, HoldsFile, Refuses
 use Rattle.raft_log_recovery_read.specs.declared.file_ending.FileEnding.{FileEnding}
 
 -- The machine has read the batches of all files of a queue, in order, however many workers read them. Without a worker
--- no file is read. `reads` says which batches a machine has read. `endings` has the result for each file.
+-- no file is read. `reads queue batches machine` says that the machine has read these batches. `endings` has the result
+-- for each file.
 abbrev pub HasReadFiles : {M : Type 0} → (LogQueue → List Batch → M → Type 0) → RecoveryConfig → List File
     → Disk → M → List FileEnding → Type 0
 HasReadFiles reads config files d machine endings =

@@ -1,4 +1,4 @@
--- How an open makes the reserved files that the settings want.
+-- How an open makes the reserved files that the settings want: files kept for recycling, under names of their own.
 use Rattle.std.specs.Prelude.{◌≡◌, ◌-◌, ◌⊎◌, ◌^◌, ◌++◌, ℕ, suc, min, max, Bool, if◌then◌else◌, Option, Some, None, List, length, take, drop, reverse}
 use Rattle.std.specs.List.{last_or}
 use Rattle.raft_log_record_base.specs.declared.errors.Error.{Error}
@@ -27,8 +27,7 @@ kept_of full wanted = if full then 0 else wanted
 
 -- `disk` gives the disk of a file system's state. `tells` says which sizes it may return as a directory's free space.
 module _ {F : Type 0} (disk : F → Disk) (tells : F → List ℕ → ℕ → Type 0) where
-  -- reserved files were made until there were `wanted`; `all` are the files that were there (`files`), then the new
-  -- ones
+  -- reserved files were made until there were `wanted`; `all` has the `files` that were there, and then the new ones
   pub record MakesMissing (paths : FilePaths) (size wanted : ℕ) (files all : List File) (full : Bool)
       (old new : F) : Type 0 where
     pub made : List File

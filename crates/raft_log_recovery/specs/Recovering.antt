@@ -50,8 +50,8 @@ abbrev pub rewrite_config : DualPipesBuilder → RecoveryConfig
 rewrite_config b = recovery_of b.config Rewrite
     (rewrite_share (all_workers b) (length (append_files b)) (length (rewrite_files b)))
 
--- One machine has read all files of Append, and another all files of Rewrite. The endings are the results for the
--- files. No file has an alignment.
+-- One replay machine has read all files of Append, and another all files of Rewrite. The endings are the results for
+-- each file. No file has an alignment.
 pub record HasReadBoth {M : Type 0} (reads : LogQueue → List Batch → M → Type 0) (b : DualPipesBuilder)
     (d : Disk) (append rewrite : M) (append_endings rewrite_endings : List FileEnding) : Type 0 where
   pub append_read : HasReadFiles reads (append_config b) (append_files b) d append append_endings
@@ -59,7 +59,8 @@ pub record HasReadBoth {M : Type 0} (reads : LogQueue → List Batch → M → T
   pub append_unaligned : AreUnaligned append_endings
   pub rewrite_unaligned : AreUnaligned rewrite_endings
 
--- both queues were read, and then their damaged files were truncated, those of Append first
+-- Both queues were read into the replay machines `append` and `rewrite`. Then their damaged files were truncated and
+-- synced, those of Append first. The builder `after` has the results for the files, and is otherwise as `b`.
 pub record RecoversLog {M : Type 0} (reads : LogQueue → List Batch → M → Type 0) (append rewrite : M)
     (b after : DualPipesBuilder) (old new : Disk) : Type 0 where
   pub read : HasReadBoth reads b old append rewrite after.append.endings.items after.rewrite.endings.items
@@ -72,7 +73,7 @@ pub record RecoversLog {M : Type 0} (reads : LogQueue → List Batch → M → T
 -- Why recovering the queues fails:
 -- - reading a queue failed, and nothing was truncated
 -- - one of the files has an alignment, and nothing was truncated
--- - truncating a damaged file failed
+-- - truncating or syncing a damaged file failed, after those before it
 pub data FailsToRecoverLog {M : Type 0} (reads : LogQueue → List Batch → M → Type 0)
     (declines : LogQueue → List Batch → Error → Type 0) (b : DualPipesBuilder) (error : Error)
     (old new : Disk) : Type 0 where

@@ -15,8 +15,8 @@ use Rattle.raft_log_recovery.specs.Unaligned.{AreUnaligned, TellsAligned}
 use Rattle.raft_log_recovery.specs.declared.builder.DualPipesBuilder.{DualPipesBuilder}
 use Rattle.raft_log_recovery.specs.declared.recovered_queue.RecoveredQueue.{RecoveredQueue}
 
--- The machine has read all files of the queue, and none of them has an alignment. Then the damaged ones were
--- truncated.
+-- The replay machine has read all files of the queue, and none of them has an alignment. Then the damaged ones were
+-- truncated and synced. `after` has the results for the files.
 pub record RecoversFiles {M : Type 0} (reads : LogQueue → List Batch → M → Type 0) (config : RecoveryConfig)
     (machine : M) (q after : RecoveredQueue) (old new : Disk) : Type 0 where
   pub read : HasReadFiles reads config q.files.items old machine after.endings.items
@@ -27,7 +27,7 @@ pub record RecoversFiles {M : Type 0} (reads : LogQueue → List Batch → M →
 -- Why recovering a queue fails:
 -- - reading it failed, and nothing was truncated
 -- - one of the files has an alignment, and nothing was truncated
--- - truncating a damaged file failed
+-- - truncating or syncing a damaged file failed, after those before it
 pub data FailsToRecoverFiles {M : Type 0} (reads : LogQueue → List Batch → M → Type 0)
     (declines : LogQueue → List Batch → Error → Type 0) (config : RecoveryConfig) (q : RecoveredQueue)
     (error : Error) (old new : Disk) : Type 0 where
@@ -48,7 +48,7 @@ abbrev pub queue_files : LogQueue → DualPipesBuilder → RecoveredQueue
 queue_files Append b = b.append
 queue_files Rewrite b = b.rewrite
 
--- between `b` and `after`, only what the builder has of this queue changed
+-- `after` is the builder `b`, except for its files and results of this queue
 abbrev pub OtherQueueIsKept : LogQueue → DualPipesBuilder → DualPipesBuilder → Type 0
 OtherQueueIsKept Append b after = after ≡ record b { append = after.append }
 OtherQueueIsKept Rewrite b after = after ≡ record b { rewrite = after.rewrite }

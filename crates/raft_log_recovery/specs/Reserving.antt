@@ -1,5 +1,5 @@
--- The reserved files of a log: files of zeros that are kept for recycling, under names of their own. An open makes
--- those that the settings want.
+-- The reserved files of a log are kept for recycling, under names of their own: files of zeros that an open made, and
+-- segment files that a close renamed. An open makes as many as the settings want.
 use Rattle.std.specs.Prelude.{◌≡◌, ◌-◌, ◌⊎◌, ℕ, min, List, [], length}
 use Rattle.raft_log_record_base.specs.declared.errors.Error.{Error}
 use Rattle.raft_log_record_base.specs.declared.errors.Error.TheVariants as errors

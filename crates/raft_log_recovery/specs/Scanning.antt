@@ -17,8 +17,8 @@ pub record HasFound (b : DualPipesBuilder) (found : ScannedFiles) : Type 0 where
   pub append_unread : b.append.endings.items ≡ []
   pub rewrite_unread : b.rewrite.endings.items ≡ []
 
--- The directories are there, and the builder has their files. After the scan, metadata that the file system keeps for
--- older files may have been deleted, but no file changed.
+-- The directories are there, and the builder `after` has their files. After the scan, metadata that the file system
+-- keeps for older files may have been deleted, but no file changed.
 pub record ScansLog (b after : DualPipesBuilder) (old new : Disk) : Type 0 where
   pub found : ScannedFiles
   pub scanned : Disk

@@ -47,8 +47,7 @@ AreCounting rs counting =
 
 -- The context has read exactly these records of a queue.
 -- - `tables`, `counting`: its tables are those of the items that take effect, and know which raft groups count.
--- - `plain`, `fit`, `none`: in Append, all records take effect at once, the indexes of their runs are below
---   2 ^ 64 - 1, and the tables record no files of atomic groups.
+-- - `plain`, `fit`, `none`: in Append, records take effect at once, indexes are below 2 ^ 64 - 1, no file is recorded.
 -- - `notes`, `ends`: in Rewrite, the tables record the files of atomic groups, but none past those that were read.
 -- - `pieces`: it has the pieces of atomic groups that the records leave open, or that began before them.
 pub record HasRead (queue : LogQueue) (rs : List ReadRecord) (c : MemTableRecoverContext) : Type 0 where
@@ -67,7 +66,7 @@ ContextReadsOne queue None old new = ⊥
 ContextReadsOne queue (Some r) old new =
     (rs : List ReadRecord) → HasRead queue rs old → HasRead queue (rs ++ r ∷ []) new
 
--- the context has now read the record of this batch too
+-- the batch of these items, read in this file, decodes to a record; `new` has read it after all that `old` had read
 abbrev pub ContextReadsOn : FileId → List LogItem → MemTableRecoverContext → MemTableRecoverContext → Type 0
 ContextReadsOn file items old new = ContextReadsOne file.queue (record_read file.queue file.seq items) old new
 
@@ -85,7 +84,7 @@ abbrev pub LeavesNoHole : FileId → List LogItem → MemTableRecoverContext →
 LeavesNoHole file items c =
     in_append file.queue ≡ true → MayFollowAll (shown_of c.tables) (tagged_items place_of items)
 
--- A batch of Append wasn't read: the items before one of its items were applied, and applying this item failed. Its run
+-- If the batch is of Append, the items before one of its items were applied, and applying this item failed. Its run
 -- leaves a hole or has an index of 2 ^ 64 - 1 or more, or memory ran out.
 abbrev pub AppendRefused : FileId → List LogItem → MemTableRecoverContext → MemTableRecoverContext → Error
     → Type 0
@@ -104,9 +103,9 @@ abbrev pub MergesInto : LogQueue → MemTableRecoverContext → MemTableRecoverC
 MergesInto queue old later new =
     (xs ys : List ReadRecord) → HasRead queue xs old → HasRead queue ys later → HasRead queue (xs ++ ys) new
 
--- In raft group `g`, the tables show what was read of Append over what was read of Rewrite. They record the files of
--- Rewrite's atomic groups, and none past those that were read. The group counts if an item of it took effect after its
--- last Clean. For this, all of Append comes after all of Rewrite.
+-- In raft group `g`, the tables `m` show what was read of Append (`append`) over what was read of Rewrite (`rewrite`).
+-- They record the files of Rewrite's atomic groups, and none past those that were read. The group counts if an item of
+-- it took effect after its last Clean; for this, all of Append is after all of Rewrite.
 pub record IsOverAt (rewrite append : List ReadRecord) (m : MemTables) (g : ℕ) : Type 0 where
   pub rewritten : Replayed
   pub appended : Replayed
@@ -119,14 +118,14 @@ pub record IsOverAt (rewrite append : List ReadRecord) (m : MemTables) (g : ℕ)
 
 -- In every raft group, the tables show what was read of Append over what was read of Rewrite. This is claimed under
 -- two conditions, for both queues. Between the begin and the end of an atomic group, nothing takes effect for its
--- raft groups. In the raft group, the runs that take effect leave no hole, and their indexes are below 2 ^ 64 - 1.
+-- raft groups. In this raft group, the runs that take effect leave no hole, and their indexes are below 2 ^ 64 - 1.
 abbrev pub ComesOver : List ReadRecord → List ReadRecord → MemTables → Type 0
 ComesOver rewrite append m =
     Tidy (records_of rewrite) → Tidy (records_of append) → (g : ℕ)
     → AreHealthy (counted g rewrite) → AreHealthy (counted g append)
     → IsOverAt rewrite append m g
 
--- the contents of slot `s` in group `g`, if the queues have these records and `at` gives the bytes at each place
+-- the contents of slot `s` in group `g`, if the queues have these records and `at` gives the entry at each place
 abbrev pub meant_by : {E : Type 0} → (Located → E) → List ReadRecord → List ReadRecord → ℕ → Slot
     → Option (Content E (List ℕ))
 meant_by at rewrite append g s =

@@ -1,5 +1,5 @@
--- The files that the tables record for the atomic groups of Rewrite, and what takes effect if a replay starts at the
--- first of them.
+-- Tables record the first and the last file of the atomic groups of Rewrite. This file says what takes effect if a
+-- replay starts at the first of them.
 use Rattle.std.specs.Prelude.{◌≡◌, ℕ, ◌==◌, ◌||◌, ◌≤◌, ◌⊎◌, Bool, true, false, List, [], ◌∷◌, ◌++◌, Option, Some, None}
 use Rattle.std.specs.Global.{Vec}
 use Rattle.raft_log_model_laws.specs.Item.{Item, items_of}
@@ -31,7 +31,7 @@ ReadsParts (p ∷ ps) old new =
     (next : MemTables) × ReadsAll false p.file old next (tagged_items place_of p.items.items)
     × ReadsParts ps next new
 
--- the range of files after `so_far` was extended by the files of these records, one after another
+-- the range of files `so_far`, extended by the files of these records, one after another
 abbrev pub files_after : Option GroupFiles → List GroupPart → Option GroupFiles
 files_after so_far [] = so_far
 files_after so_far (p ∷ ps) = files_after (Some (with_file so_far p.file)) ps
@@ -50,7 +50,7 @@ abbrev pub is_listed : ℕ → List ℕ → Bool
 is_listed g [] = false
 is_listed g (h ∷ hs) = (h == g) || is_listed g hs
 
--- either the files were recorded for a raft group, in addition to those from before; or nothing was read of the group,
+-- either `files` were recorded for a raft group, in addition to those from before; or nothing was read of the group,
 -- and nothing was recorded for it
 abbrev pub NotesAt : GroupFiles → Replayed → Replayed → Type 0
 NotesAt files old new =

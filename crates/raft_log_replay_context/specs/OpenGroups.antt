@@ -1,4 +1,5 @@
--- The atomic groups that have begun and not ended, and the slots in which a context keeps them.
+-- The atomic groups that have begun and not ended. A context keeps them in a list, in which a slot has a group or is
+-- free.
 use Rattle.std.specs.Prelude.{◌≡◌, ℕ, ◌==◌, List, [], ◌∷◌, ◌++◌, get_or, set, Option, Some, None, option_map, if◌then◌else◌}
 use Rattle.std.specs.BTreeMap.{get, BTreeMap}
 use Rattle.std.specs.Ordering.{nat_cmp}
@@ -9,7 +10,7 @@ use Rattle.raft_log_replay_context.specs.declared.open_groups.OpenGroup.{OpenGro
 abbrev pub Begun : Type 0
 Begun = ℕ × List GroupPart
 
--- the group in the form that contracts use
+-- the group's number and records
 abbrev pub begun_of : OpenGroup → Begun
 begun_of u = (u.number, u.parts.items)
 

@@ -16,17 +16,16 @@ use Rattle.raft_log_replay_context.specs.Records.{counted, records_of, AreHealth
 use Rattle.raft_log_replay_context.specs.Noting.{AreWhereRead}
 use Rattle.raft_log_replay_context.specs.Context.{ArePlain, ComesOver}
 
--- the item with its entries as bytes, if `at` gives the bytes at each place, and with its value
+-- the item with entries instead of places, where `at` gives the entry at a place; a put has its value's bytes
 abbrev pub told_tagged : {E : Type 0} → (Located → E) → Tagged Located KeyValue → Tagged E (List ℕ)
 told_tagged at x = record { group = x.group; item = told at x.item }
 
--- the record with its entries as bytes, if `at` gives the bytes at each place, and with its values
+-- the record with entries instead of places, where `at` gives the entry at a place, and with its values' bytes
 abbrev pub told_record : {E : Type 0} → (Located → E) → Record Located KeyValue → Record E (List ℕ)
 told_record at (Plain xs) = Plain (map (told_tagged at) xs)
 told_record at (Part m xs) = Part m (map (told_tagged at) xs)
 
--- the records with their entries as bytes, if `at` gives the bytes at each place, without the files that they were
--- read from
+-- the records with entries instead of places (`told_record`), and without the files that they were read from
 abbrev pub told_records : {E : Type 0} → (Located → E) → List ReadRecord → List (Record E (List ℕ))
 told_records at rs = map (told_record at) (records_of rs)
 
@@ -35,7 +34,7 @@ abbrev pub AllReadIn : ℕ → List ReadRecord → Type 0
 AllReadIn n [] = Unit {0}
 AllReadIn n (r ∷ rs) = (r.file ≡ n) × AllReadIn n rs
 
--- `rs` are the records of these files, in order, each read from the file that has it
+-- `rs` are the records of these files, in order, each with the number of its file; `at` gives the entry at each place
 abbrev pub FilesHold : {E : Type 0} → (Located → E) → List ReadRecord → List (LogFile E (List ℕ)) → Type 0
 FilesHold at rs [] = rs ≡ []
 FilesHold at rs (f ∷ fs) =
@@ -53,7 +52,7 @@ pub record IsWhatWasRead {E : Type 0} (at : Located → E) (rs : List ReadRecord
   pub tidy : Tidy (records_of rs)
   pub healthy : (g : ℕ) → AreHealthy (counted g rs)
 
--- the contents of the log, if the queues have these records and `at` gives the bytes at each place
+-- the contents of the log, if the queues have these records and `at` gives the entry at each place
 abbrev pub map_read : {E : Type 0} → (Located → E) → List ReadRecord → List ReadRecord → Map E (List ℕ)
 map_read at rewrite append = directory_meaning (told_records at rewrite) (told_records at append)
 

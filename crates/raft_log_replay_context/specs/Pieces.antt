@@ -26,7 +26,7 @@ use Rattle.raft_log_replay_context.specs.OpenGroups.{Begun}
 use Rattle.raft_log_replay_context.specs.Records.{in_file, said_in, ReadItem, ReadRecord}
 
 -- What a statement looks at in a record: a function of the record's file and items. Statements about pieces hold for
--- every such function, so for the items (`as_said`) as for the files (`as_file`).
+-- every such function. With `as_said` they are about the items, with `as_file` about the files.
 abbrev pub Reading : Type 0
 Reading = ℕ → List ReadItem → List ReadItem
 
@@ -104,7 +104,7 @@ pub record ArePieces (rs : List ReadRecord) (p : GroupPieces) : Type 0 where
   pub heads : (φ : Reading) (n : ℕ) → head_at φ p n ≡ head n [] (seen_by φ rs)
   pub left_open : (φ : Reading) → left_open φ p ≡ unfinished (seen_by φ rs)
 
--- if `old` has the pieces of some records, `new` has the pieces of those records followed by `r`
+-- if `old` has the pieces of some records, `new` has the pieces of these records and then `r`
 abbrev pub TakesRecord : ReadRecord → GroupPieces → GroupPieces → Type 0
 TakesRecord r old new = (rs : List ReadRecord) → ArePieces rs old → ArePieces (rs ++ r ∷ []) new
 
@@ -178,7 +178,8 @@ pub record CarryOn (old : List (Unfinished Located KeyValue)) (before : ℕ → 
   pub heads : (n : ℕ) → then_head (head n [] rs) (after n) ≡ then_head (head n [] rs) (before n)
 
 -- The groups that `old` leaves open continue in the next segment, which does with each what `heads` says. `done` are
--- the groups that the segment ends, `new` has those that it leaves open. This holds for every function `φ` of records.
+-- the groups that the segment ends, `new` has those that it leaves open. After the records of `old`, `left` has the
+-- same effect as `heads`. This holds for every function `φ` of records.
 abbrev pub CarriesOn : GroupPieces → (Reading → ℕ → Head Located KeyValue) → GroupPieces
     → (Reading → ℕ → Head Located KeyValue) → List (Vec GroupPart) → Type 0
 CarriesOn old heads new left done =
@@ -192,8 +193,8 @@ HandsOut old heads done =
     × ((φ : Reading) (rs : List (Record Located KeyValue)) → left_open φ old ≡ unfinished rs
     → GoesToEnd φ (opened none_open rs n) (heads φ n) ps)) done
 
--- If the next segment ends `group`, then `new` is `old` with this group at the end, with all its records. Otherwise
--- `new` is `old`.
+-- `old` and `new` are lists of complete groups. If the next segment ends `group`, which its entry in the pieces says,
+-- `new` is `old` and then this group with all its records. Otherwise `new` is `old`.
 abbrev pub PassesOn : OpenGroup → Option GroupHead → List (Vec GroupPart) → List (Vec GroupPart) → Type 0
 PassesOn group (Some (code.Ends more)) old new =
     (ps : Vec GroupPart) × (new ≡ old ++ ps ∷ [])

@@ -47,7 +47,7 @@ taken_as markings.Unmarked xs = Some (Plain xs)
 taken_as (markings.Part id status) xs = Some (Part (part_of id status) xs)
 taken_as markings.Broken xs = None
 
--- the record, read from file `n`
+-- the record as one that was read from file `n`
 abbrev pub in_file : ℕ → Record Located KeyValue → ReadRecord
 in_file n r = record { file = n; taken = r }
 
@@ -68,7 +68,8 @@ abbrev pub RunsFit : {E V : Type 0} → List (Item E V) → Type 0
 RunsFit [] = Unit {0}
 RunsFit (x ∷ xs) = Fits x × RunsFit xs
 
--- no run of the items leaves a hole, and the indexes of each run are below 2 ^ 64 - 1
+-- No run of the items leaves a hole: none begins past the end of the entries before it. The indexes of each run are
+-- below 2 ^ 64 - 1.
 abbrev pub AreHealthy : {E V : Type 0} → List (Item E V) → Type 0
 AreHealthy xs = NoHole nothing xs × RunsFit xs
 
@@ -80,8 +81,9 @@ abbrev pub AreReplayed : Bool → List ReadRecord → (ℕ → Replayed) → Typ
 AreReplayed q rs z =
     Tidy (records_of rs) → (g : ℕ) → AreHealthy (counted g rs) → IsReplayed q (counted g rs) (z g)
 
--- If `old` is the result of replaying the items `before` of a raft group, `new` is that of replaying these and then the
--- group's items in `xs`. This is claimed only if all these runs leave no hole, and their indexes are below 2 ^ 64 - 1.
+-- If `old` is the result of replaying the items `before` of a raft group, `new` is that of `before` and then the
+-- group's items in `xs`. All are replayed as in Append if `q` is true, else as in Rewrite. This is claimed only if all
+-- these runs leave no hole, and their indexes are below 2 ^ 64 - 1.
 abbrev pub TablesTake : Bool → List ReadItem → (ℕ → Replayed) → (ℕ → Replayed) → Type 0
 TablesTake q xs old new =
     (g : ℕ) (before : List (Item Located KeyValue)) → AreHealthy (before ++ of_group g xs)

@@ -1,5 +1,5 @@
--- What the callers of one group see of a transcript, and what one voter gives them. In this file a voter serves the
--- calls of one group. It knows of no other group and of no crash.
+-- What the callers of one group see of a transcript (rounds with their requests and replies), and what one voter gives
+-- them. In this file a voter serves the calls of one group. It knows of no other group and of no crash.
 use Rattle.std.specs.Prelude.{ℕ, ◌+◌, ◌==◌, ◌&&◌, nat_lt, Bool, true, false, not, if◌then◌else◌, List, [], ◌∷◌, ◌++◌, length, drop, slice_get, Option, None, Some}
 use Rattle.raft_voter_messages.specs.declared.reply.Reply.{Reply}
 use Rattle.raft_voter_messages.specs.declared.reply.Reply.TheVariants.{Refused}
@@ -13,7 +13,7 @@ use Rattle.raft_voter_outline.specs.State.{State}
 
 -- What callers see.
 
--- the replies of a round with this outcome; none if it was cut off
+-- the replies of a round with this outcome; none if the round was cut off: if it ended without replies
 abbrev pub shown_replies : Outcome → List Reply
 shown_replies (Answered replies) = replies
 shown_replies Cut = []
@@ -43,8 +43,8 @@ abbrev pub has_replies : Outcome → Bool
 has_replies (Answered replies) = true
 has_replies Cut = false
 
--- The calls of `group` among these requests, whose positions count from `place`. Those before position `cut` were
--- taken, except at the positions in `refused`.
+-- The calls of `group` among these requests, whose positions count from `place`. Requests before position `cut` were
+-- taken, except those at the positions in `refused`.
 abbrev pub calls_from : ℕ → Bool → List ℕ → ℕ → ℕ → List (ℕ × Request) → List Call
 calls_from group replied refused cut place [] = []
 calls_from group replied refused cut place (q ∷ qs) =

@@ -47,7 +47,7 @@ second_life = record {
 abbrev pub two_lives : List Reply → List Round
 two_lives replies = first_life replies ∷ crash ∷ second_life ∷ []
 
--- replies of the first round that voters explain
+-- replies of the first round with which voters explain the rounds
 abbrev pub right_replies : List Reply
 right_replies = Matched 1 ∷ Granted 3 ∷ []
 
@@ -55,7 +55,7 @@ right_replies = Matched 1 ∷ Granted 3 ∷ []
 abbrev pub wrong_replies : List Reply
 wrong_replies = Matched 1 ∷ Granted 2 ∷ []
 
--- what the voter of group 1 took in the first round
+-- the request that the voter of group 1 took in the first round, with its reply
 abbrev pub matched_once : List (Request × Option Reply)
 matched_once = (append_one 0 0 65, Some (Matched 1)) ∷ []
 

@@ -1,4 +1,5 @@
--- The statements of the laws.
+-- What a transcript (rounds with their requests and replies) means for one group. `cuts` has, for each round that ended
+-- without replies, the position from which on its requests were lost.
 use Rattle.std.specs.Prelude.{◌≡◌, ◌↔◌, ◌⊎◌, ℕ, ◌-◌, ◌≤◌, ◌<◌, IsTrue, List, [], ◌∷◌, ◌++◌, length, slice_get, Option, Some}
 use Rattle.raft_voter_messages.specs.declared.reply.Entry.{Entry}
 use Rattle.raft_voter_messages.specs.declared.reply.Reply.{Reply}
@@ -24,8 +25,8 @@ abbrev pub EachGroupHasOneVoter : Type 0
 EachGroupHasOneVoter =
     (rounds : List Round) (cuts : List ℕ) → Explains rounds cuts → (group : ℕ) → HasOneVoter group rounds cuts
 
--- If the rounds lead from world `W` to world `X`, the callers of each group saw exactly what the group's voter in `W`
--- shows. This voter, after its calls in these rounds, is the group's voter in `X`.
+-- Worlds `W` and `X` give each group's voter. If the rounds lead from `W` to `X`, the callers of each group saw exactly
+-- what the group's voter in `W` shows. This voter, after its calls in these rounds, is the group's voter in `X`.
 abbrev pub EachGroupKeepsItsVoter : Type 0
 EachGroupKeepsItsVoter =
     (W X : World) (rounds : List Round) (cuts : List ℕ) → Leads W rounds cuts X
@@ -60,10 +61,10 @@ GroupsAloneExplain =
     (rounds : List Round) (cuts : List ℕ)
     → Explains rounds cuts ↔ (PlacesFit rounds cuts × ((group : ℕ) → HasOneVoter group rounds cuts))
 
--- Suppose an Append with the reply `Matched` brought entry `e` for index `i`, and a later Read of the same group
--- returned a range with `i`. Each request taken between them left the voter's entry at `i` (`AllSpare`). Then the Read
--- returned an entry with this index and the term of `e`. Its bytes are those of `e`, or those of an entry of this term
--- that the voter had at `i` before the Append.
+-- An Append with the reply `Matched` brought entry `e` (a term and bytes) for index `i`. A later Read of the same group
+-- returned a range with `i`. Each request taken `between` them leaves the voter's entry at `i` (`AllSpare`). Then the
+-- Read returned an entry with index `i` and the term of `e`. Its bytes are those of `e`, or those of an entry of this
+-- term that the voter had at `i` before the Append.
 abbrev pub AppendedEntryIsRead : Type 0
 AppendedEntryIsRead =
     (rounds : List Round) (cuts : List ℕ) (group : ℕ) → Explains rounds cuts

@@ -6,7 +6,8 @@ use Rattle.raft_voter_messages.specs.declared.stored.StoredFault.{StoredFault}
 use Rattle.raft_voter_messages.specs.declared.stored.StoredFault.TheVariants.{Memory}
 use Rattle.raft_voter_messages.specs.StoredForms.{EntryFault, IsEntry, IsState, StateFault, entry_text, state_fits, state_text, stored_entry_fits}
 
--- a voter's state with the index and term of its base in place of those of the last entry, as a store keeps it
+-- a voter's state as a store keeps it: with the index and term of its base (a snapshot's last included ones) in place
+-- of those of the last entry
 abbrev pub bare : VoterState → VoterState
 bare s = record s { last_index = s.base_index; last_term = s.base_term }
 
@@ -14,7 +15,7 @@ bare s = record s { last_index = s.base_index; last_term = s.base_term }
 abbrev pub OneState : Type 0
 OneState = (bytes : List ℕ) (s r : VoterState) → IsState bytes s → IsState bytes r → s ≡ r
 
--- If bytes have a fault, they encode no state, and every other fault that they have is the same one.
+-- If bytes have a fault, they encode no state, and they have no other fault.
 abbrev pub OneStateFault : Type 0
 OneStateFault =
     (bytes : List ℕ) (fault : StoredFault) → StateFault fault bytes
@@ -30,8 +31,8 @@ abbrev pub OneEntry : Type 0
 OneEntry =
     (bytes : List ℕ) (i j : ℕ) (e f : Entry) → IsEntry bytes i e → IsEntry bytes j f → (i ≡ j) × (e ≡ f)
 
--- If bytes have a fault other than `Memory` for an index, they encode no entry at that index. Every other fault that
--- they have for that index is the same one.
+-- If bytes have a fault other than `Memory` for an index, they encode no entry at that index. They have no other fault
+-- for it.
 abbrev pub OneEntryFault : Type 0
 OneEntryFault =
     (bytes : List ℕ) (index : ℕ) (fault : StoredFault) → fault ≢ Memory → EntryFault fault bytes index

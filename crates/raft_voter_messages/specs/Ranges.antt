@@ -1,4 +1,4 @@
--- Which numbers, entries and requests are in range. To any other request a voter replies `Refused`.
+-- Which numbers, entries and requests are in range. A voter replies `Refused` to a request that isn't.
 use Rattle.std.specs.Prelude.{ℕ, ◌+◌, ◌^◌, ◌&&◌, nat_lt, nat_le, Bool, true, List, [], ◌∷◌, length, sum_by}
 use Rattle.std.specs.List.{list_all}
 use Rattle.raft_voter_messages.specs.declared.request.Request.{Request}

@@ -1,4 +1,4 @@
--- What every form of a stored state begins with: its term, its vote and its base, as a reader gets them.
+-- The head with which every form of a stored state begins: the term, the vote and the base, as they are read.
 use Rattle.std.specs.Prelude.{◌≡◌, ◌≢◌, ℕ, IsTrue, List, ◌∷◌, Option}
 use Rattle.raft_voter_messages.specs.declared.reply.VoterState.{VoterState}
 use Rattle.raft_voter_messages.specs.declared.stored.head.StateHead.{StateHead}

@@ -1,5 +1,5 @@
 -- How a voter's state and its entries are stored as bytes. The first byte is the number of the form. A form defines
--- which bytes may follow and which faults they can have.
+-- which bytes may follow and which faults they can have. A state's base is a snapshot's last included index and term.
 use Rattle.std.specs.Prelude.{◌≡◌, ◌≢◌, ℕ, ◌<◌, ◌≤◌, ◌⊎◌, ◌&&◌, nat_le, Bool, true, IsTrue, List, [], ◌∷◌, ◌++◌, length, Option, None, Some}
 use Rattle.std.specs.Int.{to_be_bytes, w64}
 use Rattle.std.specs.Option.{option_map_or}
@@ -91,8 +91,8 @@ SpellsState (form ∷ body) s = ((form ≡ 1) × IsStateForm1 body s) ⊎ ((form
 abbrev pub IsState : List ℕ → VoterState → Type 0
 IsState bytes s = SpellsState bytes s × IsBareState s
 
--- The fault of bytes that are read as a state. It is `Length` if there are none, `Form` if the form byte is neither 1
--- nor 2, and otherwise the fault of that form.
+-- The fault of bytes that are read as a state. It is `Length` if there are no bytes, `Form` if the form byte is neither
+-- 1 nor 2, and otherwise the fault of that form.
 abbrev pub StateFault : StoredFault → List ℕ → Type 0
 StateFault fault [] = fault ≡ Length
 StateFault fault (form ∷ body) =
@@ -135,8 +135,8 @@ pub record IsEntry (bytes : List ℕ) (index : ℕ) (e : Entry) : Type 0 where
   pub in_range : IsTrue (stored_entry_fits e)
   pub at_index : e.index ≡ index
 
--- The fault of bytes that are read as the entry at `index`. It is `Length` if there are none, `Form` if the form byte
--- isn't 1, and otherwise the fault of form 1.
+-- The fault of bytes that are read as the entry at `index`. It is `Length` if there are no bytes, `Form` if the form
+-- byte isn't 1, and otherwise the fault of form 1.
 abbrev pub EntryFault : StoredFault → List ℕ → ℕ → Type 0
 EntryFault fault [] index = fault ≡ Length
 EntryFault fault (form ∷ body) index =

@@ -30,8 +30,8 @@ AreInFormats (file ∷ files) [] found = ⊥
 AreInFormats (file ∷ files) (ending ∷ endings) found = (more : List File)
     × (found ≡ record file { format = ending.format } ∷ more) × AreInFormats files endings more
 
--- A pipe is opened over `found`. It has `files`, each with the format that was read from it. If there are files, it has
--- the end that was read from the last one.
+-- `found`, over which a pipe is opened, has `files`, each with the format that was read from it. If there are files,
+-- `found` has the end that was read from the last one.
 pub record AreFoundAsRead (files : List File) (endings : List FileEnding) (found : FoundFiles) : Type 0 where
   pub formats : AreInFormats files endings found.files.items
   pub end : (front : List FileEnding) (ending : FileEnding) → endings ≡ front ++ ending ∷ []

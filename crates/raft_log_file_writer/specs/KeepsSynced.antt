@@ -107,7 +107,8 @@ abbrev pub StandsBehind : ℕ → List ℕ → List ℕ → Type 0
 StandsBehind from stale bytes = (place : ℕ) → from ≤ place → place < length bytes
     → (place < length stale) × (slice_index bytes place ≡ slice_index stale place)
 
--- What keeps a chain in its file. `content` is what the file contains after the change; it may be anything.
+-- Changes of a file through which it still holds its chain. `content` is what the file contains after the change; it
+-- may be anything.
 -- - `written`: a record was written after the chain, whatever part of it is on disk; it is now the last pending one.
 -- - `to_be_written`: records that are still to be written count as pending.
 -- - `shortened`: the file was truncated, but not before the end of the durable records.

@@ -72,7 +72,7 @@ abbrev pub reach : ℕ → ℕ → ℕ → ℕ
 reach capacity end target = if nat_lt capacity end then capacity + allocated capacity end target else capacity
 
 -- Space is made for a write that ends at `end`, in a file that is at most `capacity` bytes long. If the write may not
--- fit, space is allocated, up to 2 MiB more than it needs if `target` is larger. A failure to allocate is ignored.
+-- fit, space is allocated ahead of it, as much as `allocated` says. A failure to allocate is ignored.
 pub data MakesRoom (handle : Handle) (capacity end target : ℕ) (old new : Disk) : Type 0 where
   is_there : end ≤ capacity → new ≡ old → MakesRoom handle capacity end target old new
   is_allocated : capacity < end → Grows handle (capacity + allocated capacity end target) old new

@@ -19,7 +19,7 @@ use Rattle.raft_voter_durability_laws.specs.Requests.{WasTurnedDown}
 abbrev pub IsRaw : {M : Type 0} → (M → List ℕ) → (List ℕ → Option M) → Type 0
 IsRaw {M} text reading = (bytes : List ℕ) → (x : M) × (reading bytes ≡ Some x) × (text x ≡ bytes)
 
--- the tables show no entry of a group that doesn't count: one without an item after its last Clean
+-- A group counts if it has an item after its last Clean. The tables show no entry of a group that doesn't count.
 abbrev pub IsCounted : EngineState → Type 0
 IsCounted s = (g : ℕ) → s.counts g ≡ false → length (s.tables g).places ≡ 0
 

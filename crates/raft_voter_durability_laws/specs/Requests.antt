@@ -31,7 +31,7 @@ use Rattle.raft_voter_records.specs.Voters.{Means}
 use Rattle.raft_voter_records.specs.MeaningChanges.{decided_items, record_in}
 use Rattle.raft_voter_durability_laws.specs.Standing.{AreOutlines}
 
--- batch `b` has the items of the change `c`, which was decided for request `q` of group `g`, and may be written
+-- batch `b` may be written, and has the items of the change `c`, which was decided for request `q` of group `g`
 pub record SaysChange (g : ℕ) (q : Request) (c : Change) (b : Batch) : Type 0 where
   pub says : record_of (entry_bytes b.entries) b.items ≡ Some (record_in g (decided_items c q))
   pub writable : IsWritable b.state
@@ -72,7 +72,7 @@ IsUnwrittenFor errors.Memory s t = Unit {0}
 IsUnwrittenFor _ s t = ⊥
 
 -- Why entries of a group from index `from` on, below `to`, weren't read, though the tables show them: the file of one
--- can't be read, or memory ran out. None is reported as damaged.
+-- of them can't be read, or memory ran out. No entry is reported as damaged.
 pub record WereUnread (g from to : ℕ) (s : EngineState) (error : Error) : Type 0 where
   pub index : ℕ
   pub entry : EntryIndex

@@ -18,8 +18,8 @@ abbrev pub StandFrom : Group → ℕ → List (List ℕ) → Type 0
 StandFrom grp i [] = Unit {0}
 StandFrom grp i (bytes ∷ others) = (grp (Index i) ≡ Some (Entry bytes)) × StandFrom grp (i + 1) others
 
--- One of `texts` doesn't parse as an entry with its own index, and `fault` says why. The first of them has index
--- `first`.
+-- One of `texts`, the stored bytes of consecutive entries, doesn't parse as an entry with its index, and `fault` says
+-- why. The first of `texts` has the index `first`.
 pub record HasBroken (first : ℕ) (texts : List (List ℕ)) : Type 0 where
   pub place : ℕ
   pub bytes : List ℕ
@@ -36,7 +36,7 @@ AreNoEntries g first texts (causes.Foreign h) = (h ≡ g) × HasBroken first tex
 AreNoEntries g first texts (causes.Engine error) = ⊥
 AreNoEntries g first texts causes.Memory = Unit {0}
 
--- `es` were read as the consecutive entries of group `g` from index `first` on
+-- engine `e` read `es` as the consecutive entries of group `g` from index `first` on
 pub record ReadsRun (e : EngineState) (g first : ℕ) (es : List VoterEntry) : Type 0 where
   pub texts : List (List ℕ)
   pub read : AreReadAs first texts es

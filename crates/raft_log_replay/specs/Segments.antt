@@ -13,7 +13,7 @@ abbrev pub all_batches : List (List Batch) → List Batch
 all_batches bss = flat_map (λ bs. bs) bss
 
 -- The machine has read the batches of the segments from number `first` on, below `last`, in order. `endings` has for
--- each segment how reading it ended.
+-- each segment the value that reading it returned.
 pub record HasReadSegments {M E : Type 0} (holds : ℕ → List Batch → E → Type 0)
     (reads : List Batch → M → Type 0) (first last : ℕ) (machine : M) (endings : List E) : Type 0 where
   pub batches : List (List Batch)
@@ -60,8 +60,8 @@ IsChunk holds reads begins refuses declines first last (Err error) =
 abbrev pub chunk_start : ℕ → ℕ → ℕ → ℕ
 chunk_start size count index = min (index * size) count
 
--- each element covers a range of numbers that begins where the range before ends; together they cover `first` up to
--- `last`
+-- Each element covers a range of numbers, as `between` says. A range begins where the one before ends; together they
+-- cover `first` up to `last`.
 abbrev pub Follow : {A : Type 0} → (ℕ → ℕ → A → Type 0) → ℕ → ℕ → List A → Type 0
 Follow between first last [] = first ≡ last
 Follow between first last (x ∷ xs) =

@@ -62,8 +62,9 @@ pub record IsWriterAt (writer : LogFileWriter) (handle : Handle) (written capaci
 
 -- Writing: which calls are made, in which order.
 
--- How many bytes are allocated after `capacity` for a write that ends at `end`. It is the larger of two numbers: the
--- bytes missing up to `end`; and those missing up to `target`, of which at most 2 MiB count.
+-- How many bytes are allocated after `capacity` for a write that ends at `end`. `target` is the size that the file is
+-- expected to reach. The result is the larger of two numbers: the bytes missing up to `end`; and those missing up to
+-- `target`, of which at most 2 MiB count.
 abbrev pub allocated : ℕ → ℕ → ℕ → ℕ
 allocated capacity end target = max (end - capacity) (min 2097152 (target - capacity))
 

@@ -37,7 +37,8 @@ use Rattle.raft_log_recovery_laws.specs.ByCalls.{home_of, ForAllNaming, LogIsRec
 abbrev pub StandsWithoutChance : LogDirectories → State → Disk → Type 0
 StandsWithoutChance home s d = IsCrashOf home s d (as_it_stands d)
 
--- An open failed after its syncs: the log was recovered and all files were synced, but opening a pipe failed.
+-- An open failed after its syncs: the log on disk `d` was recovered and all files were synced, but opening a pipe
+-- failed. `new` is the disk after that.
 pub record StopsSynced {F : Type 0} (disk : F → Disk) (tells : F → List ℕ → ℕ → Type 0) (config : Config)
     (d new : Disk) : Type 0 where
   pub append : MemTableRecoverContext

@@ -1,5 +1,7 @@
 -- The result of reading the segments of a queue, possibly by several workers. A segment here is one file or several
--- consecutive files.
+-- consecutive files. What a source defines: `holds` says which batches and which ending a segment has, `begins` with
+-- which batches it begins, `refuses` why it can't be read. What a machine defines: `reads` says which batches it has
+-- read, `declines` at which it fails.
 use Rattle.std.specs.Prelude.{◌≡◌, ℕ, zero, suc, ◌+◌, ◌*◌, ◌<◌, ◌≤◌, min, List, [], ◌∷◌, ◌++◌, length, Result, Ok, Err}
 use Rattle.std.specs.List.{flat_map}
 use Rattle.raft_log_record_base.specs.declared.errors.Error.{Error}
@@ -24,9 +26,10 @@ pub record HasReadSegments {M E : Type 0} (holds : ℕ → List Batch → E → 
 -- Why reading the segments from number `first` on, below `last`, fails. Except in the first case, all segments before
 -- the failure could be read.
 -- - `memory`: memory ran out.
--- - `unread`: a segment can't be read.
--- - `declined`: a machine fails at the first batches of a segment, after it read the batches just before.
--- - `apart`: two machines aren't merged, because of the batches that they have read.
+-- - `unread`: a segment can't be read (`refuses`).
+-- - `declined`: a machine fails (`declines`) at the first batches of a segment (`begins`), after it read the batches
+--   just before.
+-- - `apart`: two machines aren't merged, because of the batches that they have read (`declines`).
 pub data IsRefusedIn {E : Type 0} (holds : ℕ → List Batch → E → Type 0) (begins : ℕ → List Batch → Type 0)
     (refuses : ℕ → Error → Type 0) (declines : List Batch → Error → Type 0) (first last : ℕ) (error : Error)
     : Type 0 where

@@ -1,4 +1,6 @@
--- Replaying one segment of a queue with a machine.
+-- Replaying one segment of a queue with a machine. What a source defines: `holds` says which batches and which ending a
+-- segment has, `begins` with which batches it begins, `refuses` why it can't be read. What a machine defines: `reads`
+-- says which batches it has read, `declines` at which it fails.
 use Rattle.std.specs.Prelude.{◌≡◌, ℕ, suc, ◌⊎◌, List, [], ◌∷◌, ◌++◌}
 use Rattle.raft_log_record_base.specs.declared.errors.Error.{Error}
 use Rattle.raft_log_record_base.specs.declared.errors.Error.TheVariants.{Memory}

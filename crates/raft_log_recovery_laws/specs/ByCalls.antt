@@ -88,7 +88,8 @@ ScansFindAllFiles = (config : Config) (d : Disk) (m : LogMap) → IsSound d
     × AreQueueFiles (log_in (home_of config)).rewrite rests.state.rewrite scanned (rewrite_files found)
 
 -- A log at rest was recovered, and all its files were synced. Then each file that is kept for recycling can be
--- recycled, since it holds no record under any number that it may get.
+-- recycled, and no two of them have the same path. Whatever such a file holds counts as stale under any number that it
+-- may get.
 abbrev pub SyncedSparesCanBeUsed : {F : Type 0} → (F → Disk) → (F → List ℕ → ℕ → Type 0) → Type 0
 SyncedSparesCanBeUsed disk tells = (config : Config) (d : Disk) (m : LogMap) → IsSound d
     → IsDurableAs (log_in (home_of config)) d m

@@ -1,5 +1,6 @@
 -- Synced records are kept: what a stop may leave of a chain of records, if there is no CRC collision. The stale bytes
--- of a file are those that it held when it got its number: none if it is new, all its bytes if it is recycled.
+-- of a file are those that it held when it got its number. A new file has none; of a recycled file, all bytes are
+-- stale.
 use Rattle.std.specs.Prelude.{◌≡◌, ℕ, ◌+◌, ◌<◌, ◌≤◌, ◌⊎◌, List, [], ◌∷◌, ◌++◌, length, take, drop, slice_index, Contains}
 use Rattle.std.specs.List.{All}
 use Rattle.raft_log_fs.specs.Disk.{Change, Wrote, ShortenedTo, GrewTo, File, at_rest, overwritten}

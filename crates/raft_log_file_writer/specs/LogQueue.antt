@@ -66,8 +66,8 @@ pub record IsPast {R : Type 0} (F : Format R) (n : ℕ) (past : Past R) (file : 
   pub header : F.IsHeader past.header
   pub frames : AreFrames (F.IsFrame n past.header) past.records
 
--- The last file as a stop left it, all synced: reading it gives exactly the queue's records, and a reader doesn't take
--- it for a file with an alignment.
+-- The last file as a stop left it, all synced. Reading it gives exactly the queue's records. A reader doesn't take it
+-- for a file with an alignment.
 pub record IsLeftover {R : Type 0} (F : Format R) (q : LogFiles R) (file : File) : Type 0 where
   pub bytes : List ℕ
   pub is : file ≡ at_rest bytes

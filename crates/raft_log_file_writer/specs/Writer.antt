@@ -63,8 +63,8 @@ pub record IsWriterAt (writer : LogFileWriter) (handle : Handle) (written capaci
 -- Writing: which calls are made, in which order.
 
 -- How many bytes are allocated after `capacity` for a write that ends at `end`. `target` is the size that the file is
--- expected to reach. The result is the larger of two numbers: the bytes missing up to `end`; and those missing up to
--- `target`, of which at most 2 MiB count.
+-- expected to reach. The result is the larger of two numbers. One is the bytes missing up to `end`. The other is those
+-- missing up to `target`, but at most 2 MiB.
 abbrev pub allocated : ℕ → ℕ → ℕ → ℕ
 allocated capacity end target = max (end - capacity) (min 2097152 (target - capacity))
 
@@ -177,8 +177,8 @@ pub record CanBeTakenUp (handle : Handle) (d : Disk) : Type 0 where
   pub permitted : handle.permission ≡ ReadWrite
   pub there : d.files handle.file ≡ None → ⊥
 
--- If the handle may write its file, then after the writer was opened, the bytes up to its offset are these: the header
--- if it was written, otherwise all of the file's old content.
+-- A writer was opened by a handle that may write the file. Then the bytes up to the writer's offset are the header if
+-- it was written, otherwise all of the file's old content.
 abbrev pub IsTakenUp : Handle → List ℕ → Bool → LogFileWriter → Disk → Disk → Type 0
 IsTakenUp handle header reset writer old new = (file : File) → handle.permission ≡ ReadWrite
     → old.files handle.file ≡ Some file → IsWritten writer (taken_up header reset file.content) new

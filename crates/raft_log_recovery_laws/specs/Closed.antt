@@ -44,9 +44,9 @@ abbrev pub UndisturbedClosesAreProper : Type 0
 UndisturbedClosesAreProper = (log : LogSense) (v : LogPipes) (s : State) (new : Disk) → IsSound v.disk → RunsOn log v s
     → ClosesInOrder v new → (Fails v.disk new → ⊥) → ClosesProperly v new
 
--- After a close, the file that was the pipe's active one has exactly its header and the bytes that the pipe wrote after
--- it, all synced. Zeros that were allocated ahead, and stale bytes of a recycled file, are gone. No other file has its
--- number. `old` is the disk before the close, `new` the disk after it.
+-- After a close, the pipe's active file has exactly its header and the bytes that the pipe wrote after it, all synced.
+-- Zeros that were allocated ahead, and stale bytes of a recycled file, are gone. No other file has its number. `old` is
+-- the disk before the close, `new` the disk after it.
 pub record EndsWithOwnBytes (F : Format LogRecord) (files : PipeFiles) (old new : Disk) : Type 0 where
   pub bytes : (before : File) → old.files files.writer.handle.file ≡ Some before
       → new.files files.writer.handle.file ≡ Some (at_rest (active_header files ++ own_bytes files before))

@@ -20,8 +20,8 @@ pub record OpenAlike {F : Type 0} (disk : F → Disk) (tells : F → List ℕ �
   pub source : OpensAs disk tells config now m
   pub before : OpensAs disk tells config old m
 
--- If a log at rest was forked into a clear target, an open of the fork gives the same contents as an open of the
--- source, before or after.
+-- A log at rest was forked into a clear target. Then an open of the fork gives the same contents as an open of the
+-- source, before or after the fork.
 abbrev pub ForksOpenAsTheirSource : {F : Type 0} → (F → Disk) → (F → List ℕ → ℕ → Type 0) → Type 0
 ForksOpenAsTheirSource {F} disk tells = (config to : Config) (target : List ℕ) (copied : List (List ℕ))
     (old now : F) (m : LogMap) → IsSound (disk old) → IsSound (disk now) → NamesOnly to target

@@ -165,8 +165,9 @@ pub record PurgesKeepVoters : Type 0 where
 abbrev pub EnginesLeaveLogs : Type 0
 EnginesLeaveLogs = (s : EngineState) → LeavesLog s s.pipes.disk
 
--- After an engine was closed or dropped, its log's files can be opened with the same voters. If a round was cut off and
--- the log is then forked, the source's files still have voters that took the round's requests below one position.
+-- After an engine was closed or dropped, its log's files can be opened with the same voters. `forked`: a round was cut
+-- off, and the log is then forked. The source's files still have voters that took the round's requests below one
+-- position.
 pub record VotersAreLeft : Type 0 where
   pub gone : (home : LogDirectories) (V : World) (s : EngineState) (d : Disk) → Keeps home s V → LeavesLog s d
       → IsLeftWith home d V

@@ -71,7 +71,7 @@ IsUnwrittenFor errors.NumberRange s t = HasLastNumber InAppend t.pipes
 IsUnwrittenFor errors.Memory s t = Unit {0}
 IsUnwrittenFor _ s t = ⊥
 
--- Why entries of a group from index `from` on, below `to`, weren't read, though the tables show them: the file of one
+-- Why entries of a group from index `from` on, below `to`, weren't read, though the tables show them. The file of one
 -- of them can't be read, or memory ran out. No entry is reported as damaged.
 pub record WereUnread (g from to : ℕ) (s : EngineState) (error : Error) : Type 0 where
   pub index : ℕ

@@ -24,7 +24,7 @@ read_answer o from to =
     else if nat_lt (last_index o + 1) to then Told (Unknown (last_index o))
     else EntriesAnswer from to
 
--- This write of plan `p` changes nothing of outline `o`: the plan keeps the stored state, and the write is
+-- This write of plan `p` changes nothing of outline `o`. The plan keeps the stored state, and the write is
 -- `StateAlone`, or the `Clean` of an empty log.
 abbrev pub Stays : State → Plan → Write → Type 0
 Stays o p StateAlone = p.state ≡ stored_state o

@@ -1,5 +1,5 @@
--- Opening a log at rest with the one call that does the whole open. At rest, no engine has the log open, and all of it
--- is synced. A batch is pending if it was written but not synced yet.
+-- Opening a log at rest by one call that does the whole open (`open_directory`). At rest, no engine has the log open,
+-- and all of it is synced. A batch is pending if it was written but not synced yet.
 use Rattle.std.specs.Prelude.{ℕ, ◌<◌, List, [], length}
 use Rattle.raft_log_record_base.specs.declared.errors.Error.{Error}
 use Rattle.raft_log_fs.specs.Disk.{Disk}

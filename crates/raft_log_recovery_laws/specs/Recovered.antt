@@ -53,8 +53,9 @@ pub record WereRead (mode : RecoveryMode) (append rewrite : FoundPipe) (d : Disk
   pub rewrite_found : AreFoundAsRead rewrite_files rewrite_endings rewrite.found
   pub merged : AreMerged append_batches rewrite_batches tables
 
--- A log was at rest on disk `old` with the contents `m`. It was read into `tables`, and its pipes were opened as `v`.
--- Then an engine with these has the contents `m`, with nothing pending.
+-- A log was at rest on disk `old` with the contents `m`, and its files were found as `append` and `rewrite`. They were
+-- read into `tables`, and pipes were opened over them as `v`. Then an engine with these has the contents `m`, with
+-- nothing pending.
 abbrev pub ReadLogsAreHeld : Type 0
 ReadLogsAreHeld = (home : LogDirectories) (m : LogMap) (mode : RecoveryMode) (append rewrite : FoundPipe) (old : Disk)
     (v : LogPipes) (tables : MemTables) → OpensLog append rewrite old v

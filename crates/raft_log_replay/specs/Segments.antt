@@ -50,7 +50,8 @@ abbrev pub read_by : ℕ → ℕ → ℕ
 read_by zero count = zero
 read_by (suc workers) count = count
 
--- the result for a chunk, which is several consecutive segments: all of them were read, or reading failed
+-- the result for a chunk, the consecutive segments from number `first` on, below `last`: all were read, or reading
+-- failed
 abbrev pub IsChunk : {M E : Type 0} → (ℕ → List Batch → E → Type 0) → (List Batch → M → Type 0)
     → (ℕ → List Batch → Type 0) → (ℕ → Error → Type 0) → (List Batch → Error → Type 0) → ℕ → ℕ
     → Result (ReadSegments M E) Error → Type 0

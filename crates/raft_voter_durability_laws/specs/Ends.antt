@@ -60,8 +60,8 @@ pub record GaveUp (home : LogDirectories) (V : World) (qs : List (ℕ × Request
   pub left : IsLeftAmong home t.pipes.disk (IsPassedOrOneMore V qs told)
 
 -- A round of the requests `qs` began with engine `s` and the voters of `V`. The sync at its end failed, as a file
--- system call failed; the engine is now `t`. The log's files can be opened, and store the voters after a prefix of the
--- requests taken.
+-- system call failed; the engine is now `t`. `told` has the replies; those that aren't `Refused` are the voters' own.
+-- The log's files can be opened, and store the voters after a prefix of the requests taken.
 pub record Unsynced (home : LogDirectories) (V : World) (qs : List (ℕ × Request)) (told : List Reply) (s t : EngineState)
     : Type 0 where
   pub failed : has_failed t ≡ true

@@ -35,18 +35,19 @@ pub record HasStaleFrom (from : ℕ) (stale : List ℕ) (file : File) : Type 0 w
   pub covers : length stale ≤ length file.content
 
 -- Up to the writer's offset, the file has the records `durable` and `pending`, from `start` on, and it holds this
--- chain. Only stale bytes follow the offset: since the last close, no write has failed.
+-- chain. Only stale bytes follow the offset, and no part of a record whose write failed.
 abbrev pub IsReady : {R : Type 0} → (List ℕ → R → Type 0) → ℕ → List ℕ → List (Written R) → List (Written R)
     → LogFileWriter → Disk → Type 0
 IsReady IsFrame start stale durable pending writer d = IsAtEnd IsFrame start stale durable pending [] writer d
     × HasFile writer.handle.file (HasStaleFrom writer.written stale) d
 
--- What the calls of a writer do to a chain.
+-- What the calls of a writer do to a chain. A call changes the writer `before` to `after`, and disk `old` to `new`.
 -- - `written`: the record that was written is the last pending one. Zeros that were allocated count as stale.
 -- - `refused`: the record whose write failed counts as the last pending one. The writer's offset is unchanged.
 -- - `synced`: all records are durable.
 -- - `not_synced`: the durable records are still durable; a prefix of the pending ones may be durable too.
--- - `closed`: the file has exactly the durable and pending records, all durable, without those whose write failed.
+-- - `closed`: from `start` on the file has exactly the durable and pending records, all durable now. Those whose write
+--   failed are gone.
 -- - `not_closed`: the durable records are still durable. Those whose write failed count as pending.
 pub record ChainIsWritten {R : Type 0} (IsFrame : List ℕ → R → Type 0) (start : ℕ) (stale : List ℕ)
     (durable pending : List (Written R))
@@ -72,7 +73,7 @@ pub record ChainIsWritten {R : Type 0} (IsFrame : List ℕ → R → Type 0) (st
       → FailsToClose before after error old new
       → HasFile before.handle.file (HoldsAtLeast IsFrame start stale durable (pending ++ more)) new
 
--- each call of a writer has these effects on each chain, if the frame relation is self-delimiting
+-- each call of a writer has the effects of `ChainIsWritten` on each chain, if the frame relation is self-delimiting
 abbrev pub WriterKeepsChain : {R : Type 0} → (List ℕ → R → Type 0) → Type 0
 WriterKeepsChain {R} IsFrame = IsSelfDelimiting IsFrame
     → (start : ℕ) (stale : List ℕ) (durable pending : List (Written R))

@@ -12,8 +12,8 @@ abbrev pub one_unsynced : {R : Type 0} → List ℕ → Written R → File
 one_unsynced synced w =
     record { content = synced ++ w.bytes; synced = synced; changes = Wrote (length synced) w.bytes ∷ [] }
 
--- Some records are synced, the last one (`w`) isn't, and a stop leaves only a prefix of it. Then there is no CRC
--- collision, and exactly the synced records are read.
+-- After the bytes `front`, the records `durable` are synced, and the last record, `w`, isn't. A stop leaves only its
+-- first `landed` bytes. Then there is no CRC collision, and exactly the synced records are read.
 abbrev pub TornRecordIsLost : {R : Type 0} → (List ℕ → R → Type 0) → Type 0
 TornRecordIsLost {R} IsFrame = IsSelfDelimiting IsFrame
     → (front stale : List ℕ) (durable : List (Written R)) (w : Written R) (landed : ℕ)
@@ -24,8 +24,8 @@ TornRecordIsLost {R} IsFrame = IsSelfDelimiting IsFrame
     IsLeft file bytes × NoChanceMatch IsFrame (length front) stale (spelled (durable ++ w ∷ [])) file bytes
     × Reads IsFrame (length front) durable bytes)
 
--- The last record of a file (`w`) isn't synced. A stop may leave a different record of at most the same length in its
--- place, but that is a CRC collision.
+-- The last record of a file, `w`, isn't synced. A stop may leave a different record, `foreign`, in its place, which is
+-- at most as long. But that is a CRC collision.
 abbrev pub ForeignRecordIsChance : {R : Type 0} → (List ℕ → R → Type 0) → Type 0
 ForeignRecordIsChance {R} IsFrame = IsSelfDelimiting IsFrame
     → (front stale : List ℕ) (durable : List (Written R)) (w foreign : Written R)
@@ -37,7 +37,8 @@ ForeignRecordIsChance {R} IsFrame = IsSelfDelimiting IsFrame
     IsLeft file bytes
     × (NoChanceMatch IsFrame (length front) stale (spelled (durable ++ w ∷ [])) file bytes → ⊥))
 
--- If another record is synced after the durable ones, and it isn't stale, the file doesn't hold the chain.
+-- If another record, `foreign`, is synced right after the durable ones, and it isn't stale, the file doesn't hold the
+-- chain.
 abbrev pub ForeignRecordBehindIsRefused : {R : Type 0} → (List ℕ → R → Type 0) → Type 0
 ForeignRecordBehindIsRefused {R} IsFrame = IsSelfDelimiting IsFrame
     → (front stale behind : List ℕ) (durable pending : List (Written R)) (foreign : Written R)

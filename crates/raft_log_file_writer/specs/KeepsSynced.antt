@@ -1,5 +1,6 @@
 -- Synced records are kept: what a stop may leave of a chain of records, if there is no CRC collision. The stale bytes
--- of a file are those that it held when it got its number: none if it is new, all its bytes if it is recycled.
+-- of a file are those that it held when it got its number. A new file has none; of a recycled file, all bytes are
+-- stale.
 use Rattle.std.specs.Prelude.{◌≡◌, ℕ, ◌+◌, ◌<◌, ◌≤◌, ◌⊎◌, List, [], ◌∷◌, ◌++◌, length, take, drop, slice_index, Contains}
 use Rattle.std.specs.List.{All}
 use Rattle.raft_log_fs.specs.Disk.{Change, Wrote, ShortenedTo, GrewTo, File, at_rest, overwritten}
@@ -107,7 +108,8 @@ abbrev pub StandsBehind : ℕ → List ℕ → List ℕ → Type 0
 StandsBehind from stale bytes = (place : ℕ) → from ≤ place → place < length bytes
     → (place < length stale) × (slice_index bytes place ≡ slice_index stale place)
 
--- What keeps a chain in its file. `content` is what the file contains after the change; it may be anything.
+-- Changes of a file through which it still holds its chain. `content` is what the file contains after the change; it
+-- may be anything.
 -- - `written`: a record was written after the chain, whatever part of it is on disk; it is now the last pending one.
 -- - `to_be_written`: records that are still to be written count as pending.
 -- - `shortened`: the file was truncated, but not before the end of the durable records.

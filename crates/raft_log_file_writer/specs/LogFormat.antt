@@ -1,6 +1,6 @@
--- The format of a log: numbered files, each with a header, and records after the header. How a record is encoded
--- depends on the number of its file: records that were written under an earlier number of the file don't count. Also
--- the premise on CRC collisions in one file.
+-- The format of a log: numbered files, each with a header, and records after the header. How a record is encoded may
+-- depend on its file's number and header. So a record that was written under an earlier number may not count. The file
+-- also has the premise on CRC collisions in one file.
 use Rattle.std.specs.Prelude.{◌≡◌, ℕ, ◌<◌, ◌⊎◌, List, [], ◌++◌, length}
 use Rattle.raft_log_fs.specs.Disk.{File}
 use Rattle.raft_log_file_writer.specs.LawsChains.{Written, IsSelfDelimiting, CanTell, Reads}

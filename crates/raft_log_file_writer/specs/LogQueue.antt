@@ -60,14 +60,14 @@ pub record HoldsLast {R : Type 0} (F : Format R) (q : LogFiles R) (file : File) 
   pub chain : HoldsAtLeast (F.IsFrame q.last q.header) (length q.header) q.stale q.durable q.pending file
   pub headed : HeaderStands q.header file ⊎ (recent q ≡ [])
 
--- the file consists of exactly the header and the records of `past`, all synced, and these are valid for number `n`
+-- the file consists of exactly the header and the records of `past`, all synced; the records are valid for number `n`
 pub record IsPast {R : Type 0} (F : Format R) (n : ℕ) (past : Past R) (file : File) : Type 0 where
   pub is : file ≡ at_rest (past.header ++ spelled past.records)
   pub header : F.IsHeader past.header
   pub frames : AreFrames (F.IsFrame n past.header) past.records
 
--- The last file as a stop left it, all synced: reading it gives exactly the queue's records, and a reader doesn't take
--- it for a file with an alignment.
+-- The last file as a stop left it, all synced. Reading it gives exactly the queue's records. A reader doesn't take it
+-- for a file with an alignment.
 pub record IsLeftover {R : Type 0} (F : Format R) (q : LogFiles R) (file : File) : Type 0 where
   pub bytes : List ℕ
   pub is : file ≡ at_rest bytes
@@ -156,8 +156,8 @@ KeepsQueue {R} F q d = (image : Disk) → IsImage d image → NoChanceInLast F q
     → (found : List (Found R)) → ReadsFrom F image s found → (count : ℕ) × (count ≤ length q.pending)
     × (found ≡ found_from s q count)
 
--- After any stop without a CRC collision in the last file, a `count` is fixed. Reading from any number on gives the
--- durable records of the last file and its first `count` pending ones.
+-- After any stop without a CRC collision in the last file, one `count` holds for every number that reading begins with.
+-- Of the last file, reading gives the durable records and the first `count` pending ones.
 abbrev pub EndsInOnePlace : {R : Type 0} → Format R → LogFiles R → Disk → Type 0
 EndsInOnePlace {R} F q d = (image : Disk) → IsImage d image → NoChanceInLast F q d image
     → (count : ℕ) × (count ≤ length q.pending)
@@ -177,7 +177,7 @@ IsReadable {R} F q d = (image : Disk) → IsImage d image → (s : ℕ) → s �
 -- - `holding`, `left_over`: reading the last file gives its durable records and a prefix of the pending ones. This is
 --   true of a file in use, and of one that a stop left.
 -- - `kept`, `restarted`: reading the queue gives these records of the last file and all records of the earlier files.
--- - `ends`: from whatever number reading begins, it gives the same pending records.
+-- - `ends`: on a sound disk, reading gives the same pending records from whatever number it begins.
 pub record QueueIsKept {R : Type 0} (F : Format R) : Type 0 where
   pub holding : (q : LogFiles R) → F.IsHeader q.header → KeepsLast F q (HoldsLast F q)
   pub left_over : (q : LogFiles R) → KeepsLast F q (IsLeftover F q)

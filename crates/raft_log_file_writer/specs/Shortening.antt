@@ -6,8 +6,8 @@ use Rattle.raft_log_fs.specs.Calls.{after_change, with_change, flushed}
 use Rattle.raft_log_file_writer.specs.LawsChains.{Written, IsSelfDelimiting, AreFrames, spelled}
 use Rattle.raft_log_file_writer.specs.KeepsSynced.{HoldsChain, HoldsAtLeast, kept_records}
 
--- The file holds the chain. Up to the offset `size` it has exactly the durable records and the first `count` pending
--- ones.
+-- The file holds the chain. Between `start` and the offset `size` it has exactly the durable records and the first
+-- `count` pending ones.
 pub record CanShorten {R : Type 0} (IsFrame : List ℕ → R → Type 0)
     (start : ℕ) (stale : List ℕ) (size count : ℕ)
     (durable pending : List (Written R)) (file : File) : Type 0 where
@@ -22,7 +22,8 @@ pub record IsShortened {R : Type 0} (IsFrame : List ℕ → R → Type 0) (start
   pub holds : HoldsChain IsFrame start stale durable pending file
   pub all : drop start file.content ≡ spelled (kept_records durable pending count)
 
--- The file holds the chain. Up to the offset `size` it has exactly the records `ws`, which begin with the durable ones.
+-- The file holds the chain. Between `start` and the offset `size` it has exactly the records `ws`, which begin with the
+-- durable ones.
 pub record CanShortenRead {R : Type 0} (IsFrame : List ℕ → R → Type 0) (start : ℕ) (stale : List ℕ) (size : ℕ)
     (durable pending ws : List (Written R)) (file : File) : Type 0 where
   pub holds : HoldsChain IsFrame start stale durable pending file
@@ -49,7 +50,8 @@ KeepsDurable {R} IsFrame start stale durable file =
 -- What holds when a file is truncated at `size` and synced:
 -- - `before`: it holds the chain.
 -- - `tried`: it holds the same chain while the truncation may or may not be done.
--- - `done`: after the truncation it also has exactly the first `count` pending records after the durable ones.
+-- - `done`: after the truncation it still does, and from `start` on has exactly the durable records and the first
+--   `count` pending ones.
 -- - `synced`: after the sync it still holds the chain, with at least the durable records synced.
 pub record ShorteningKeeps {R : Type 0} (IsFrame : List ℕ → R → Type 0)
     (start : ℕ) (stale : List ℕ) (size count : ℕ)

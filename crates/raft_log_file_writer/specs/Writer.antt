@@ -62,8 +62,9 @@ pub record IsWriterAt (writer : LogFileWriter) (handle : Handle) (written capaci
 
 -- Writing: which calls are made, in which order.
 
--- How many bytes are allocated after `capacity` for a write that ends at `end`. It is the larger one of two numbers:
--- the bytes missing up to `end`, and those missing up to the target size, but at most 2 MiB.
+-- How many bytes are allocated after `capacity` for a write that ends at `end`. `target` is the size that the file is
+-- expected to reach. The result is the larger of two numbers. One is the bytes missing up to `end`. The other is those
+-- missing up to `target`, but at most 2 MiB.
 abbrev pub allocated : ℕ → ℕ → ℕ → ℕ
 allocated capacity end target = max (end - capacity) (min 2097152 (target - capacity))
 
@@ -72,7 +73,7 @@ abbrev pub reach : ℕ → ℕ → ℕ → ℕ
 reach capacity end target = if nat_lt capacity end then capacity + allocated capacity end target else capacity
 
 -- Space is made for a write that ends at `end`, in a file that is at most `capacity` bytes long. If the write may not
--- fit, space is allocated; a failure of that is ignored.
+-- fit, space is allocated ahead of it, as much as `allocated` says. A failure to allocate is ignored.
 pub data MakesRoom (handle : Handle) (capacity end target : ℕ) (old new : Disk) : Type 0 where
   is_there : end ≤ capacity → new ≡ old → MakesRoom handle capacity end target old new
   is_allocated : capacity < end → Grows handle (capacity + allocated capacity end target) old new
@@ -161,7 +162,7 @@ pub data TakesUp (handle : Handle) (header : List ℕ) (reset : Bool) (writer : 
       → IsWriterAt writer handle (length header) (reach (length file.content) (length header) 0)
       → TakesUp handle header reset writer old new
 
--- Opening a writer failed: the file's size couldn't be read, or the file needs a header, and writing that failed.
+-- Opening a writer failed: the file's size couldn't be read, or writing the header that the file needs failed.
 pub data FailsToTakeUp (handle : Handle) (header : List ℕ) (reset : Bool) (error : ErrorKind) (old new : Disk)
     : Type 0 where
   not_measured : IsNotMeasured handle old error → new ≡ old
@@ -176,8 +177,8 @@ pub record CanBeTakenUp (handle : Handle) (d : Disk) : Type 0 where
   pub permitted : handle.permission ≡ ReadWrite
   pub there : d.files handle.file ≡ None → ⊥
 
--- If the handle may write its file, then after the writer was opened, the bytes up to its offset are these: the header
--- if it was written, otherwise all of the file's old content.
+-- A writer was opened by a handle that may write the file. Then the bytes up to the writer's offset are the header if
+-- it was written, otherwise all of the file's old content.
 abbrev pub IsTakenUp : Handle → List ℕ → Bool → LogFileWriter → Disk → Disk → Type 0
 IsTakenUp handle header reset writer old new = (file : File) → handle.permission ≡ ReadWrite
     → old.files handle.file ≡ Some file → IsWritten writer (taken_up header reset file.content) new

@@ -1,5 +1,5 @@
--- What a table represents if the bytes at each place are known. How a table changes if its entries or values are
--- copied into Rewrite.
+-- Which contents of a group a table represents if the bytes at each place are known. Also how a table changes if its
+-- entries or values are copied into Rewrite.
 use Rattle.std.specs.Prelude.{◌≡◌, ℕ, zero, suc, ◌+◌, ◌-◌, ◌≤◌, ◌⊎◌, Bool, true, false, List, [], ◌∷◌, ◌++◌, map, length, take, drop, Option, Some, None, option_map, if◌then◌else◌, nat_lt, bytes_eq}
 use Rattle.raft_log_model_laws.specs.Item.{Item}
 use Rattle.raft_log_model_laws.specs.Item.Item.{Run, Clean, Compact, Put, Del}
@@ -57,8 +57,8 @@ pub data Move : Type 0 where
   MoveRun : ℕ → List Place → Move
   MoveKey : List ℕ → ℕ → Move
 
--- The table after a copy of entries from index `f` on to the places `ps` in Rewrite. All entries before these are in
--- Rewrite too.
+-- The table after entries were copied to Rewrite: from index `f` on, one to each place in `ps`. All entries before
+-- these are in Rewrite too.
 abbrev pub moved_run : Shown → ℕ → List Place → Shown
 moved_run v f ps = record v {
   places = take (f - v.first) v.places ++ (ps ++ drop ((f - v.first) + length ps) v.places);
@@ -84,10 +84,9 @@ abbrev pub all_moved : Shown → List Move → Shown
 all_moved v [] = v
 all_moved v (x ∷ xs) = all_moved (moved v x) xs
 
--- The copy is allowed. A run starts at an entry of Rewrite or right after them, and ends at or after the last of
--- them. It may go on into Append only if the table owes neither a Clean nor a Compact. The bytes at the new places
--- are those at the old ones. A key must have a value. If the value is in Append, the table must owe neither a Clean
--- nor the Del of this key.
+-- The copy is allowed. A run starts at or before the end of the entries in Rewrite, and ends at or after it. It may go
+-- on into Append only if the table owes neither a Clean nor a Compact. The bytes at the new places are those at the old
+-- ones. A key must have a value. If the value is in Append, the table must owe neither a Clean nor the Del of this key.
 abbrev pub CanMove : {E : Type 0} → (Located → E) → Shown → Move → Type 0
 CanMove at v (MoveRun f ps) =
     (v.first ≤ f) × (f ≤ v.first + v.rewritten) × (v.first + v.rewritten ≤ f + length ps)

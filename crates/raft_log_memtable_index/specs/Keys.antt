@@ -125,7 +125,7 @@ joined_keys ks later = record {
 abbrev pub HasKeyRoomFor : Keys → Keys → Type 0
 HasKeyRoomFor ks later = (k : List ℕ) → later.has k ≡ true → ks.has k ≡ true
 
--- each key of these slots has a slot
+-- `has`, which says which keys have a slot, is true for each key in this list
 abbrev pub KeysHaveRoom : (List ℕ → Bool) → List (List ℕ × KeySlot) → Type 0
 KeysHaveRoom has [] = Unit {0}
 KeysHaveRoom has (e ∷ es) = (has e.0 ≡ true) × KeysHaveRoom has es

@@ -1,5 +1,5 @@
--- In which files a memtable's entries and values are. For Rewrite also the first file that must be kept so that they
--- can be recovered, because atomic groups can reach over several files.
+-- In which files a memtable's entries and values are. Those in Rewrite have also a first file that must be kept so that
+-- they can be recovered. An atomic group may have records in several files.
 use Rattle.std.specs.Prelude.{◌≡◌, ℕ, ◌+◌, ◌-◌, ◌<◌, ◌≤◌, ◌⊎◌, min, max, false, List, [], ◌∷◌, length, Option, Some, None, if◌then◌else◌, nat_le, slice_get}
 use Rattle.raft_log_model_laws.specs.Item.{Item}
 use Rattle.raft_log_model_laws.specs.Item.Item.{Run}

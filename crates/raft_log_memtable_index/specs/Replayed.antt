@@ -1,5 +1,5 @@
 -- What a replay of one segment keeps of a group, and how the results of two segments are combined. A segment here is
--- several consecutive files of a queue that one worker reads.
+-- one file or several consecutive files of a queue that one worker reads.
 use Rattle.std.specs.Prelude.{◌≡◌, ℕ, ◌+◌, ◌-◌, ◌<◌, min, max, Bool, true, false, ◌&&◌, ◌||◌, List, [], ◌∷◌, ◌++◌, map, length, take, drop, Option, Some, None, if◌then◌else◌, nat_lt}
 use Rattle.std.specs.Option.{option_or}
 use Rattle.raft_log_model_laws.specs.Item.{Item}
@@ -114,7 +114,7 @@ joined a z =
     else record { table = with_newer a.table z; low = max z.low a.low; high = lesser z.high a.high }
 
 -- The table that was read of Rewrite, with the result of Append applied. The tombstones of Rewrite's table are no
--- longer owed, since they were read from Rewrite itself.
+-- longer owed, since they were read from Rewrite itself. If Append has a Clean, only Append's table is left.
 abbrev pub merged : Shown → Replayed → Shown
 merged v z = if z.table.cleaned then z.table else with_newer (unmarked v) z
 

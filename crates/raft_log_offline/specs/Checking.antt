@@ -50,7 +50,8 @@ pub record ReadsLogFiles (config : Config) (append rewrite : List Batch) (old ne
   pub append_cut : CutsEach (append_files found) append_endings scanned between
   pub rewrite_cut : CutsEach (rewrite_files found) rewrite_endings between new
 
--- The log's files were read, and `findings` has exactly the findings for their records.
+-- The log's files were read, and `findings` has exactly the findings for their records. A finding is a group, and the
+-- last index before its first hole.
 pub record ChecksLog (config : Config) (findings : List (ℕ × ℕ)) (old new : Disk) : Type 0 where
   pub append : List Batch
   pub rewrite : List Batch

@@ -9,7 +9,8 @@ use Rattle.raft_log_offline.specs.Runs.{finding, runs_of}
 use Rattle.raft_log_offline.specs.Kept.{kept_of}
 use Rattle.raft_log_offline.specs.declared.checker.ConsistencyChecker.{ConsistencyChecker}
 
--- `findings` has each group that has a finding, once, with this finding, sorted by group
+-- `found` gives the finding of a group, if it has one. `findings` lists each such group with its finding, once, sorted
+-- by group.
 pub record Lists (found : ℕ → Option ℕ) (findings : List (ℕ × ℕ)) : Type 0 where
   pub rising : IsStrictlySortedBy nat_cmp (map (λ f. f.0) findings)
   pub exact : (group end : ℕ) → Contains findings (group, end) ↔ (found group ≡ Some end)

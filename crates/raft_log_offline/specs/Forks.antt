@@ -77,8 +77,8 @@ pub record CopiesAll (target : List ℕ) (files : List SourceFile) (old new : Di
   pub adds : AddsOnly target (IsCopyPath target files) old new
   pub copies : HaveCopies target files old new
 
--- Copying the files failed at one of them. Those before it (`copied`) have their copies. It may have an incomplete
--- copy, and nothing else changed. The error is that of a call for this file.
+-- Copying the files failed at `file`. Those before it, `copied`, have their copies. `file` may have an incomplete copy,
+-- and nothing else changed. The error is that of a call for `file`.
 pub record FailsToCopyAll (target : List ℕ) (files : List SourceFile) (error : Error) (old new : Disk)
     : Type 0 where
   pub copied : List SourceFile
@@ -129,7 +129,7 @@ FailsToMakeTarget target _ old new = ⊥
 
 -- Why a fork fails, and the disk after it:
 -- - `refused`: it was rejected, and nothing changed.
--- - `homeless`: making the directory failed.
+-- - `homeless`: making the target directory failed.
 -- - `cut_short`: copying the files failed.
 pub data FailsToFork (s : Settings) (target : List ℕ) (error : Error) (old new : Disk) : Type 0 where
   refused : IsForkRefusal s target old error → new ≡ old → FailsToFork s target error old new

@@ -1,5 +1,5 @@
--- What a checker keeps of each group: the first and the last index of its runs of entries, and its finding, the index
--- after which the first indexes are missing.
+-- What a checker keeps of each group: the first and the last index of its runs of entries, and its finding. The finding
+-- is the index after which the first indexes are missing.
 use Rattle.std.specs.BTreeMap.{get}
 use Rattle.std.specs.Option.{option_or}
 use Rattle.std.specs.Ordering.{nat_cmp}
@@ -27,11 +27,12 @@ kept (run ∷ runs) = Some (record {
   hole_after = finding (run ∷ runs);
 })
 
--- the last index of the earlier runs, if the later ones begin past the next index
+-- the last index of the earlier runs, if indexes are missing between it and the first index of the later ones
 abbrev pub hole_between : GroupRuns → GroupRuns → Option ℕ
 hole_between earlier later = if nat_lt (earlier.last + 1) later.first then Some earlier.last else None
 
--- what is kept of earlier and then later runs; a finding in the earlier ones is kept first
+-- What is kept of earlier and then later runs. The finding is that of the earlier ones; if they have none, the hole
+-- between; if there is none, the finding of the later ones.
 abbrev pub followed : GroupRuns → GroupRuns → GroupRuns
 followed earlier later = record {
   first = earlier.first;

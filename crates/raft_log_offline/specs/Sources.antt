@@ -1,4 +1,4 @@
--- The files that a fork copies: all of both queues; if several files have one number, only one of them.
+-- The files that a fork copies: those of both queues, but only one file for each number of a queue.
 use Rattle.std.specs.Prelude.{◌≡◌, ℕ, ◌+◌, ◌<◌, ◌^◌, ◌⊎◌, true, Some, List, [], ◌∷◌, ◌++◌, Contains, length, slice_index_or, nat_eq, if◌then◌else◌}
 use Rattle.std.specs.List.{AllZip}
 use Rattle.raft_log_record_base.specs.declared.errors.Error.{Error}

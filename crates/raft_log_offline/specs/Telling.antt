@@ -1,4 +1,4 @@
--- Names of log files in a fork's directory, and errors with a given message.
+-- Names of log files in a fork's target directory, and errors with a given message.
 use Rattle.std.specs.Prelude.{◌≡◌, ℕ, List, Contains}
 use Rattle.std.specs.String.{string_bytes}
 use Rattle.raft_log_record_base.specs.declared.errors.Error.{Error}

@@ -13,8 +13,8 @@ use Rattle.raft_log_recovery_scan.specs.declared.file_kind.FileKind.{FileKind}
 use Rattle.raft_log_recovery_scan.specs.declared.scanning.found.FoundFile.{FoundFile}
 use Rattle.raft_log_recovery_laws.specs.Scanned.{kind_of}
 
--- Two different files in the directories have the number `n`. They are in two directories, or one of them has a plus
--- sign in its name.
+-- A scan of the directories finds two files with the number `n`. They are in two directories (or one that the settings
+-- name twice), or one of their names has a plus sign.
 pub record IsTwice (kind : FileKind) (directories : List (List ℕ)) (d : Disk) (n : ℕ) : Type 0 where
   pub here : FoundFile
   pub there : FoundFile

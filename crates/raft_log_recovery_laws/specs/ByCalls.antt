@@ -43,8 +43,8 @@ pub record ComeOver (append rewrite : MemTableRecoverContext) (tables : MemTable
   pub over : (first behind : List ReadRecord) → HasRead Rewrite first rewrite → HasRead Append behind append
       → ComesOver first behind tables
 
--- Files for recycling were prepared, which changed disk `old` into `new`. `tells` says which free space a file system
--- may report for a directory.
+-- Files for recycling were prepared, which changed disk `old` into `new`, and the builder `b` into `ready`. `tells`
+-- says which free space a file system may report for a directory.
 pub record ReadiesOn {F : Type 0} (disk : F → Disk) (tells : F → List ℕ → ℕ → Type 0)
     (b ready : DualPipesBuilder) (old new : Disk) : Type 0 where
   pub from : F
@@ -54,7 +54,8 @@ pub record ReadiesOn {F : Type 0} (disk : F → Disk) (tells : F → List ℕ �
   pub readies : ReadiesLog disk tells b ready from to
 
 -- The log of the settings `config` was found on disk `d`. Any number of workers read it into the contexts `append` and
--- `rewrite`, and its damaged files were truncated. Then files for recycling were prepared, which gave disk `readied`.
+-- `rewrite`, and its damaged files were truncated. Then files for recycling were prepared, which gave the builder
+-- `ready` and disk `readied`.
 pub record LogIsRecovered {F : Type 0} (disk : F → Disk) (tells : F → List ℕ → ℕ → Type 0) (config : Config)
     (d : Disk) (append rewrite : MemTableRecoverContext) (ready : DualPipesBuilder) (readied : Disk)
     : Type 0 where
@@ -87,7 +88,8 @@ ScansFindAllFiles = (config : Config) (d : Disk) (m : LogMap) → IsSound d
     × AreQueueFiles (log_in (home_of config)).rewrite rests.state.rewrite scanned (rewrite_files found)
 
 -- A log at rest was recovered, and all its files were synced. Then each file that is kept for recycling can be
--- recycled, since it holds no record under any number that it may get.
+-- recycled, and no two of them have the same path. Whatever such a file holds counts as stale under any number that it
+-- may get.
 abbrev pub SyncedSparesCanBeUsed : {F : Type 0} → (F → Disk) → (F → List ℕ → ℕ → Type 0) → Type 0
 SyncedSparesCanBeUsed disk tells = (config : Config) (d : Disk) (m : LogMap) → IsSound d
     → IsDurableAs (log_in (home_of config)) d m

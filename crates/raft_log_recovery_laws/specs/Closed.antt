@@ -44,9 +44,9 @@ abbrev pub UndisturbedClosesAreProper : Type 0
 UndisturbedClosesAreProper = (log : LogSense) (v : LogPipes) (s : State) (new : Disk) → IsSound v.disk → RunsOn log v s
     → ClosesInOrder v new → (Fails v.disk new → ⊥) → ClosesProperly v new
 
--- What was the pipe's active file has exactly its header and the bytes that the pipe wrote after it, all synced. What
--- followed them is gone: zeros that were allocated ahead, or stale bytes of a recycled file. No other file has its
--- number. `old` is the disk before the close, `new` the disk after it.
+-- After a close, the pipe's active file has exactly its header and the bytes that the pipe wrote after it, all synced.
+-- Zeros that were allocated ahead, and stale bytes of a recycled file, are gone. No other file has its number. `old` is
+-- the disk before the close, `new` the disk after it.
 pub record EndsWithOwnBytes (F : Format LogRecord) (files : PipeFiles) (old new : Disk) : Type 0 where
   pub bytes : (before : File) → old.files files.writer.handle.file ≡ Some before
       → new.files files.writer.handle.file ≡ Some (at_rest (active_header files ++ own_bytes files before))
@@ -70,12 +70,12 @@ pub record AsksNothing (home : LogDirectories) (d : Disk) (m : LogMap) : Type 0 
   pub spared : (image : Disk) → IsImage d image → IsCrashOf home left.1.lies.state d image
   pub rests : (image : Disk) → IsImage d image → IsDurableAs (log_in home) image m
 
--- A log at rest needs no premise on CRC collisions, whatever left it so: a crash, a proper close, or a copy of it.
+-- A log at rest needs no premise on CRC collisions, whatever left it so: a crash, a proper close, or a fork.
 abbrev pub RestingLogsAskNothing : Type 0
 RestingLogsAskNothing = (home : LogDirectories) → 0 < length home.append → 0 < length home.rewrite → (d : Disk) (m : LogMap)
     → IsSound d → IsDurableAs (log_in home) d m → AsksNothing home d m
 
--- What a proper close of pipes `v` leaves on disk `d` of a log with the contents `m`.
+-- What a proper close of pipes `v` leaves on disk `d`. `m` are the log's contents after all its batches.
 -- - `append`, `rewrite`: the bytes of both active files.
 -- - `rests`: the log is at rest with these contents.
 -- - `append_alone`, `rewrite_alone`: the last files have exactly their headers and the records of their queues.
@@ -99,8 +99,8 @@ abbrev pub IsThatOrItsImage : Disk → Disk → Type 0
 IsThatOrItsImage d found = (found ≡ d) ⊎ IsImage d found
 
 -- An engine was closed properly, and maybe there was a crash after that. An open with any settings that name the
--- directories gives the same contents, with all batches, and nothing pending. If it fails, for any reason, the log's
--- files can be opened with them. There is no premise on CRC collisions.
+-- directories gives the contents `m` after all batches, with nothing pending. If it fails, for any reason, the log's
+-- files can be opened with these contents. There is no premise on CRC collisions.
 abbrev pub ClosedEnginesReopen : {F : Type 0} → (F → Disk) → (F → List ℕ → ℕ → Type 0) → Type 0
 ClosedEnginesReopen {F} disk tells = (home : LogDirectories) (e : EngineState) (m : LogMap) (pending : List LogRecordValue)
     (d : Disk) (old : F) → IsSound e.pipes.disk → IsSound (disk old) → Represents home e m pending

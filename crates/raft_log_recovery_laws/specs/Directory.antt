@@ -1,5 +1,5 @@
--- Opening a log at rest with the one call that does the whole open. At rest, no engine has the log open, and all of it
--- is synced. A batch is pending if it was written but not synced yet.
+-- Opening a log at rest by one call that does the whole open (`open_directory`). At rest, no engine has the log open,
+-- and all of it is synced. A batch is pending if it was written but not synced yet.
 use Rattle.std.specs.Prelude.{ℕ, ◌<◌, List, [], length}
 use Rattle.raft_log_record_base.specs.declared.errors.Error.{Error}
 use Rattle.raft_log_fs.specs.Disk.{Disk}
@@ -31,8 +31,9 @@ abbrev pub RestingDirectoriesOpen : {F : Type 0} → (F → Disk) → (F → Lis
 RestingDirectoriesOpen {F} disk tells = (config : Config) (old : F) (m : LogMap) → IsSound (disk old)
     → IsDurableAs (log_in (home_of config)) (disk old) m → OpensAs disk tells config old m
 
--- After a crash of what an engine left, an open gives the contents `m` after a prefix of the pending batches. All
--- settings that name the directories give the same prefix. This requires that there is no CRC collision.
+-- An engine left its log on disk `d`, and a crash then left the disk of `old`. An open gives the contents `m` after a
+-- prefix of the pending batches. All settings that name the directories give the same prefix. This requires that the
+-- crash image has no CRC collision.
 abbrev pub CrashedDirectoriesOpen : {F : Type 0} → (F → Disk) → (F → List ℕ → ℕ → Type 0) → Type 0
 CrashedDirectoriesOpen {F} disk tells = (home : LogDirectories) → 0 < length home.append → 0 < length home.rewrite
     → (d : Disk) (old : F) (m : LogMap) (pending : List LogRecordValue) → IsSound (disk old)

@@ -30,8 +30,9 @@ pub record ReadsRecords (directories : List (List ℕ)) (id : FileId) (content :
   pub ends : end ≡ length header + length (spelled records)
   pub batches : AreBatchesOf (context_in id read.format) (length header) read.batches records
 
--- `read` is what reading a queue's last file returned, and the last argument is the end that it found. If it is `None`,
--- the file has no header, and `read` has no batch. Otherwise `read` has one batch for each whole record up to the end.
+-- `read` is what reading a queue's last file returned, and the last argument is the end that was found. If no end was
+-- found, the file has no header, and `read` has no batch. Otherwise `read` has one batch for each whole record up to
+-- the end.
 abbrev pub ReadsTo : List (List ℕ) → FileId → List ℕ → FileReading → Option ℕ → Type 0
 ReadsTo directories id content read None =
     ((header : List ℕ) → HasHeader (log_format id.queue directories) header content → ⊥)

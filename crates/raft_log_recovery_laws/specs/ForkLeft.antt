@@ -22,8 +22,8 @@ pub record ForkedAs {F : Type 0} (disk : F → Disk) (tells : F → List ℕ →
   pub rests : IsDurableAs (log_in (home_of to)) (disk after) m
   pub opens : OpensAs disk tells to after m
 
--- Each fork of the log of `config` into a clear target makes a log with the contents `m`. Its settings `to` name only
--- the target.
+-- `old` is the state before a fork. Each fork of the log of `config` into a clear target makes a log with the contents
+-- `m`. The settings `to`, with which it is opened, name only the target.
 abbrev pub IsForkedAs : {F : Type 0} → (F → Disk) → (F → List ℕ → ℕ → Type 0) → F → LogMap → Config → Type 0
 IsForkedAs {F} disk tells old m config = (to : Config) (target : List ℕ) (copied : List (List ℕ)) (after : F)
     → IsSound (disk after) → NamesOnly to target → IsClear target (disk old)

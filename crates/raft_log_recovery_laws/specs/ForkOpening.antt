@@ -11,16 +11,17 @@ use Rattle.raft_log_recovery_laws.specs.Directory.{OpensAs}
 use Rattle.raft_log_offline.specs.Forks.{Forks}
 use Rattle.raft_log_recovery_laws.specs.ForkResting.{IsClear, NamesOnly}
 
--- An open of the fork gives an engine whose log has the contents `m`, with nothing pending. So does an open of the
--- source before the fork, and after it. If an open fails, for any reason, the log's files can be opened with these
--- contents.
+-- An open of the fork (settings `to`) gives an engine whose log has the contents `m`, with nothing pending. So does an
+-- open of the source (settings `config`) before the fork (state `old`), and after it (`now`). If an open fails, for any
+-- reason, the log's files can be opened with these contents.
 pub record OpenAlike {F : Type 0} (disk : F → Disk) (tells : F → List ℕ → ℕ → Type 0) (config to : Config)
     (old now : F) (m : LogMap) : Type 0 where
   pub fork : OpensAs disk tells to now m
   pub source : OpensAs disk tells config now m
   pub before : OpensAs disk tells config old m
 
--- If a log at rest was forked, an open of the fork gives the same contents as an open of the source, before or after.
+-- A log at rest was forked into a clear target. Then an open of the fork gives the same contents as an open of the
+-- source, before or after the fork.
 abbrev pub ForksOpenAsTheirSource : {F : Type 0} → (F → Disk) → (F → List ℕ → ℕ → Type 0) → Type 0
 ForksOpenAsTheirSource {F} disk tells = (config to : Config) (target : List ℕ) (copied : List (List ℕ))
     (old now : F) (m : LogMap) → IsSound (disk old) → IsSound (disk now) → NamesOnly to target

@@ -39,7 +39,7 @@ abbrev pub RestsThere : (config to : Config) (old : Disk) (m : LogMap)
 RestsThere config to old m h new =
     (t : IsDurableAs (log_in (home_of to)) new m) × (t.state ≡ record h.state { disk = new })
 
--- If a log at rest is forked, the fork is at rest in the target, for settings that name only the target.
+-- If a log at rest is forked into a clear target, the fork is at rest there, for settings that name only the target.
 abbrev pub ForkedLogsRest : Type 0
 ForkedLogsRest = (config to : Config) (target : List ℕ) (copied : List (List ℕ)) (old new : Disk) (m : LogMap)
     → NamesOnly to target → IsClear target old → (h : IsDurableAs (log_in (home_of config)) old m)

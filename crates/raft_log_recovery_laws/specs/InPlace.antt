@@ -37,7 +37,8 @@ use Rattle.raft_log_recovery_laws.specs.ByCalls.{home_of, ForAllNaming, LogIsRec
 abbrev pub StandsWithoutChance : LogDirectories → State → Disk → Type 0
 StandsWithoutChance home s d = IsCrashOf home s d (as_it_stands d)
 
--- An open failed after its syncs: the log was recovered and all files were synced, but opening a pipe failed.
+-- An open failed after its syncs: the log on disk `d` was recovered and all files were synced, but opening a pipe
+-- failed. `new` is the disk after that.
 pub record StopsSynced {F : Type 0} (disk : F → Disk) (tells : F → List ℕ → ℕ → Type 0) (config : Config)
     (d new : Disk) : Type 0 where
   pub append : MemTableRecoverContext
@@ -83,8 +84,8 @@ StandingLogsOpenByCalls {F} disk tells = (home : LogDirectories) → 0 < length 
     → RestsAfterSome home (as_it_stands d) m pending
     (λ now. ForAllNaming home (λ config. OpensStandingByCalls disk tells config d m pending now))
 
--- An open in place with the one call. If it succeeds, the engine's log has the contents `now`, with nothing pending. If
--- it fails, the log's files can be opened with `now`, or with `m` and the batches `pending`.
+-- An open in place by one call (`open_directory`). If it succeeds, the engine's log has the contents `now`, with
+-- nothing pending. If it fails, the log's files can be opened with `now`, or with `m` and the batches `pending`.
 pub record OpensStanding {F : Type 0} (disk : F → Disk) (tells : F → List ℕ → ℕ → Type 0) (config : Config)
     (old : F) (m : LogMap) (pending : List LogRecordValue) (now : LogMap) : Type 0 where
   pub answered : (v : LogPipes) (tables : MemTables) → OpensDirectory disk tells config old v tables
@@ -92,9 +93,9 @@ pub record OpensStanding {F : Type 0} (disk : F → Disk) (tells : F → List �
   pub refused : (error : Error) (new : F) → FailsToOpenDirectory disk tells config error old new
       → IsLeftEither (home_of config) (disk new) m pending now
 
--- An open in place with the one call gives the contents `m` after a prefix of the pending batches. The prefix is the
--- same for all settings that name the directories. This requires that there is no CRC collision in the active files as
--- they are.
+-- An open in place by one call (`open_directory`) gives the contents `m` after a prefix of the pending batches. The
+-- prefix is the same for all settings that name the directories. This requires that there is no CRC collision in the
+-- active files as they are.
 abbrev pub StandingDirectoriesOpen : {F : Type 0} → (F → Disk) → (F → List ℕ → ℕ → Type 0) → Type 0
 StandingDirectoriesOpen {F} disk tells = (home : LogDirectories) → 0 < length home.append → 0 < length home.rewrite
     → (old : F) (m : LogMap) (pending : List LogRecordValue) → IsSound (disk old)

@@ -1,4 +1,5 @@
--- Calls that leave the files of both queues unchanged leave the log at rest.
+-- If calls leave the files of both queues unchanged, a log at rest stays at rest, and a log that can be opened still
+-- can.
 use Rattle.std.specs.Prelude.{◌≡◌, ℕ, ◌<◌, Some, List}
 use Rattle.raft_log_model_laws.specs.Item.{Record}
 use Rattle.raft_log_model_laws.specs.Groups.{Map}

@@ -23,7 +23,7 @@ FindsNoPadding config d = (b : DualPipesBuilder) (scanned : Disk) → FindsPaddi
 abbrev pub BareDirectoriesHaveNoPadding : Type 0
 BareDirectoriesHaveNoPadding = (config : Config) (d : Disk) → IsSound d → IsBare config d → FindsNoPadding config d
 
--- An open of a log at rest finds no padding. This includes each crash image of a log without a CRC collision.
+-- An open of a log at rest finds no padding. A crash leaves a log at rest if its image has no CRC collision.
 abbrev pub RestingLogsHaveNoPadding : Type 0
 RestingLogsHaveNoPadding = (config : Config) (d : Disk) (m : LogMap) → IsSound d
     → IsDurableAs (log_in (home_of config)) d m → FindsNoPadding config d

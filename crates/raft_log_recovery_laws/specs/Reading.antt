@@ -29,8 +29,8 @@ pub record AreOfFile (queue : LogQueue) (n : ℕ) (header : List ℕ) (records :
   pub is : batches ≡ batches_in n items
   pub are : AreBatchesOf (context_in (record { queue = queue; seq = n }) format) (length header) items records
 
--- `batches` are those of `count` finished files from number `n` on, one file after another. `older` has the header and
--- the records of each number.
+-- `batches` are those of `count` finished files from number `n` on, one file after another. `older` gives the header
+-- and the records of each finished file, by its number.
 abbrev pub AreOfFiles : LogQueue → (ℕ → Past LogRecord) → ℕ → ℕ → List Batch → Type 0
 AreOfFiles queue older n zero batches = batches ≡ []
 AreOfFiles queue older n (suc count) batches = (first : List Batch) × (more : List Batch)

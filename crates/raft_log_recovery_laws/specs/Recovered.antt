@@ -30,8 +30,8 @@ AreInFormats (file ∷ files) [] found = ⊥
 AreInFormats (file ∷ files) (ending ∷ endings) found = (more : List File)
     × (found ≡ record file { format = ending.format } ∷ more) × AreInFormats files endings more
 
--- A pipe is opened over `found`. It has `files`, each with the format that was read from it. If there are files, it has
--- the end that was read from the last one.
+-- `found`, over which a pipe is opened, has `files`, each with the format that was read from it. If there are files,
+-- `found` has the end that was read from the last one.
 pub record AreFoundAsRead (files : List File) (endings : List FileEnding) (found : FoundFiles) : Type 0 where
   pub formats : AreInFormats files endings found.files.items
   pub end : (front : List FileEnding) (ending : FileEnding) → endings ≡ front ++ ending ∷ []
@@ -53,8 +53,9 @@ pub record WereRead (mode : RecoveryMode) (append rewrite : FoundPipe) (d : Disk
   pub rewrite_found : AreFoundAsRead rewrite_files rewrite_endings rewrite.found
   pub merged : AreMerged append_batches rewrite_batches tables
 
--- A log was at rest on disk `old` with the contents `m`. It was read into `tables`, and its pipes were opened as `v`.
--- Then an engine with these has the contents `m`, with nothing pending.
+-- A log was at rest on disk `old` with the contents `m`, and its files were found as `append` and `rewrite`. They were
+-- read into `tables`, and pipes were opened over them as `v`. Then an engine with these has the contents `m`, with
+-- nothing pending.
 abbrev pub ReadLogsAreHeld : Type 0
 ReadLogsAreHeld = (home : LogDirectories) (m : LogMap) (mode : RecoveryMode) (append rewrite : FoundPipe) (old : Disk)
     (v : LogPipes) (tables : MemTables) → OpensLog append rewrite old v

@@ -1,5 +1,7 @@
 -- The result of reading the segments of a queue, possibly by several workers. A segment here is one file or several
--- consecutive files.
+-- consecutive files. What a source defines: `holds` says which batches and which ending a segment has, `begins` with
+-- which batches it begins, `refuses` why it can't be read. What a machine defines: `reads` says which batches it has
+-- read, `declines` at which it fails.
 use Rattle.std.specs.Prelude.{◌≡◌, ℕ, zero, suc, ◌+◌, ◌*◌, ◌<◌, ◌≤◌, min, List, [], ◌∷◌, ◌++◌, length, Result, Ok, Err}
 use Rattle.std.specs.List.{flat_map}
 use Rattle.raft_log_record_base.specs.declared.errors.Error.{Error}
@@ -13,7 +15,7 @@ abbrev pub all_batches : List (List Batch) → List Batch
 all_batches bss = flat_map (λ bs. bs) bss
 
 -- The machine has read the batches of the segments from number `first` on, below `last`, in order. `endings` has for
--- each segment how reading it ended.
+-- each segment the value that reading it returned.
 pub record HasReadSegments {M E : Type 0} (holds : ℕ → List Batch → E → Type 0)
     (reads : List Batch → M → Type 0) (first last : ℕ) (machine : M) (endings : List E) : Type 0 where
   pub batches : List (List Batch)
@@ -24,9 +26,10 @@ pub record HasReadSegments {M E : Type 0} (holds : ℕ → List Batch → E → 
 -- Why reading the segments from number `first` on, below `last`, fails. Except in the first case, all segments before
 -- the failure could be read.
 -- - `memory`: memory ran out.
--- - `unread`: a segment can't be read.
--- - `declined`: a machine fails at the first batches of a segment, after it read the batches just before.
--- - `apart`: two machines aren't merged, because of the batches that they have read.
+-- - `unread`: a segment can't be read (`refuses`).
+-- - `declined`: a machine fails (`declines`) at the first batches of a segment (`begins`), after it read the batches
+--   just before.
+-- - `apart`: two machines aren't merged, because of the batches that they have read (`declines`).
 pub data IsRefusedIn {E : Type 0} (holds : ℕ → List Batch → E → Type 0) (begins : ℕ → List Batch → Type 0)
     (refuses : ℕ → Error → Type 0) (declines : List Batch → Error → Type 0) (first last : ℕ) (error : Error)
     : Type 0 where
@@ -47,7 +50,8 @@ abbrev pub read_by : ℕ → ℕ → ℕ
 read_by zero count = zero
 read_by (suc workers) count = count
 
--- the result for a chunk, which is several consecutive segments: all of them were read, or reading failed
+-- the result for a chunk, the consecutive segments from number `first` on, below `last`: all were read, or reading
+-- failed
 abbrev pub IsChunk : {M E : Type 0} → (ℕ → List Batch → E → Type 0) → (List Batch → M → Type 0)
     → (ℕ → List Batch → Type 0) → (ℕ → Error → Type 0) → (List Batch → Error → Type 0) → ℕ → ℕ
     → Result (ReadSegments M E) Error → Type 0
@@ -60,8 +64,8 @@ IsChunk holds reads begins refuses declines first last (Err error) =
 abbrev pub chunk_start : ℕ → ℕ → ℕ → ℕ
 chunk_start size count index = min (index * size) count
 
--- each element covers a range of numbers that begins where the range before ends; together they cover `first` up to
--- `last`
+-- Each element covers a range of numbers, as `between` says. A range begins where the one before ends; together they
+-- cover `first` up to `last`.
 abbrev pub Follow : {A : Type 0} → (ℕ → ℕ → A → Type 0) → ℕ → ℕ → List A → Type 0
 Follow between first last [] = first ≡ last
 Follow between first last (x ∷ xs) =

@@ -1,18 +1,19 @@
--- Replaying one segment of a queue with a machine.
+-- Replaying one segment of a queue with a machine. What a source defines: `holds` says which batches and which ending a
+-- segment has, `begins` with which batches it begins, `refuses` why it can't be read. What a machine defines: `reads`
+-- says which batches it has read, `declines` at which it fails.
 use Rattle.std.specs.Prelude.{◌≡◌, ℕ, suc, ◌⊎◌, List, [], ◌∷◌, ◌++◌}
 use Rattle.raft_log_record_base.specs.declared.errors.Error.{Error}
 use Rattle.raft_log_record_base.specs.declared.errors.Error.TheVariants.{Memory}
 use Rattle.raft_log_replay.specs.Machines.{Batch}
 
--- the machine read the batches of a segment, after those that it had read before; `ending` says how reading the
--- segment ended
+-- the machine read the batches of a segment, after those that it had read before; reading the segment returned `ending`
 pub record ReplaysSegment {M E : Type 0} (holds : List Batch → E → Type 0) (reads : List Batch → M → Type 0)
     (old new : M) (ending : E) : Type 0 where
   pub batches : List Batch
   pub held : holds batches ending
   pub takes : (before : List Batch) → reads before old → reads (before ++ batches) new
 
--- the segment begins with some batches at which the machine fails, after those that it had read before
+-- The segment begins with some batches at which the machine fails. The machine may have read others before them.
 pub record StopsIn {M : Type 0} (begins : List Batch → Type 0) (reads : List Batch → M → Type 0)
     (declines : List Batch → Error → Type 0) (machine : M) (error : Error) : Type 0 where
   pub batches : List Batch

@@ -1,4 +1,4 @@
--- The words of a line.
+-- How the line of a session is split into words, numbers and arguments.
 use Rattle.std.specs.Prelude.{◌≡◌, ℕ, ◌<◌, ◌^◌, ◌==◌, Bool, List, length, take, drop, bytes_eq, Option, Some, None, if◌then◌else◌}
 use Rattle.std.specs.List.{before_first}
 use Rattle.std.specs.Str.{IsUtf8}
@@ -19,8 +19,8 @@ pub record IsNumberWord (word : List ℕ) (n : ℕ) : Type 0 where
 abbrev pub first_word : List ℕ → List ℕ × List ℕ
 first_word text = (before_first parts_words text, drop (length (before_first parts_words text)) text)
 
--- if a text begins with the bytes `front`, the word after them, which is the value of an argument, and the text after
--- this word
+-- If a text begins with the bytes `front`: the word right after them (the value of an argument), and the text after
+-- this word.
 unfoldable pub argument_at : List ℕ → List ℕ → Option (List ℕ × List ℕ)
 argument_at front text =
     if bytes_eq (take (length front) text) front then Some (first_word (drop (length front) text)) else None

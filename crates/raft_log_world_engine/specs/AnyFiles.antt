@@ -26,9 +26,9 @@ use Rattle.raft_log_world.specs.Logs.{IfLeft, UnlessResting}
 use Rattle.raft_log_world.specs.Model.{Answers, ModelLog}
 use Rattle.raft_log_world_engine.specs.Instance.{CrashSparesEngine, CrashSparesFiles, IsFilesLog, ReadSparesFiles}
 
--- An open or a copy of a log's files had this answer. Whichever log of the model the files on disk `d` were, the model
--- gives the same answer, and becomes a log for which `is` holds. If a close or a failed open left the files, they must
--- have no CRC collision.
+-- An open or a copy of a log's files, the event `event`, had the answer `answer`. Whichever log of the model the files
+-- on disk `d` were, the model gives the same answer, and becomes a log for which `is` holds. If a close or a failed
+-- open left the files, they must have no CRC collision.
 abbrev pub FollowsFiles : {C : Type 0} → Config → OnDisk → Event Batch C → Answer → (ModelLog → Type 0) → Type 0
 FollowsFiles config d event answer is =
     (log : ModelLog) (known : IsFilesLog config d log) → IfLeft log (ReadSparesFiles config d log known)
@@ -78,7 +78,8 @@ FileCrashesFollowTheModel C =
     → UnlessResting log (CrashSparesFiles config d log known image)
     → (next : ModelLog) × Answers said_of log (Crash what) Done next × IsFilesLog config image next
 
--- Each crash under an engine is one of the model. The crash must leave no CRC collision.
+-- Each crash under an engine is one of the model: what it left on disk is the log that the model becomes. The crash
+-- must leave no CRC collision.
 abbrev pub EngineCrashesFollowTheModel : {F : Type 0} → Type 0 → (F → OnDisk) → Type 0
 EngineCrashesFollowTheModel {F} C disk =
     (config : Config) (e : EngineState) (image : F) (what : C) → IsImage e.pipes.disk (disk image)

@@ -16,13 +16,13 @@ abbrev pub failure_of : Bool → Answer
 failure_of true = Failed
 failure_of false = Refused
 
--- the answer has these entries, or the read failed for lack of memory
+-- the answer has these entries, or it is `Refused`, as when there was no memory for them
 abbrev pub HasCopied : List (List ℕ) → Answer → Type 0
 HasCopied entries (Entries told) = all_bytes told.items ≡ entries
 HasCopied entries Refused = Unit {0}
 HasCopied entries _ = ⊥
 
--- the answer has these keys and values, or the read failed for lack of memory
+-- the answer has these keys and values, or it is `Refused`, as when there was no memory for them
 abbrev pub HasCopiedKeys : List (List ℕ × List ℕ) → Answer → Type 0
 HasCopiedKeys pairs (Keys told) = pairs_of told.items ≡ pairs
 HasCopiedKeys pairs Refused = Unit {0}

@@ -22,7 +22,7 @@ use Rattle.raft_log_world.specs.Model.ModelLog.{resting, left, running, failed}
 
 -- The files of a log on disk `d` are at rest, with the contents `m`:
 -- - `bare`: nothing was ever written, and there is no log yet.
--- - `rests`: all of the log is synced. A crash, or a copy, left it so.
+-- - `rests`: all of the log is synced, as after a crash or a copy.
 pub data Rests (config : Config) (d : OnDisk) (m : LogMap) : Type 0 where
   bare : IsBare config d → m ≡ nothing_stands → Rests config d m
   rests : IsDurableAs (log_in (home_of config)) d m → Rests config d m

@@ -37,9 +37,9 @@ pub record Went (qs : List (ℕ × Request)) (told : List Reply) (wrote : Bool) 
   pub tells : (home : LogDirectories) (m : LogMap) (W : World) → Represents home s m [] → Means m W → AreOutlines os W
       → AreTold W qs told
 
--- A round began with the voters of `V` and ended with the replies `told`. Engine `t` runs on, and its log stores the
--- voters after the requests taken, with nothing pending. The outlines `us` are those of these voters. Each reply that
--- isn't `Refused` is the voter's own.
+-- A round of the requests `qs` began with engine `s` and the voters of `V`, and ended with the replies `told`. Engine
+-- `t` runs on, and its log stores the voters after the requests taken, with nothing pending. The outlines `us` are
+-- those of these voters. Each reply that isn't `Refused` is the voter's own.
 pub record Answered (home : LogDirectories) (V : World) (qs : List (ℕ × Request)) (told : List Reply) (s t : EngineState)
     (us : ℕ → State) : Type 0 where
   pub alive : has_failed t ≡ false
@@ -48,9 +48,10 @@ pub record Answered (home : LogDirectories) (V : World) (qs : List (ℕ × Reque
   pub outlines : AreOutlines us (after V (took qs told))
   pub tells : AreTold V qs told
 
--- The engine failed at a request of the round, as a file system call failed. `told` has the replies to the requests
--- before it; those that aren't `Refused` are the voters' own. The log's files can be opened. They store the voters
--- after a prefix of the requests taken, or after all of them and the request at which the engine failed.
+-- A round of the requests `qs` began with engine `s` and the voters of `V`. The engine, now `t`, failed at one of them,
+-- as a file system call failed. `told` has the replies to the requests before it; those that aren't `Refused` are the
+-- voters' own. The log's files can be opened. They store the voters after a prefix of the requests taken, or after all
+-- of them and the request at which the engine failed.
 pub record GaveUp (home : LogDirectories) (V : World) (qs : List (ℕ × Request)) (told : List Reply) (s t : EngineState)
     : Type 0 where
   pub failed : has_failed t ≡ true
@@ -58,8 +59,9 @@ pub record GaveUp (home : LogDirectories) (V : World) (qs : List (ℕ × Request
   pub tells : AreTold V qs told
   pub left : IsLeftAmong home t.pipes.disk (IsPassedOrOneMore V qs told)
 
--- The sync at the end of a round failed, as a file system call failed. The log's files can be opened, and store the
--- voters after a prefix of the requests taken.
+-- A round of the requests `qs` began with engine `s` and the voters of `V`. The sync at its end failed, as a file
+-- system call failed; the engine is now `t`. `told` has the replies; those that aren't `Refused` are the voters' own.
+-- The log's files can be opened, and store the voters after a prefix of the requests taken.
 pub record Unsynced (home : LogDirectories) (V : World) (qs : List (ℕ × Request)) (told : List Reply) (s t : EngineState)
     : Type 0 where
   pub failed : has_failed t ≡ true

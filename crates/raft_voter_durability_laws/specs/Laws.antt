@@ -79,7 +79,8 @@ UnfetchedEntriesAreUnread M = (text : M → List ℕ) (reading : List ℕ → Op
     → IsReplyOfEach (os q.0) q.1 (answers.Entries from to) → FailsToFetch reading q.0 from to s t error
     → ReadsNone q error s t os
 
--- If a request's record wasn't written, either the request is turned down, or the engine failed at it.
+-- If a request's record, of less than 2^56 bytes, wasn't written, either the request is turned down, or the engine
+-- failed at it.
 abbrev pub UnwrittenRequests : Type 0
 UnwrittenRequests = (q : ℕ × Request) (c : Change) (b : Batch) (error : Error) (s t : EngineState) (os : ℕ → State)
     → has_failed s ≡ false → ChangesEach (os q.0) q.1 c → SaysChange q.0 q.1 c b
@@ -164,8 +165,9 @@ pub record PurgesKeepVoters : Type 0 where
 abbrev pub EnginesLeaveLogs : Type 0
 EnginesLeaveLogs = (s : EngineState) → LeavesLog s s.pipes.disk
 
--- After an engine was closed or dropped, its log's files can be opened with the same voters. A fork keeps the voters
--- that a log's files may have.
+-- After an engine was closed or dropped, its log's files can be opened with the same voters. `forked`: a round was cut
+-- off, and the log is then forked. The source's files still have voters that took the round's requests below one
+-- position.
 pub record VotersAreLeft : Type 0 where
   pub gone : (home : LogDirectories) (V : World) (s : EngineState) (d : Disk) → Keeps home s V → LeavesLog s d
       → IsLeftWith home d V
@@ -191,8 +193,9 @@ pub record LeftBehindRounds : Type 0 where
   pub alone : (home : LogDirectories) (V : World) (d : Disk) → IsLeftWith home d V
       → IsLeftAmong home d (TakesFirst V [] [])
 
--- An open finds voters that the log's files may have, and so do all opens after it. The open may be in place, over
--- files that no crash has touched, or after a crash, or of a fork.
+-- A round was cut off, and an open then finds voters that took its requests below one position, except refused ones. If
+-- the open fails, a later one finds such voters too. The open may be in place, over files that no crash has touched, or
+-- after a crash, or of a fork.
 abbrev pub OpensFindVoters : Type 0
 OpensFindVoters = (home : LogDirectories) (d : Disk) (V : World) (qs : List (ℕ × Request)) (refused : List ℕ)
     (left : IsLeftAmong home d (TakesFirst V qs refused)) (k : ℕ) → k ≤ length left.pending

@@ -19,19 +19,20 @@ use Rattle.raft_voter_durability_laws.specs.Requests.{WasTurnedDown}
 abbrev pub IsRaw : {M : Type 0} → (M → List ℕ) → (List ℕ → Option M) → Type 0
 IsRaw {M} text reading = (bytes : List ℕ) → (x : M) × (reading bytes ≡ Some x) × (text x ≡ bytes)
 
--- the tables show no entry of a group that doesn't count: one without an item after its last Clean
+-- A group counts if it has an item after its last Clean. The tables show no entry of a group that doesn't count.
 abbrev pub IsCounted : EngineState → Type 0
 IsCounted s = (g : ℕ) → s.counts g ≡ false → length (s.tables g).places ≡ 0
 
--- The entries of the group's voter from index `from` on, below `to`, were read. At most the cached block changed.
+-- Engine `s` read `es`: the entries of the voter of group `g` from index `from` on, below `to`. At most the cached
+-- block changed (engine `t`). `os` are the outlines of the voters.
 pub record ReadsEntries (g from to : ℕ) (s t : EngineState) (os : ℕ → State) (es : List VoterEntry) : Type 0 where
   pub alive : has_failed s ≡ false
   pub stays : StaysButBlock s t
   pub exact : (home : LogDirectories) (m : LogMap) (pending : List LogRecordValue) (W : World) → Represents home s m pending
       → Means (taken m pending) W → AreOutlines os W → es ≡ entries_between (W g) from to
 
--- The entries that request `q` asks for weren't read, for one of the reasons in `WasTurnedDown`. At most the cached
--- block changed.
+-- Engine `s` didn't read the entries that request `q` asks for, for one of the reasons in `WasTurnedDown`. At most the
+-- cached block changed (engine `t`). `os` are the outlines of the voters.
 pub record ReadsNone (q : ℕ × Request) (error : Error) (s t : EngineState) (os : ℕ → State) : Type 0 where
   pub alive : has_failed s ≡ false
   pub stays : StaysButBlock s t

@@ -31,7 +31,7 @@ use Rattle.raft_voter_records.specs.Voters.{Means}
 use Rattle.raft_voter_records.specs.MeaningChanges.{decided_items, record_in}
 use Rattle.raft_voter_durability_laws.specs.Standing.{AreOutlines}
 
--- batch `b` has the items of the change `c`, which was decided for request `q` of group `g`, and may be written
+-- batch `b` may be written, and has the items of the change `c`, which was decided for request `q` of group `g`
 pub record SaysChange (g : ℕ) (q : Request) (c : Change) (b : Batch) : Type 0 where
   pub says : record_of (entry_bytes b.entries) b.items ≡ Some (record_in g (decided_items c q))
   pub writable : IsWritable b.state
@@ -42,9 +42,9 @@ pub record StepsOutlines (q : ℕ × Request) (os us : ℕ → State) : Type 0 w
   pub own : OutlineBecomes (os q.0) q.1 (us q.0)
   pub others : (g : ℕ) → (g == q.0) ≡ false → us g ≡ os g
 
--- Request `q` was served with the reply `a`. At most one record was written for it, and none if `wrote` is false.
--- Engine `t`'s log stores the voters after the request, and `us` are their outlines. The reply is the voter's own. It
--- is `Refused` only if the request is out of range.
+-- Engine `s` served request `q` with the reply `a`, and is `t` after it. At most one record was written, and none if
+-- `wrote` is false. The log of `t` stores the voters after the request. Their outlines were `os` and are now `us`. The
+-- reply is the voter's own. It is `Refused` only if the request is out of range.
 pub record Served (q : ℕ × Request) (a : Reply) (wrote : Bool) (s t : EngineState) (os us : ℕ → State) : Type 0 where
   pub said : List LogRecordValue
   pub short : length said ≤ 1
@@ -71,8 +71,8 @@ IsUnwrittenFor errors.NumberRange s t = HasLastNumber InAppend t.pipes
 IsUnwrittenFor errors.Memory s t = Unit {0}
 IsUnwrittenFor _ s t = ⊥
 
--- Why entries of a group from index `from` on, below `to`, weren't read, though the tables show them: the file of one
--- can't be read, or memory ran out. None is reported as damaged.
+-- Why engine `s` failed with `error` to read entries of group `g` from index `from` on, below `to`, though its tables
+-- show them. The file of one of them can't be read, or memory ran out. No entry is reported as damaged.
 pub record WereUnread (g from to : ℕ) (s : EngineState) (error : Error) : Type 0 where
   pub index : ℕ
   pub entry : EntryIndex
@@ -89,8 +89,9 @@ pub data WasTurnedDown (q : ℕ × Request) (error : Error) (s t : EngineState) 
   unread : (from to : ℕ) → q.1 ≡ Read from to → WereUnread q.0 from to s error → WasTurnedDown q error s t
   no_memory : error ≡ errors.Memory → WasTurnedDown q error s t
 
--- A request was turned down. The log's contents stay, but some of the first pending batches may be durable now. The
--- voters and their outlines are unchanged. `why` gives the reason if the log stores voters with the outlines `os`.
+-- Engine `s` turned request `q` down with `error`, and is `t` after it. The log's contents stay, but some of the first
+-- pending batches may be durable now. The voters and their outlines are unchanged. `why` gives the reason if the log
+-- stores voters with the outlines `os`.
 pub record TurnedDown (q : ℕ × Request) (error : Error) (s t : EngineState) (os : ℕ → State) : Type 0 where
   pub alive : has_failed t ≡ false
   pub later : IsLater s.pipes.disk t.pipes.disk
@@ -98,8 +99,8 @@ pub record TurnedDown (q : ℕ × Request) (error : Error) (s t : EngineState) (
   pub why : (home : LogDirectories) (m : LogMap) (pending : List LogRecordValue) (W : World) → Represents home s m pending
       → Means (taken m pending) W → AreOutlines os W → WasTurnedDown q error s t
 
--- The engine failed at a request, because a file system call failed. The log's files can be opened, with the request's
--- record or without it.
+-- Engine `s` failed at request `q`, because a file system call failed, and is `t` after it. The log's files can be
+-- opened, with the request's record or without it. `os` are the outlines of the voters before the request.
 pub record Broke (q : ℕ × Request) (s t : EngineState) (os : ℕ → State) : Type 0 where
   pub said : List LogRecordValue
   pub short : length said ≤ 1

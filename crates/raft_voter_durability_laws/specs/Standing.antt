@@ -26,7 +26,8 @@ pub record IsLeftAmong (home : LogDirectories) (d : Disk) (P : World → Type 0)
   pub left : IsRecoverableAs home d map pending
   pub among : MeansAmong P map pending
 
--- a log's files are on disk `d` and can be opened; whatever a crash keeps of them, the log stores the voters of `W`
+-- a log's files are on disk `d` and can be opened; however many pending batches a crash keeps, the log stores the
+-- voters of `W`
 abbrev pub IsLeftWith : LogDirectories → Disk → World → Type 0
 IsLeftWith home d W = IsLeftAmong home d (λ X. X ≡ W)
 

@@ -1,5 +1,5 @@
--- How a plan, which is made for a request in range, becomes a decision, and how a decided change is made to an
--- outline.
+-- A plan is the reply, the next state and the write that an outline gives for a request in range. Here a plan becomes a
+-- decision, and a decided change is made to an outline.
 use Rattle.std.specs.Prelude.{◌≡◌, ℕ, ◌+◌, ◌^◌, ◌<◌, ◌≤◌, nat_lt, nat_le, if◌then◌else◌, List, [], drop, None, MatchOption}
 use Rattle.raft_voter_messages.specs.declared.reply.Reply.TheVariants.{Entries as EntriesReply, Gone, Unknown}
 use Rattle.raft_voter_messages.specs.declared.request.Request.{Request}
@@ -24,8 +24,8 @@ read_answer o from to =
     else if nat_lt (last_index o + 1) to then Told (Unknown (last_index o))
     else EntriesAnswer from to
 
--- this write of plan `p` changes nothing of outline `o`: it keeps the stored state and writes no entries, and a
--- `Clean` finds an empty log
+-- This write of plan `p` changes nothing of outline `o`. The plan keeps the stored state, and the write is
+-- `StateAlone`, or the `Clean` of an empty log.
 abbrev pub Stays : State → Plan → Write → Type 0
 Stays o p StateAlone = p.state ≡ stored_state o
 Stays o p (Entries skipped index) = ⊥
@@ -66,7 +66,7 @@ pub record AreTermsOf (v : State) (t : Terms) : Type 0 where
   pub log_is : t.log ≡ bare v.log
 
 -- Change `c` for request `q` can be made to terms `t`. Some voter has these terms, and the change's write is possible
--- for it. The change's base may follow this write (`RestsOn`), and is in range.
+-- for it. The change's base index fits this write (`RestsOn`), and is in range.
 pub record CanChange (t : Terms) (q : Request) (c : Change) : Type 0 where
   pub voter : State
   pub terms_of : AreTermsOf voter t
@@ -74,8 +74,8 @@ pub record CanChange (t : Terms) (q : Request) (c : Change) : Type 0 where
   pub rests : RestsOn c.write voter c.state.base_index
   pub small : c.state.base_index < 2 ^ 63
 
--- `new` is `old` after change `c`: it has the change's base. Its log has the terms that each voter with terms `old` has
--- after the write.
+-- `new` is `old` after change `c`: it has the change's base. Its log has the terms of the log that each voter with
+-- terms `old` has after the write of request `q`.
 abbrev pub ChangesTerms : Terms → Request → Change → Terms → Type 0
 ChangesTerms old q c new =
     (new.base ≡ c.state.base_index)

@@ -88,8 +88,8 @@ CanWrite (Entries skipped index) q v =
 CanWrite (CompactTo index) q v = (v.base_index < index) × (index ≤ last_index v)
 CanWrite Clean q v = is_retire q ≡ true
 
--- `base` can be the base's index after this write. It is 0 after a `Clean`. Otherwise it is the old base, or the index
--- of a `CompactTo`. It may also be any index if a `StateAlone` finds no entries or a `CompactTo` removes all.
+-- `base` can be the base's index after this write. It is 0 after a `Clean`, the index of a `CompactTo`, and the old
+-- base after any other write. It may be any index if a `StateAlone` finds no entries or a `CompactTo` removes all.
 abbrev pub RestsOn : Write → State → ℕ → Type 0
 RestsOn StateAlone v base = (base ≡ v.base_index) ⊎ (v.log ≡ [])
 RestsOn (Entries skipped index) v base = base ≡ v.base_index
@@ -98,7 +98,7 @@ RestsOn Clean v base = base ≡ 0
 
 -- What each request writes to the log.
 
--- the write for an Append of the entries `sent` after index `prev`, of which the log has the first `same`
+-- the write for an Append of the entries `sent` after index `prev`, if the log has the first `same` of them
 abbrev pub brought : ℕ → ℕ → List (ℕ × List ℕ) → Write
 brought same prev sent = if same == length sent then StateAlone else Entries same (prev + 1 + same)
 
@@ -128,8 +128,8 @@ write_of v _ = StateAlone
 
 -- Decisions.
 
--- Change `c` is what request `q` makes of voter `v`. It has the next state and the request's write, and the write is
--- possible. If the old base is in range, so is the new one. The voter does change.
+-- Change `c` is the one that request `q` makes to voter `v`. It has the next state and the request's write, and the
+-- write is possible. If the old base is in range, so is the new one. The voter does change.
 pub record IsChangeOf (v : State) (q : Request) (c : Change) : Type 0 where
   pub state : c.state ≡ stored_state (next v q)
   pub next_is : next v q ≡ changed c (sent_of q) v

@@ -22,7 +22,7 @@ abbrev pub is_up_to_date : State → ℕ → ℕ → Bool
 is_up_to_date v index last = nat_lt (last_term v) last || (last == last_term v && nat_le (last_index v) index)
 
 -- Voter `v` grants its vote. The candidate's `term` is at least the voter's. The voter has no vote for another
--- candidate in that term. The candidate's log is at least as up to date.
+-- candidate in that term. The candidate's log, which ends at `index` with term `last`, is at least as up to date.
 abbrev pub grants : State → ℕ → ℕ → ℕ → ℕ → Bool
 grants v term candidate index last =
     nat_le v.term term && may_vote (adopt_term v term) candidate && is_up_to_date v index last

@@ -1,3 +1,4 @@
+-- A voter: its state, and what a caller reads of it.
 use Rattle.std.specs.Prelude.{ℕ, ◌+◌, ◌-◌, ◌==◌, nat_lt, if◌then◌else◌, List, [], length, slice_get, Option, None, Some, unwrap_or}
 use Rattle.std.specs.Option.{option_map}
 use Rattle.raft_voter_messages.specs.declared.reply.VoterState.{VoterState}

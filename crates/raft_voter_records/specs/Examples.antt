@@ -25,7 +25,7 @@ two_entries = next fresh (Append 1 0 0 0 (of_terms (1 ∷ 1 ∷ [])))
 abbrev pub other_leader : Request
 other_leader = Append 2 1 1 3 (of_terms (2 ∷ 2 ∷ []))
 
--- the voter of the two entries after it took that leader's request
+-- the voter `two_entries` after the request `other_leader`
 abbrev pub three_entries : State
 three_entries = next two_entries other_leader
 

@@ -20,8 +20,8 @@ abbrev pub RecordsLead : Type 0
 RecordsLead = (m : Groups) (W : World) (q : ℕ × Request) → Means m W
     → Means (taken m (change_record W q ∷ [])) (after_one W q)
 
--- Suppose `c` is the change for every voter with the outline `o`. Then its items are the same for each such voter. They
--- are those found by comparing the voter before the request with the voter after it.
+-- Suppose `c` is the change that request `q` makes to every voter with the outline `o`. Then for each such voter, the
+-- items of `c` are those found by comparing the voter before the request with the voter after it.
 abbrev pub DecisionsAreWritten : Type 0
 DecisionsAreWritten = (o : State) (q : Request) (c : Change) → ChangesEach o q c
     → (v : State) → without_bytes v ≡ o → change_items v q ≡ decided_items c q

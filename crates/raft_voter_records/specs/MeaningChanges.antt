@@ -1,5 +1,5 @@
--- The record that is written when a request changes a voter: its new entries, or the deletions of old ones, then its
--- new state.
+-- The record that is written when a request changes a voter. It has the voter's new entries, or the command that
+-- deletes old ones, and then the new state.
 use Rattle.std.specs.Prelude.{ℕ, ◌+◌, ◌==◌, ◌&&◌, Bool, bytes_eq, if◌then◌else◌, List, [], ◌∷◌, ◌++◌, length, drop, map}
 use Rattle.std.specs.List.{common_prefix_len}
 use Rattle.raft_log_model_laws.specs.Item.{Item, Record, Tagged}
@@ -39,8 +39,8 @@ run_items index (e ∷ es) = Run index (map entry_text (numbered index (e ∷ es
 abbrev pub brought_items : State → State → List Words
 brought_items v w = run_items (v.base_index + shared v w + 1) (drop (shared v w) w.log)
 
--- The item that deletes the entries of `v` up to the base of `w`. If `w` has no entries, it deletes all entries of `v`.
--- If `v` has none, nothing is written.
+-- The item that deletes the entries of the old voter `v` up to the base of the new one, `w`. If `w` has no entries, it
+-- deletes all entries of `v`. If `v` has none, nothing is written.
 abbrev pub gone_items : State → State → List Words
 gone_items v w =
     if length v.log == 0 then []

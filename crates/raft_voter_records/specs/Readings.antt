@@ -39,7 +39,7 @@ read_voter s es = with_log s (map (λ e. (e.term, e.bytes)) es)
 -- - `no_state`: it has an entry or a key, but not the voter's key.
 -- - `broken_state`: the value under the voter's key encodes no state.
 -- - `below_base`: an entry has an index up to the base of the state.
--- - `behind_gap`: an entry comes after an index above the base that has none.
+-- - `behind_gap`: an index above the base has no entry, but a later index has one.
 -- - `broken_entry`: the bytes of an entry encode no entry at its index.
 -- - `too_far`: an entry has an index of 2 ^ 63 or more.
 pub data HasForeign (grp : Group) : Type 0 where

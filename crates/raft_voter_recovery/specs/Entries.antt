@@ -18,8 +18,8 @@ abbrev pub StandFrom : Group → ℕ → List (List ℕ) → Type 0
 StandFrom grp i [] = Unit {0}
 StandFrom grp i (bytes ∷ others) = (grp (Index i) ≡ Some (Entry bytes)) × StandFrom grp (i + 1) others
 
--- One of `texts` doesn't parse as an entry with its own index, and `fault` says why. The first of them has index
--- `first`.
+-- One of `texts`, the stored bytes of consecutive entries, doesn't parse as an entry with its index, and `fault` says
+-- why. The first of `texts` has the index `first`.
 pub record HasBroken (first : ℕ) (texts : List (List ℕ)) : Type 0 where
   pub place : ℕ
   pub bytes : List ℕ
@@ -28,7 +28,7 @@ pub record HasBroken (first : ℕ) (texts : List (List ℕ)) : Type 0 where
   pub broken : fault ≢ faults.Memory
   pub why : EntryFault fault bytes (first + place)
 
--- Why parsing the bytes of entries fails:
+-- Why parsing `texts` as the entries from index `first` on fails:
 -- - `Foreign`: one of them isn't an entry of a voter at its index; the error names group `g`
 -- - `Memory`: memory ran out
 abbrev pub AreNoEntries : ℕ → ℕ → List (List ℕ) → Unread → Type 0
@@ -36,19 +36,20 @@ AreNoEntries g first texts (causes.Foreign h) = (h ≡ g) × HasBroken first tex
 AreNoEntries g first texts (causes.Engine error) = ⊥
 AreNoEntries g first texts causes.Memory = Unit {0}
 
--- `es` were read as the consecutive entries of group `g` from index `first` on
+-- engine `e` read `es` as the consecutive entries of group `g` from index `first` on
 pub record ReadsRun (e : EngineState) (g first : ℕ) (es : List VoterEntry) : Type 0 where
   pub texts : List (List ℕ)
   pub read : AreReadAs first texts es
   pub stand : Tells e (λ m. StandFrom (m g) first texts)
 
--- `es` were read as the entries of group `g` from index `first` on; there is at least one, and all are below `end`
+-- engine `e` read `es` as the entries of group `g` from index `first` on; there is at least one, and all are below
+-- `end`
 pub record ReadsPiece (e : EngineState) (g first end : ℕ) (es : List VoterEntry) : Type 0 where
   pub run : ReadsRun e g first es
   pub some : 0 < length es
   pub within : first + length es ≤ end
 
--- `es` were read as all entries of group `g` after index `base` and below index `next`
+-- engine `e` read `es` as all entries of group `g` after index `base` and below index `next`
 pub record ReadsBelow (e : EngineState) (g base next : ℕ) (es : List VoterEntry) : Type 0 where
   pub run : ReadsRun e g (base + 1) es
   pub count : base + 1 + length es ≡ next

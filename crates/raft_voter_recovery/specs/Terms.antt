@@ -1,4 +1,5 @@
--- Reading the terms of a group's entries, without the entries' data.
+-- Reading the terms of a group's entries, without the entries' data. The head of an entry (`EntryHead`) is its index
+-- and its term.
 use Rattle.std.specs.Prelude.{◌≡◌, ◌+◌, ◌≤◌, ◌<◌, ℕ, List, [], ◌∷◌, ◌++◌, length, map, slice_get, None, Some}
 use Rattle.raft_log_model_laws.specs.Meaning.Slot.{Index}
 use Rattle.raft_log_model_laws.specs.Meaning.Content.{Entry}
@@ -38,7 +39,8 @@ AreTold i [] ts = ts ≡ []
 AreTold i (h ∷ hs) [] = ⊥
 AreTold i (h ∷ hs) (t ∷ ts) = (term_told i h.numbers ≡ Some t) × AreTold (i + 1) hs ts
 
--- One of the heads gives no term: it isn't the head of an entry at its index. The first of them has index `first`.
+-- One of the heads `hs` gives no term: it isn't the head of an entry at its index. The first head is that of index
+-- `first`.
 pub record HasUntold (first : ℕ) (hs : List EntryHead) : Type 0 where
   pub place : ℕ
   pub head : EntryHead
@@ -59,8 +61,8 @@ AreNotTold g first hs causes.Memory = Unit {0}
 abbrev pub alone : List ℕ → List (ℕ × List ℕ)
 alone ts = map (λ t. (t, [])) ts
 
--- Voter `p` is `o` with more entries in its log. These have no data. Their terms are those that the heads `hs` give,
--- which are of consecutive entries from index `first` on.
+-- Voter `p` is `o` with more entries in its log. These have no data, and the terms that the heads `hs` give. The heads
+-- are those of consecutive entries from index `first` on.
 pub record AddsTold (first : ℕ) (hs : List EntryHead) (o p : State) : Type 0 where
   pub terms : List ℕ
   pub told : AreTold first hs terms

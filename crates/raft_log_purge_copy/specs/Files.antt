@@ -18,8 +18,8 @@ use Rattle.raft_log_engine_laws.specs.Holding.{IsRecoverableAs}
 use Rattle.raft_log_engine_laws.specs.Settled.{HoldsSettled}
 use Rattle.raft_log_purge_copy.specs.Reasons.{HasFileReason}
 
--- what the tables must show before files leave the live range of a queue: that no tombstone is owed, if the queue is
--- Append; nothing, if it is Rewrite
+-- What must hold of the tables before files leave a queue's live range. For Append, no tombstone is owed. For Rewrite,
+-- there is no condition.
 abbrev pub MayLoseFiles : Which → (ℕ → Shown) → Type 0
 MayLoseFiles InAppend v = (g : ℕ) → OwesNothing (whereabouts (v g))
 MayLoseFiles InRewrite v = Unit {0}

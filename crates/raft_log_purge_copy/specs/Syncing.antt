@@ -26,8 +26,8 @@ abbrev pub SyncsIfDue : ℕ → ℕ → LogPipes → LogPipes → Type 0
 SyncsIfDue old new v w = ((old < max_unsynced) × (new ≡ old) × (w ≡ v))
     ⊎ ((max_unsynced ≤ old) × (new ≡ 0) × SyncsQueue InRewrite v w)
 
--- how many bytes of Rewrite are unsynced before the next record is written, if `old` are now: none if a sync is due,
--- since it comes first
+-- If `old` bytes of Rewrite are unsynced: how many of them still are right before the next record is written. None, if
+-- a sync is due, since it is made before the record.
 abbrev pub left_unsynced : ℕ → ℕ
 left_unsynced old = if nat_lt old max_unsynced then old else 0
 

@@ -24,7 +24,7 @@ IsSpan paths N first [] last = first ≡ last
 IsSpan paths N first (f ∷ fs) last = (f.seq ≡ first) × (f.reserved ≡ false)
     × (N (path_of paths f) ≡ Some f.handle.file) × IsSpan paths N (suc first) fs last
 
--- whatever number and header the file gets, it holds no record under these
+-- the file holds no record, whatever number and header it gets
 abbrev pub CanBeUsed : {R : Type 0} → Format R → File → Type 0
 CanBeUsed {R} F file = (q : LogFiles R) (header : List ℕ) → F.IsHeader header
     → IsNew F (begun header file.content q) file

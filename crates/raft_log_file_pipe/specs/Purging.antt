@@ -19,14 +19,14 @@ use Rattle.raft_log_file_pipe.specs.Exits.{SameFiles}
 use Rattle.raft_log_file_pipe.specs.declared.pipe_files.PipeFiles.{PipeFiles}
 use Rattle.raft_log_record_base.specs.Files.{is_signed}
 
--- If these files leave the live range: those that are kept for recycling. They are the first ones with signed records,
--- up to `room` files.
+-- which of these files are kept for recycling if all of them leave the live range: the first `room` ones whose records
+-- are signed
 abbrev pub staying : ℕ → List Listed → List Listed
 staying room [] = []
 staying room (f ∷ fs) = if is_signed f.format.version && nat_lt 0 room then f ∷ staying (room - 1) fs
     else staying room fs
 
--- If these files leave the live range: those that are deleted, which are all that aren't kept for recycling.
+-- which of these files are deleted if all of them leave the live range: those that aren't kept for recycling
 abbrev pub going : ℕ → List Listed → List Listed
 going room [] = []
 going room (f ∷ fs) = if is_signed f.format.version && nat_lt 0 room then going (room - 1) fs

@@ -10,8 +10,8 @@ use Rattle.raft_log_file_writer.specs.Reader.{AreBytesAt, IsBlockRefusal}
 use Rattle.raft_log_file_pipe.specs.Files.{Listed}
 use Rattle.raft_log_file_pipe.specs.declared.pipe_files.PipeFiles.{PipeFiles}
 
--- `id` is the node number of the file with the number `seq`: the active file if it has this number, otherwise the
--- earlier file with it
+-- `id` is the node number of the file with the number `seq`, which is the active file or an earlier file of the live
+-- range
 abbrev pub IsListed : ℕ → PipeFiles → ℕ → Type 0
 IsListed seq files id = ((seq ≡ files.active.seq) × (id ≡ files.active.handle.file))
     ⊎ ((f : Listed) × (seq ≡ files.active.seq → ⊥) × (files.first_seq ≤ seq)

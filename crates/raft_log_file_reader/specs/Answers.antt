@@ -29,8 +29,8 @@ abbrev pub given_all : List (List LogItem) → List Answer
 given_all [] = []
 given_all (items ∷ batches) = given items ++ given_all batches
 
--- `answers` is what is read of an open file from an offset on: the items of its batches, up to the end of the file. If
--- reading a batch fails, it is the items up to there, and then the error.
+-- `answers` is what is read from an open file from an offset on: the items of its batches, up to the end of the file.
+-- If reading a batch fails, it is the items of the batches before, and then the error.
 pub data GivesFrom (d : Disk) (file : OpenFile) (offset : ℕ) (answers : List Answer) : Type 0 where
   whole : (batches : List (List LogItem)) (end : ℕ)
       → HasBatches file (bytes_of file.source d) offset batches end

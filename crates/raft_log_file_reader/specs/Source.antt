@@ -1,4 +1,4 @@
--- A file that is read, and why bytes of it can't be read.
+-- The bytes of a file that a reader has open, and why reading some of them fails.
 use Rattle.std.specs.Prelude.{ℕ, ◌+◌, ◌≤◌, List, [], Option, Some, None}
 use Rattle.std.specs.declared.io.ErrorKind.{ErrorKind}
 use Rattle.raft_log_record_base.specs.declared.errors.Error.{Error}

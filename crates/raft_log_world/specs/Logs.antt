@@ -13,8 +13,8 @@ use Rattle.raft_log_world.specs.Model.ModelLog.{resting, left}
 -- What an implementation of a log defines. `S` are engines, `F` files, `B` batches, and `C` says what a crash leaves:
 -- - `is`: an engine, or the files, represent this log of the model;
 -- - `says`: the record of a batch;
--- - `read_spared`: they represent the log, and there is no CRC collision in the files;
--- - `crash_spared`: they represent the log, and there is no CRC collision in the files that a crash left;
+-- - `read_spared`: if they represent the log, there is no CRC collision in the files;
+-- - `crash_spared`: if they represent the log, there is no CRC collision in the files that a crash left;
 -- - `is_clear`: files may be copied into this directory.
 pub record LogOf (S F B C : Type 0) : Type 1 where
   pub is : Storage S F → ModelLog → Type 0

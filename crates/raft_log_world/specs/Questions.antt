@@ -34,8 +34,8 @@ Syncs (Serve (PurgeCall kind)) = Unit {0}
 Syncs Close = Unit {0}
 Syncs event = ⊥
 
--- Let a write with a sync, a sync, a purge or a close succeed. Whatever happens later, the contents are those before
--- this event, with its batch if it wrote one. After them come some of the batches that later events asked to write.
+-- Let a write with a sync, a sync, a purge or a close succeed. After any later events, the contents are those before
+-- this event, with its batch if it wrote one, and then some of the batches that the later events asked to write.
 abbrev pub SyncedBatchesAreKept : Type 0 → Type 0 → Type 0
 SyncedBatchesAreKept B C =
     (says : B → BatchRecord) (log next last : ModelLog) (event : Event B C)
@@ -51,8 +51,8 @@ BatchesAreWhole B C =
     → Explains says log events answers last
     → Continues (durable log) (pending_in log ++ written_in says events) last
 
--- Whatever happens to `log`, until an event asks to write a batch or to compact: the contents are `m`, and then the
--- first few of these batches.
+-- After any events of which none asks to write a batch or to compact, the contents of `log` are `m`, and then the first
+-- few of these batches.
 abbrev pub ShowsFirst : {B : Type 0} → Type 0 → (B → BatchRecord) → ModelLog → Contents → List BatchRecord → Type 0
 ShowsFirst {B} C says log m batches =
     (events : List (Event B C)) (answers : List Answer) (last : ModelLog)

@@ -46,7 +46,8 @@ HasEntries m group index [] = Unit {0}
 HasEntries m group index (entry ∷ entries) =
     (m group (Index index) ≡ Some (Entry entry)) × HasEntries m group (index + 1) entries
 
--- how many of `all` entries a read may return: all of them, or at least one if there is a greatest size
+-- a read may return `count` of `all` entries: all of them, or at least one (if there are any) if there is a greatest
+-- size
 abbrev pub IsCount : Option ℕ → ℕ → ℕ → Type 0
 IsCount None all count = count ≡ all
 IsCount (Some max) all count = (count ≤ all) × (0 < all → 0 < count)

@@ -1,4 +1,4 @@
--- Which rounds write.
+-- Which rounds write, and how this is computed from the outlines of the groups' voters.
 use Rattle.std.specs.Prelude.{◌≡◌, ◌≢◌, ◌⊎◌, ◌==◌, ◌||◌, ℕ, Bool, false, if◌then◌else◌, List, [], ◌∷◌}
 use Rattle.std.specs.Bool.{Decides}
 use Rattle.raft_voter_messages.specs.declared.request.Request.{Request}
@@ -10,7 +10,7 @@ use Rattle.raft_voter_outline.specs.State.{State}
 use Rattle.raft_voter.specs.Rounds.{World, after, after_one, taken_below}
 use Rattle.raft_voter_timeline.specs.Marks.{cuts_behind, taken_up_to}
 
--- `W` has the groups' voters; at least one of these requests, taken in order, changes its group's voter
+-- at least one of these requests, taken in order by the groups' voters `W`, changes its group's voter
 abbrev pub Changes : World → List (ℕ × Request) → Type 0
 Changes W [] = ⊥
 Changes W (q ∷ qs) = (next (W q.0) q.1 ≢ W q.0) ⊎ Changes (after_one W q) qs

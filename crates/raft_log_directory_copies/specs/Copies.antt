@@ -1,5 +1,5 @@
--- Files in memory (`StoredFile`) and the files of a directory: a list of the first is laid out in a directory, or has
--- what was gathered from one.
+-- Lists of files in memory (`StoredFile`). A list was laid out in a directory (`HoldsExactly`), or gathered from one
+-- (`AreGathered`).
 use Rattle.std.specs.Prelude.{◌≡◌, ℕ, true, List, ◌∷◌, ◌++◌, map, None}
 use Rattle.std.specs.List.{All, Contains}
 use Rattle.std.specs.String.{string_bytes}

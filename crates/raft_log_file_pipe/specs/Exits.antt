@@ -29,8 +29,8 @@ pub record SameFiles (before after : PipeFiles) : Type 0 where
   pub writer : after.writer ≡ before.writer
   pub recycled : after.recycled.items ≡ before.recycled.items
 
--- `stale` is what the next file holds when it gets its number: the content of the oldest file kept for recycling, or
--- nothing if none is kept
+-- `stale` is what the next file holds when it gets its number. It is the content of the oldest file kept for recycling,
+-- or nothing if none is kept.
 abbrev pub IsStaleOfNext : List Listed → Disk → List ℕ → Type 0
 IsStaleOfNext [] d stale = stale ≡ []
 IsStaleOfNext (f ∷ fs) d stale = HasFile f.handle.file (λ file. file.content ≡ stale) d

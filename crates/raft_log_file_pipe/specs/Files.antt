@@ -17,8 +17,8 @@ use Rattle.raft_log_file_pipe.specs.declared.pipe_files.PipeFiles.{PipeFiles}
 abbrev pub Listed : Type 0
 Listed = listed.File
 
--- the list has one file for each number from `first` on, below `last`, in this order; each is at its path, under the
--- node number of its handle
+-- The list has one file for each number from `first` on, below `last`, in this order. By the names `N` of a disk, each
+-- is at its path, under the node number of its handle.
 abbrev pub IsSpan : FilePaths → Names → ℕ → List Listed → ℕ → Type 0
 IsSpan paths N first [] last = first ≡ last
 IsSpan paths N first (f ∷ fs) last = (f.seq ≡ first) × (f.reserved ≡ false)

@@ -32,8 +32,8 @@ going room [] = []
 going room (f ∷ fs) = if is_signed f.format.version && nat_lt 0 room then going (room - 1) fs
     else f ∷ going room fs
 
--- how many more files may be kept for recycling if the live range begins at `seq`; the live range and the files kept
--- for recycling together may have `capacity` files
+-- How many more files may be kept for recycling if the live range begins at `seq`. The live range and the files kept
+-- for recycling together may have `capacity` files.
 abbrev pub room_from : ℕ → ℕ → PipeFiles → ℕ
 room_from capacity seq files = capacity - suc (files.active.seq - seq) - length files.recycled.items
 
@@ -96,8 +96,8 @@ abbrev pub paths_going : FilePaths → ℕ → ℕ → PipeFiles → List (List 
 paths_going paths capacity seq files = map (path_of paths)
     (going (room_from capacity seq files) (take (seq - files.first_seq) files.earlier.items))
 
--- if the pipe ran over a queue, the files to delete were deleted, one after the other; no other name changed, and the
--- pipe still runs
+-- If the pipe ran over a queue, the files to delete were deleted, one after the other. No other name changed, and the
+-- pipe still runs over the queue.
 abbrev pub Purges : {R : Type 0} → Format R → (List ℕ → Type 0) → FilePaths → ℕ → ℕ → PipeFiles → PipeFiles
     → Disk → Disk → Type 0
 Purges {R} F own paths capacity seq before after old new = (base : Disk) (q : LogFiles R)
@@ -130,8 +130,8 @@ CountFails seq files error = (IsInSpan seq files → ⊥) × IsOtherOrMemory err
 abbrev pub HasFarFile : List Listed → Type 0
 HasFarFile fs = (f : Listed) × (i : ℕ) × (i < length fs) × (f ≡ slice_index_or fs i f) × (10 ^ 16 ≤ f.seq)
 
--- why a list of files wasn't split into those to keep and those to delete: memory ran out, or no name has the number of
--- one of them
+-- Why a list of files wasn't split into those to keep and those to delete. Memory ran out, or no name has the number of
+-- one of the files.
 abbrev pub PartFails : List Listed → Error → Type 0
 PartFails fs errors.Memory = Unit {0}
 PartFails fs errors.NumberRange = HasFarFile fs

@@ -35,8 +35,8 @@ abbrev pub IsReadAt : PipeFiles → FileBlockHandle → List ℕ → Disk → Ty
 IsReadAt files block bytes d = (id : ℕ) × IsListed block.id.seq files id
     × HasFile id (AreBytesAt block.offset block.len bytes) d
 
--- why the bytes at the location `block` weren't read: no file of the live range has its number, the file system failed
--- the read, or memory ran out
+-- Why the bytes at the location `block` weren't read. No file of the live range has the number in `block`, the file
+-- system failed the read, or memory ran out.
 abbrev pub IsReadRefused : PipeFiles → FileBlockHandle → Disk → Error → Type 0
 IsReadRefused files block d error = IsNotTold block.id.seq files error
     ⊎ ((handle : Handle) × IsListed block.id.seq files handle.file

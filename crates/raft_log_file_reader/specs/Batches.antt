@@ -18,7 +18,7 @@ use Rattle.raft_log_file_reader.specs.declared.open_file.OpenFile.{OpenFile}
 abbrev pub padding_len : ℕ → ℕ → ℕ
 padding_len alignment offset = if alignment == 0 then 0 else (alignment - offset % alignment) % alignment
 
--- `bytes` begin with padding of this many bytes: the first and the last of these are 0, and no valid header of a record
+-- `bytes` begin with padding of this many bytes. The first and the last of these are 0, and no valid header of a record
 -- begins there. `bytes` are long enough for such a header and for the padding.
 pub record IsPadding (padding : ℕ) (bytes : List ℕ) : Type 0 where
   pub some : 0 < padding
@@ -90,8 +90,8 @@ HasBatches file content offset [] end = end ≡ offset
 HasBatches file content offset (items ∷ more) end =
     (next : ℕ) × HasBatch file content offset items next × HasBatches file content next more end
 
--- Reads the header of the record at the front of `bytes`. Returns where its footer begins and how long the record is,
--- or the first fault: that of the header, or that the record doesn't end within `bytes`.
+-- Reads the header of the record at the front of `bytes`. Returns where its footer begins and how long the record is.
+-- Fails with the header's first fault, or because the record doesn't end within `bytes`.
 unfoldable pub extent_at : List ℕ → Result (ℕ × ℕ) Fault
 extent_at bytes = header_at bytes
     >>= λ r. if nat_lt (length bytes) r.0.2 then Err (corrupt (past_input r.0.2)) else Ok (r.0.0, r.0.2)

@@ -58,8 +58,8 @@ recycle_capacity s =
     if can_recycle s && nat_le s.target_file_size s.purge_threshold
     then files_within s.purge_threshold s.target_file_size else 0
 
--- how many files an open may prefill with zeros; 0 if it may not, or if the limit on their bytes is below the target
--- size
+-- How many files an open may prefill with zeros. It is 0 if it may not prefill, or if the limit on their bytes is below
+-- the target size.
 abbrev pub prefill_capacity : Settings → ℕ
 prefill_capacity s =
     let limit = unwrap_or s.prefill_limit 0 in

@@ -62,8 +62,8 @@ pub record AreJoined (file : OpenFile) (content : List ℕ) (offset : ℕ) (byte
   pub left : IsRest file content end rest
   pub both : bytes ≡ joined records ++ rest
 
--- `new` are the file's bytes without padding: a header with the same version and no alignment, the records byte for
--- byte without gaps, and what follows the last one.
+-- `content` are the bytes of file `id`, and `new` are its bytes without padding. They begin with a header of the same
+-- version and no alignment. The records follow byte for byte without gaps, and then what follows the last one.
 pub record IsWithoutPadding (id : FileId) (content new : List ℕ) : Type 0 where
   pub file : OpenFile
   pub is : file.id ≡ id

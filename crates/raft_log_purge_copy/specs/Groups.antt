@@ -15,8 +15,8 @@ use Rattle.raft_log_purge_copy.specs.Moving.{IsPartlyRewritten, IsRewrittenTo}
 use Rattle.raft_log_purge_copy.specs.Reasons.{GivesReason}
 use Rattle.raft_log_purge_copy.specs.Rewriting.{OweNothing, StaysHeld, StaysOrIsLeft}
 
--- For each group that passes the test, a part of what it had in Append, in files up to the gate, moved to Rewrite:
--- perhaps nothing, perhaps all. Other groups are unchanged.
+-- For each group that passes the test, a part of what it had in files of Append up to the gate moved to Rewrite. The
+-- part may be nothing or all. Other groups are unchanged.
 pub record RewritesPart (test : ℕ → Bool) (gate : ℕ) (s t : EngineState) : Type 0 where
   pub parts : (g : ℕ) → IsPartlyRewritten gate (s.tables g) (t.tables g)
   pub others : (g : ℕ) → test g ≡ false → t.tables g ≡ s.tables g

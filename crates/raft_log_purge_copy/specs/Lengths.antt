@@ -1,5 +1,4 @@
--- The records that a purge writes, and when one would be too long: a record of what one group has, or that of the owed
--- tombstones.
+-- The records that a purge writes: those of what one group has, and that of the owed tombstones. When is one too long?
 use Rattle.std.specs.Prelude.{◌≡◌, ◌⊎◌, ◌<◌, ◌≤◌, ◌^◌, ℕ, List, [], ◌∷◌, ◌++◌, length, map, Some}
 use Rattle.std.specs.Cmp.Lexicographic.{slice_cmp}
 use Rattle.std.specs.List.Sorted.{IsStrictlySortedBy}
@@ -66,8 +65,8 @@ pub record AreOfMap (m : LogMap) (items : List LogItem) (entries : List ℕ) : T
   pub values : AreValuesIn m group pairs
   pub once : IsStrictlySortedBy (slice_cmp nat_cmp) (keys_of pairs)
 
--- A record of these items would be too long: it has more bytes of entries than a batch may have, or 2 ^ 56 bytes or
--- more.
+-- A record of these items would be too long: its entries have more bytes than a batch may have, or the record has
+-- 2 ^ 56 or more.
 abbrev pub IsTooLong : List LogItem → List ℕ → Type 0
 IsTooLong items entries = (max_entries_len < length entries) ⊎ (2 ^ 56 ≤ record_len items entries)
 

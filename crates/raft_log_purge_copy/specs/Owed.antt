@@ -50,8 +50,8 @@ pub record OwesSame (v w : Shown) : Type 0 where
   pub compact : owed_compact w ≡ owed_compact v
   pub deleted : w.deleted ≡ v.deleted
 
--- the group owes no tombstone in `w` that it didn't owe in `v`: no Clean, no Compact, no deletion of a key; the
--- Compact's index may differ
+-- The group owes no tombstone in `w` that it didn't owe in `v`: no Clean, no Compact, no deletion of a key. The
+-- Compact's index may differ.
 pub record OwesNoMore (v w : Shown) : Type 0 where
   pub cleaned : w.cleaned ≡ true → v.cleaned ≡ true
   pub compacted : w.compacted ≡ true → v.compacted ≡ true

@@ -109,8 +109,8 @@ Serves says m pending (Purge kind) Refused next = next ≡ running (taken m pend
 Serves says m pending (Purge kind) Failed next = (next ≡ failed m pending) ⊎ (next ≡ failed (taken m pending) [])
 Serves says m pending call answer next = ⊥
 
--- the event does nothing: it is a call or a close, and no engine has the log open; or it is an open or a copy, and an
--- engine has the log open
+-- The event does nothing. It is a call or a close, and no engine has the log open (`opened`). Or it is an open or a
+-- copy, and an engine has the log open.
 abbrev pub IsIdle : {B C : Type 0} → Bool → Event B C → Type 0
 IsIdle opened (Open workers) = opened ≡ true
 IsIdle opened (Serve call) = opened ≡ false

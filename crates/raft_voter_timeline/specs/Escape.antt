@@ -12,7 +12,7 @@ Gains old new more = string_bytes new ≡ string_bytes old ++ more
 abbrev pub has_no_place : ℕ → Bool
 has_no_place c = nat_lt c 32 || (c == 0xFFFE || c == 0xFFFF)
 
--- The bytes of a character in the XML: an entity for `&`, `<`, `>` and the quotes, U+FFFD for one that is replaced
+-- The bytes of a character in the XML. They are an entity for `&`, `<`, `>` and the quotes, U+FFFD if it is replaced
 -- (`has_no_place`), and otherwise its UTF-8.
 unfoldable pub escaped : ℕ → List ℕ
 escaped c =

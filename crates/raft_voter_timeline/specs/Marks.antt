@@ -64,8 +64,8 @@ end_mark (outcomes.Answered replies) true = marks.Durable
 end_mark (outcomes.Answered replies) false = marks.Unchanged
 end_mark outcomes.Cut wrote = marks.Cut
 
--- The marks of a round whose requests before position `up_to` were taken, and which wrote or didn't: its first line,
--- these requests, the line after them, and the lost requests.
+-- The marks of a round: its first line, the requests before position `up_to`, which were taken, the line after them,
+-- and the lost requests. `wrote` says whether the round wrote.
 abbrev pub round_marks : Round → Bool → ℕ → List Mark
 round_marks round wrote up_to =
     head_mark round.outcome ∷ fates round.refused marks.Taken 0 (take up_to round.requests)
@@ -92,7 +92,7 @@ behind_outcome outcomes.Cut (cut ∷ cuts) = cuts
 abbrev pub cuts_behind : Round → List ℕ → List ℕ
 cuts_behind round cuts = behind_outcome round.outcome cuts
 
--- The marks of a picture, from top to bottom: the first argument has one for each event, and each round's mark there is
+-- The marks of a picture, from top to bottom. The first argument has one for each event. Each round's mark there is
 -- replaced by the marks of the next of `rounds`. The next of `writes` says whether that round wrote. If the round was
 -- cut off, the next of `cuts` is its cut.
 abbrev pub all_marks : List Mark → List Round → List Bool → List ℕ → List Mark

@@ -29,8 +29,8 @@ AreWrites W (round ∷ rounds) cuts (wrote ∷ writes) =
 abbrev pub AreOutlines : (ℕ → State) → World → Type 0
 AreOutlines outlines W = (g : ℕ) → outlines g ≡ without_bytes (W g)
 
--- if `old` has the outlines of the groups' voters, `new` has those after these requests, and `wrote` says whether one
--- of the requests changed a voter
+-- Let `old` have the outlines of the groups' voters. Then `new` has those after these requests, and `wrote` says
+-- whether one of the requests changed a voter.
 abbrev pub Takes : (ℕ → State) → (ℕ → State) → List (ℕ × Request) → Bool → Type 0
 Takes old new qs wrote =
     (W : World) → AreOutlines old W → Decides wrote (Changes W qs) × AreOutlines new (after W qs)

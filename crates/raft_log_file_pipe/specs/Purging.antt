@@ -1,5 +1,6 @@
--- Purging a pipe: the files below a number leave the live range. Some of them are kept for recycling, the others are
--- deleted.
+-- Purging a pipe: the files below the number `seq` leave the live range. Some of them are kept for recycling, the
+-- others are deleted. `capacity` is how many files the pipe may have with those kept for recycling. `before` and
+-- `after` are the pipe's files, `old` and `new` the disk.
 use Rattle.std.specs.Prelude.{◌≡◌, ℕ, ◌-◌, ◌<◌, ◌≤◌, ◌^◌, false, nat_lt, ◌&&◌, if◌then◌else◌, Some, None, List, [], ◌∷◌, ◌++◌, length, map, take, drop, slice_index_or, suc}
 use Rattle.std.specs.Map.{update}
 use Rattle.std.specs.Str.{bytes_eq}

@@ -1,6 +1,6 @@
--- The batches in the bytes of a log file. A batch has the items of one record (its bytes are a frame), and records
--- follow one another. If the file has an alignment, padding may come between them. Whether the entry block of a record
--- is whole isn't checked.
+-- The batches in the bytes of a log file. A batch has the items of one record, and records follow one another. If the
+-- file has an alignment, there may be padding between them. The entry block of a record isn't checked: a record counts
+-- if its bytes are a frame. `content` are all bytes of the open file `file`.
 use Rattle.std.specs.Prelude.{◌≡◌, ℕ, ◌+◌, ◌-◌, ◌%◌, ◌<◌, ◌≤◌, List, [], ◌∷◌, length, take, drop, Result, Ok, Err, IsErr, nat_lt, ◌==◌, if◌then◌else◌}
 use Rattle.raft_log_record_base.specs.Grammar.{◌>>=◌}
 use Rattle.raft_log_record_base.specs.Files.{signature_of}

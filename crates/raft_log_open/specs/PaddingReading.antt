@@ -34,7 +34,8 @@ pub record ReadsNext (file : OpenFile) (content : List ℕ) (old new : LogItemBa
   pub begins : start ≡ batch.at
   pub further : end_of old < end_of new
 
--- what follows the reader's offset: a record, which it read; nothing more; or a broken record, which it didn't read
+-- What follows the offset of `old` in the open file, whose bytes are `content`. It is a record, which was read; or
+-- nothing more; or a broken record, which wasn't read.
 abbrev pub FindsNext : OpenFile → List ℕ → LogItemBatchFileReader → LogItemBatchFileReader → Next → Type 0
 FindsNext file content old new (nexts.Record start) = ReadsNext file content old new start
 FindsNext file content old new nexts.End = HasNoMore file content (end_of old)

@@ -47,7 +47,7 @@ abbrev pub RemainsSettled : LogDirectories → LogMap → EngineState → Error 
 RemainsSettled home m t errors.Failed = IsRecoverableAs home t.pipes.disk m []
 RemainsSettled home m t _ = HoldsSettled home t m
 
--- if the error is `Other`, `limit` is not a file number in the queue's live range; no other error has this reason
+-- The error is `Other`, and `limit` isn't a file number in the queue's live range.
 abbrev pub IsNoLimit : LogQueue → ℕ → Error → EngineState → Type 0
 IsNoLimit queue limit (errors.Other fault) s =
     IsInSpan limit (pipe_at (which_of queue) (files_of s.pipes)) → ⊥

@@ -29,9 +29,9 @@ abbrev pub IsOneMark : List LogItem → Type 0
 IsOneMark mark = (mark ≡ [])
     ⊎ ((number : ℕ) × (status : AtomicGroupStatus) × (mark ≡ mark_item number status ∷ []))
 
--- The items are these of group `g`, in this order, and `entries` are the bytes of its entries:
--- - entries from index `first` on, one after another
--- - keys with their values
+-- `items` are these of group `g`, in this order, and `entries` are the bytes of all its entries, joined:
+-- - entries from index `first` on, one after another, with the bytes `bytes`
+-- - the keys `pairs` with their values
 -- - the mark
 pub record AreOfGroup (g first : ℕ) (bytes : List (List ℕ)) (pairs : List (List ℕ × List ℕ)) (mark : List LogItem)
     (items : List LogItem) (entries : List ℕ) : Type 0 where

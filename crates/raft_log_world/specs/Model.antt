@@ -1,5 +1,6 @@
 -- The model log: a log as its callers see it. It says which answers an event may have, and what the log is afterwards.
--- A crash loses at most a suffix of the batches that aren't synced yet.
+-- A crash loses at most a suffix of the batches that aren't synced yet. `m` are the durable contents before an event,
+-- `pending` the pending batches, and `next` is the log after it.
 use Rattle.std.specs.Prelude.{◌≡◌, ◌⊎◌, ◌≤◌, ℕ, Bool, true, false, List, [], ◌∷◌, ◌++◌, length, take, option_map}
 use Rattle.raft_log_model_laws.specs.Item.{Record, items_of}
 use Rattle.raft_log_model_laws.specs.Item.Item.{Compact as CompactItem}

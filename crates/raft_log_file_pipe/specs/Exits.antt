@@ -1,6 +1,6 @@
 -- What each call of a pipe leaves, whether it succeeds or fails. `before` and `after` are the pipe's files, `old` and
--- `new` the disk. "The pipe ran over a queue" means `IsPipe`, for any queue `q` of records in the format `F`. `own`
--- says which paths are the queue's, and since the disk `base` only these have changed.
+-- `new` the disk. That the pipe ran over a queue means `IsPipe`, for any queue `q` of records in the format `F`. `own`
+-- says which paths are the queue's. Since the disk `base`, only these have changed.
 use Rattle.std.specs.Prelude.{◌≡◌, ℕ, false, ◌≤◌, ◌^◌, List, [], ◌∷◌, ◌++◌, length, drop, suc}
 use Rattle.std.specs.declared.io.ErrorKind.{ErrorKind}
 use Rattle.raft_log_fs.specs.Disk.{Disk}

@@ -30,8 +30,8 @@ pub record PipesAreKept {R : Type 0} (F : Format R) (own : List ℕ → Type 0) 
       × Stands F own image (kept_to count q) path id (IsLeftover F (kept_to count q)) N image
 
 -- These files of a queue were found on disk `d`. The last one has `number`, is open for writing, and was read up to
--- `end`. The numbers of the earlier ones follow one another up to it. These are at their paths, and the files in `kept`
--- can be recycled.
+-- `end`. The earlier ones have consecutive numbers up to the one before `number`, and are at their paths. The files in
+-- `kept` can be recycled.
 pub record AreFoundOnDisk {R : Type 0} (F : Format R) (paths : FilePaths) (earlier : List Listed) (last : Listed)
     (end : Option ℕ) (kept : List Listed) (number : ℕ) (d : Disk) : Type 0 where
   pub number_is : last.seq ≡ number

@@ -65,8 +65,8 @@ pub record AreOfMap (m : LogMap) (items : List LogItem) (entries : List ℕ) : T
   pub values : AreValuesIn m group pairs
   pub once : IsStrictlySortedBy (slice_cmp nat_cmp) (keys_of pairs)
 
--- A record of these items would be too long: its entries have more bytes than a batch may have, or the record has
--- 2 ^ 56 or more.
+-- A record of these items would be too long. Its entries have more bytes than a batch may have, or the record has
+-- 2 ^ 56 bytes or more.
 abbrev pub IsTooLong : List LogItem → List ℕ → Type 0
 IsTooLong items entries = (max_entries_len < length entries) ⊎ (2 ^ 56 ≤ record_len items entries)
 

@@ -31,8 +31,8 @@ SyncsIfDue old new v w = ((old < max_unsynced) × (new ≡ old) × (w ≡ v))
 abbrev pub left_unsynced : ℕ → ℕ
 left_unsynced old = if nat_lt old max_unsynced then old else 0
 
--- The count of unsynced bytes was `old`. It is `new` after a sync, if one was due, and the write of the batch's record.
--- The count stops at 2 ^ 64 - 1.
+-- Rewrite was synced if that was due, and then the batch's record was written. The count of unsynced bytes was `old`
+-- before, and is `new` after. The count stops at 2 ^ 64 - 1.
 abbrev pub CountsRecord : Batch → ℕ → ℕ → Type 0
 CountsRecord b old new = (len : ℕ) × IsReadyForEach len b.items b.entries
     × (new ≡ min (left_unsynced old + len) (2 ^ 64 - 1))

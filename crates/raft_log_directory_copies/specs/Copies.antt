@@ -1,4 +1,5 @@
--- When a directory has exactly the files of a list.
+-- Lists of files in memory (`StoredFile`). A list was laid out in a directory (`HoldsExactly`), or gathered from one
+-- (`AreGathered`).
 use Rattle.std.specs.Prelude.{◌≡◌, ℕ, true, List, ◌∷◌, ◌++◌, map, None}
 use Rattle.std.specs.List.{All, Contains}
 use Rattle.std.specs.String.{string_bytes}
@@ -19,7 +20,7 @@ name_of file = string_bytes file.name
 abbrev pub names_of : List StoredFile → List (List ℕ)
 names_of files = map name_of files
 
--- no file is at a path in the directory
+-- the directory has no file
 abbrev pub IsUnnamed : List ℕ → Disk → Type 0
 IsUnnamed directory d = (name : List ℕ) → IsPlain name → d.names (path_in directory name) ≡ None
 
@@ -48,7 +49,7 @@ pub record HoldsExactly (files : List StoredFile) (directory : List ℕ) (d : Di
 abbrev pub HoldsFiles : List ℕ → Disk → Type 0
 HoldsFiles directory d = (files : List StoredFile) × HoldsExactly files directory d
 
--- `files` are all files of the directory, each once, with the bytes that a read of it returns
+-- `files` has each file of the directory once, with the bytes that a read of this file returns
 pub record AreGathered (files : List StoredFile) (directory : List ℕ) (d : Disk) : Type 0 where
   pub listed : IsListing directory d (names_of files)
   pub read : All (λ file. HasContent (path_in directory (name_of file)) file.bytes.items d) files

@@ -18,8 +18,8 @@ content_of d (Some id) = read_of (d.files id)
 abbrev pub content_at : Disk → List ℕ → Option (List ℕ)
 content_at d path = content_of d (d.names path)
 
--- If the files gathered from a directory are laid out in another one, each name has the same content in both, or in
--- neither.
+-- If the files gathered from the directory `from` are laid out in `to`, each name reads the same in both. It names a
+-- file in both, with the same content, or in neither.
 abbrev pub CopiesHoldTheSame : Type 0
 CopiesHoldTheSame = (files : List StoredFile) (from to : List ℕ) (source copy : Disk) (name : List ℕ)
     → AreGathered files from source → HoldsExactly files to copy → IsPlain name

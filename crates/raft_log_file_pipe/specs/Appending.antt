@@ -1,4 +1,7 @@
--- Appending a record to a pipe: which calls are made, and what they leave.
+-- Appending a record to a pipe: which calls are made, and what they leave. `before` and `after` are the pipe's files,
+-- `old` and `new` the disk or the file system. `begin` are the settings for new files. `signed` gives the record's
+-- bytes for the file that they are signed for. `paths` are the paths of the queue's files, `own` says which paths these
+-- are.
 use Rattle.std.specs.Prelude.{◌≡◌, ◌⊎◌, ℕ, ◌+◌, ◌<◌, ◌≤◌, List, length}
 use Rattle.std.specs.declared.io.ErrorKind.TheVariants.{StorageFull}
 use Rattle.raft_log_fs.specs.Disk.{Disk}

@@ -11,9 +11,9 @@ use Rattle.raft_log_active_file.specs.Layout.{FilePaths, path_of, plain_place}
 use Rattle.raft_log_active_file.specs.Rotation.{RotatesBy, RotationMakes}
 use Rattle.raft_log_file_pipe.specs.Files.{Listed}
 
--- The calls of a rotation, in order. If a file is kept for recycling, the oldest one is opened for writing. The active
--- file is truncated after its records and synced. The opened file is renamed, or if none is kept, the next file is
--- created. The next file gets its header.
+-- The calls of a rotation, in order. If files are kept for recycling, the oldest of them is opened for writing. Then
+-- the active file is truncated after its records and synced. Then the opened file is renamed, or the next file is
+-- created if none is kept. Then the next file gets its header.
 abbrev pub TurnsBy : FilePaths → List ℕ → List Listed → LogFileWriter → Listed → LogFileWriter → Disk → Disk
     → Type 0
 TurnsBy paths header [] writer next after old new = RotatesBy writer header

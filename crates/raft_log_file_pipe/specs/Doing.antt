@@ -1,5 +1,7 @@
 -- What each call of a pipe does, on any disk: which file system calls it makes, in order, and the pipe's files after
--- it. This doesn't require that the files are those of a queue.
+-- it. This doesn't require that the files are those of a queue. `before` and `after` are the pipe's files, `old` and
+-- `new` the disk. `begin` are the settings for new files. `signed` gives a record's bytes for the file that they are
+-- signed for.
 use Rattle.std.specs.Prelude.{◌≡◌, ◌⊎◌, ℕ, ◌<◌, ◌≤◌, ◌^◌, false, List, [], ◌∷◌, ◌++◌, length, suc}
 use Rattle.std.specs.declared.io.ErrorKind.{ErrorKind}
 use Rattle.std.specs.declared.io.ErrorKind.TheVariants.{StorageFull}

@@ -1,4 +1,6 @@
--- What each call of a pipe leaves, whether it succeeds or fails.
+-- What each call of a pipe leaves, whether it succeeds or fails. `before` and `after` are the pipe's files, `old` and
+-- `new` the disk. That the pipe ran over a queue means `IsPipe`, for any queue `q` of records in the format `F`. `own`
+-- says which paths are the queue's. Since the disk `base`, only these have changed.
 use Rattle.std.specs.Prelude.{◌≡◌, ℕ, false, ◌≤◌, ◌^◌, List, [], ◌∷◌, ◌++◌, length, drop, suc}
 use Rattle.std.specs.declared.io.ErrorKind.{ErrorKind}
 use Rattle.raft_log_fs.specs.Disk.{Disk}
@@ -29,8 +31,8 @@ pub record SameFiles (before after : PipeFiles) : Type 0 where
   pub writer : after.writer ≡ before.writer
   pub recycled : after.recycled.items ≡ before.recycled.items
 
--- `stale` is what the next file holds when it gets its number: the content of the oldest file kept for recycling, or
--- nothing if none is kept
+-- `stale` is what the next file holds when it gets its number. It is the content of the oldest file kept for recycling,
+-- or nothing if none is kept.
 abbrev pub IsStaleOfNext : List Listed → Disk → List ℕ → Type 0
 IsStaleOfNext [] d stale = stale ≡ []
 IsStaleOfNext (f ∷ fs) d stale = HasFile f.handle.file (λ file. file.content ≡ stale) d

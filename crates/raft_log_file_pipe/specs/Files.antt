@@ -17,14 +17,14 @@ use Rattle.raft_log_file_pipe.specs.declared.pipe_files.PipeFiles.{PipeFiles}
 abbrev pub Listed : Type 0
 Listed = listed.File
 
--- the list has one file for each number from `first` on, below `last`, in this order; each is at its path, under the
--- node number of its handle
+-- The list has one file for each number from `first` on, below `last`, in this order. By the names `N` of a disk, each
+-- is at its path, under the node number of its handle.
 abbrev pub IsSpan : FilePaths → Names → ℕ → List Listed → ℕ → Type 0
 IsSpan paths N first [] last = first ≡ last
 IsSpan paths N first (f ∷ fs) last = (f.seq ≡ first) × (f.reserved ≡ false)
     × (N (path_of paths f) ≡ Some f.handle.file) × IsSpan paths N (suc first) fs last
 
--- whatever number and header the file gets, it holds no record under these
+-- the file holds no record, whatever number and header it gets
 abbrev pub CanBeUsed : {R : Type 0} → Format R → File → Type 0
 CanBeUsed {R} F file = (q : LogFiles R) (header : List ℕ) → F.IsHeader header
     → IsNew F (begun header file.content q) file

@@ -1,4 +1,4 @@
--- Laws of a pipe on a disk, also of one that has failed.
+-- Laws on the files of a queue after a stop. They also hold if the queue's pipe has failed.
 use Rattle.std.specs.Prelude.{◌≡◌, ℕ, ◌≤◌, false, Option, List, length}
 use Rattle.raft_log_fs.specs.Disk.{Disk}
 use Rattle.raft_log_fs.specs.Image.{IsImage, IsSound}
@@ -16,10 +16,10 @@ use Rattle.raft_log_file_pipe.specs.Opening.{IsFound, HasOwnHeader, first_number
 use Rattle.raft_log_file_pipe.specs.declared.pipe_files.PipeFiles.{PipeFiles}
 
 -- What is read of a pipe's queue after a stop without a CRC collision.
--- - `standing`: if a pipe runs over the queue, the queue's last file holds its records.
--- - `kept`: if it does, reading gives all records of earlier files, and of the last file the durable records and a
---   prefix of the pending ones.
--- - `restarts`: given `CanTellFormat`, what the stop leaves is the queue again, with these records, all durable.
+-- - `standing`: if a pipe runs over the queue, the queue's last file holds its records (`StandsWithRecords`).
+-- - `kept`: all records of such a queue's earlier files are read, and the last file's durable ones with a prefix of its
+--   pending ones.
+-- - `restarts`: given `CanTellFormat`, the stop leaves the queue again, with these records, all durable.
 pub record PipesAreKept {R : Type 0} (F : Format R) (own : List ℕ → Type 0) (paths : FilePaths) : Type 0 where
   pub standing : (base : Disk) (files : PipeFiles) (q : LogFiles R) (d : Disk)
       → IsPipe F own paths base files q d → StandsWithRecords F own base q d
@@ -30,8 +30,8 @@ pub record PipesAreKept {R : Type 0} (F : Format R) (own : List ℕ → Type 0) 
       × Stands F own image (kept_to count q) path id (IsLeftover F (kept_to count q)) N image
 
 -- These files of a queue were found on disk `d`. The last one has `number`, is open for writing, and was read up to
--- `end`. The numbers of the earlier ones follow one another up to it. These are at their paths, and the files in `kept`
--- can be recycled.
+-- `end`. The earlier ones have consecutive numbers up to the one before `number`, and are at their paths. The files in
+-- `kept` can be recycled.
 pub record AreFoundOnDisk {R : Type 0} (F : Format R) (paths : FilePaths) (earlier : List Listed) (last : Listed)
     (end : Option ℕ) (kept : List Listed) (number : ℕ) (d : Disk) : Type 0 where
   pub number_is : last.seq ≡ number
@@ -43,8 +43,8 @@ pub record AreFoundOnDisk {R : Type 0} (F : Format R) (paths : FilePaths) (earli
   pub spares : AllKept F paths (first_number earlier last) d kept
 
 -- Let the last file of a queue `q` hold its records on a sound disk, and let a stop without a CRC collision leave
--- `image`. Then a pipe may be opened over the files that are found of the queue. The queue then has its durable records
--- and the first `count` pending ones.
+-- `image`. Given `CanTellFormat`, a pipe may be opened over the files of the queue that are found there. The queue then
+-- has its durable records and the first `count` pending ones.
 abbrev pub PipesAreFound : {R : Type 0} → Format R → (List ℕ → Type 0) → FilePaths → Type 0
 PipesAreFound {R} F own paths = CanTellFormat F → (base : Disk) (q : LogFiles R) (d image : Disk) → IsSound d
     → StandsWithRecords F own base q d → IsImage d image → NoChanceInLast F q d image

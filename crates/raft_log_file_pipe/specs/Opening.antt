@@ -1,4 +1,5 @@
--- Opening a pipe over the files that were found of its queue, or, if none were found, beginning the queue.
+-- Opening a pipe over the files that were found of its queue. If none were found, the queue begins. The files found are
+-- `earlier` and `last`. `last` was read up to `end`, or has no header (`None`). `kept` are the files for recycling.
 use Rattle.std.specs.Prelude.{◌≡◌, ℕ, false, Option, Some, None, List, [], ◌∷◌, ◌++◌}
 use Rattle.raft_log_fs.specs.Disk.{Disk}
 use Rattle.raft_log_fs.specs.Causes.{Fails}

@@ -17,7 +17,7 @@ abbrev pub LacksRoom : (List ℕ → ℕ → Type 0) → Disk → ℕ → List �
 LacksRoom tells d size directory = ((space : ℕ) × tells directory space × (space < size))
     ⊎ ((d.stopped ≡ true) ⊎ ((error : ErrorKind) × WrongListing directory d error))
 
--- whether the directory has room for `size` bytes
+-- the result says whether the directory has room for `size` bytes
 abbrev pub TellsRoom : (List ℕ → ℕ → Type 0) → Disk → ℕ → List ℕ → Bool → Type 0
 TellsRoom tells d size directory true = HasSpace tells size directory
 TellsRoom tells d size directory false = LacksRoom tells d size directory

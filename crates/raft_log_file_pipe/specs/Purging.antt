@@ -1,5 +1,6 @@
--- Purging a pipe: the files below a number leave the live range. Some of them are kept for recycling, the others are
--- deleted.
+-- Purging a pipe: the files below the number `seq` leave the live range. Some of them are kept for recycling, the
+-- others are deleted. `capacity` is how many files the pipe may have with those kept for recycling. `before` and
+-- `after` are the pipe's files, `old` and `new` the disk.
 use Rattle.std.specs.Prelude.{◌≡◌, ℕ, ◌-◌, ◌<◌, ◌≤◌, ◌^◌, false, nat_lt, ◌&&◌, if◌then◌else◌, Some, None, List, [], ◌∷◌, ◌++◌, length, map, take, drop, slice_index_or, suc}
 use Rattle.std.specs.Map.{update}
 use Rattle.std.specs.Str.{bytes_eq}
@@ -19,21 +20,21 @@ use Rattle.raft_log_file_pipe.specs.Exits.{SameFiles}
 use Rattle.raft_log_file_pipe.specs.declared.pipe_files.PipeFiles.{PipeFiles}
 use Rattle.raft_log_record_base.specs.Files.{is_signed}
 
--- If these files leave the live range: those that are kept for recycling. They are the first ones with signed records,
--- up to `room` files.
+-- which of these files are kept for recycling if all of them leave the live range: the first `room` ones whose records
+-- are signed
 abbrev pub staying : ℕ → List Listed → List Listed
 staying room [] = []
 staying room (f ∷ fs) = if is_signed f.format.version && nat_lt 0 room then f ∷ staying (room - 1) fs
     else staying room fs
 
--- If these files leave the live range: those that are deleted, which are all that aren't kept for recycling.
+-- which of these files are deleted if all of them leave the live range: those that aren't kept for recycling
 abbrev pub going : ℕ → List Listed → List Listed
 going room [] = []
 going room (f ∷ fs) = if is_signed f.format.version && nat_lt 0 room then going (room - 1) fs
     else f ∷ going room fs
 
--- how many more files may be kept for recycling if the live range begins at `seq`; the live range and the files kept
--- for recycling together may have `capacity` files
+-- How many more files may be kept for recycling if the live range begins at `seq`. The live range and the files kept
+-- for recycling together may have `capacity` files.
 abbrev pub room_from : ℕ → ℕ → PipeFiles → ℕ
 room_from capacity seq files = capacity - suc (files.active.seq - seq) - length files.recycled.items
 
@@ -96,8 +97,8 @@ abbrev pub paths_going : FilePaths → ℕ → ℕ → PipeFiles → List (List 
 paths_going paths capacity seq files = map (path_of paths)
     (going (room_from capacity seq files) (take (seq - files.first_seq) files.earlier.items))
 
--- if the pipe ran over a queue, the files to delete were deleted, one after the other; no other name changed, and the
--- pipe still runs
+-- If the pipe ran over a queue, the files to delete were deleted, one after the other. No other name changed, and the
+-- pipe still runs over the queue.
 abbrev pub Purges : {R : Type 0} → Format R → (List ℕ → Type 0) → FilePaths → ℕ → ℕ → PipeFiles → PipeFiles
     → Disk → Disk → Type 0
 Purges {R} F own paths capacity seq before after old new = (base : Disk) (q : LogFiles R)
@@ -130,8 +131,8 @@ CountFails seq files error = (IsInSpan seq files → ⊥) × IsOtherOrMemory err
 abbrev pub HasFarFile : List Listed → Type 0
 HasFarFile fs = (f : Listed) × (i : ℕ) × (i < length fs) × (f ≡ slice_index_or fs i f) × (10 ^ 16 ≤ f.seq)
 
--- why a list of files wasn't split into those to keep and those to delete: memory ran out, or no name has the number of
--- one of them
+-- Why a list of files wasn't split into those to keep and those to delete. Memory ran out, or no name has the number of
+-- one of the files.
 abbrev pub PartFails : List Listed → Error → Type 0
 PartFails fs errors.Memory = Unit {0}
 PartFails fs errors.NumberRange = HasFarFile fs

@@ -10,8 +10,8 @@ use Rattle.raft_log_file_writer.specs.Reader.{AreBytesAt, IsBlockRefusal}
 use Rattle.raft_log_file_pipe.specs.Files.{Listed}
 use Rattle.raft_log_file_pipe.specs.declared.pipe_files.PipeFiles.{PipeFiles}
 
--- `id` is the node number of the file with the number `seq`: the active file if it has this number, otherwise the
--- earlier file with it
+-- `id` is the node number of the file with the number `seq`, which is the active file or an earlier file of the live
+-- range
 abbrev pub IsListed : ℕ → PipeFiles → ℕ → Type 0
 IsListed seq files id = ((seq ≡ files.active.seq) × (id ≡ files.active.handle.file))
     ⊎ ((f : Listed) × (seq ≡ files.active.seq → ⊥) × (files.first_seq ≤ seq)
@@ -35,8 +35,8 @@ abbrev pub IsReadAt : PipeFiles → FileBlockHandle → List ℕ → Disk → Ty
 IsReadAt files block bytes d = (id : ℕ) × IsListed block.id.seq files id
     × HasFile id (AreBytesAt block.offset block.len bytes) d
 
--- why the bytes at the location `block` weren't read: no file of the live range has its number, the file system failed
--- the read, or memory ran out
+-- Why the bytes at the location `block` weren't read. No file of the live range has the number in `block`, the file
+-- system failed the read, or memory ran out.
 abbrev pub IsReadRefused : PipeFiles → FileBlockHandle → Disk → Error → Type 0
 IsReadRefused files block d error = IsNotTold block.id.seq files error
     ⊎ ((handle : Handle) × IsListed block.id.seq files handle.file

@@ -24,8 +24,8 @@ StandsAt queue signed files block d = (block.id ≡ record { queue = queue; seq 
     × HasFile files.active.handle.file
     (AreBytesAt block.offset block.len (signed (context_of queue files))) d
 
--- On any disk, a pipe's writer has the active file open after an open and after a rotation. If it had before an append,
--- it has after it, and the file has the record at the location that the append returned.
+-- On any disk, a pipe's writer has the active file open after an open and after a rotation. A writer that has it open
+-- before an append has it open after the append. The file then has the record at the location that was returned.
 pub record PipesWriteTheirLast (paths : FilePaths) : Type 0 where
   pub opened : (format : LogFileFormat) (found : FoundFiles) (files : PipeFiles) (old new : Disk)
       → OpensPipeBy paths format found files old new → WritesItsLast files

@@ -29,8 +29,8 @@ abbrev pub given_all : List (List LogItem) → List Answer
 given_all [] = []
 given_all (items ∷ batches) = given items ++ given_all batches
 
--- `answers` is what is read of an open file from an offset on: the items of its batches, up to the end of the file. If
--- reading a batch fails, it is the items up to there, and then the error.
+-- `answers` is what is read from an open file from an offset on: the items of its batches, up to the end of the file.
+-- If reading a batch fails, it is the items of the batches before, and then the error.
 pub data GivesFrom (d : Disk) (file : OpenFile) (offset : ℕ) (answers : List Answer) : Type 0 where
   whole : (batches : List (List LogItem)) (end : ℕ)
       → HasBatches file (bytes_of file.source d) offset batches end
@@ -54,8 +54,8 @@ pub record IsLogFileOpen (d : Disk) (file : LogFile) (current : OpenFile) (start
   pub size : current.source.size ≡ length (bytes_of current.source d)
   pub header : SaysFormat (bytes_of current.source d) current.format start
 
--- `answers` is what is read of a log file: only an error if it couldn't be found or opened, otherwise what is read
--- after its header
+-- `answers` is what is read from a log file. If the file couldn't be found or opened, it is only an error; otherwise it
+-- is what is read after the header.
 pub data GivesFile (d : Disk) (file : LogFile) (answers : List Answer) : Type 0 where
   unfound : (error : Error) → IsReadOpenRefusal (string_bytes file.path) d error → answers ≡ Err error ∷ []
       → GivesFile d file answers
@@ -64,7 +64,7 @@ pub data GivesFile (d : Disk) (file : LogFile) (answers : List Answer) : Type 0 
   opened : (current : OpenFile) (start : ℕ) → IsLogFileOpen d file current start
       → GivesFrom d current start answers → GivesFile d file answers
 
--- `answers` is what is read of several log files: what is read of each, one after the other
+-- `answers` is what is read from several log files, one after the other
 abbrev pub GivesFiles : Disk → List LogFile → List Answer → Type 0
 GivesFiles d [] answers = answers ≡ []
 GivesFiles d (file ∷ files) answers = (first : List Answer) × (more : List Answer)

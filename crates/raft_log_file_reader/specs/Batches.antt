@@ -1,6 +1,6 @@
--- The batches in the bytes of a log file. A batch has the items of one record (its bytes are a frame), and records
--- follow one another. If the file has an alignment, padding may come between them. Whether the entry block of a record
--- is whole isn't checked.
+-- The batches in the bytes of a log file. A batch has the items of one record, and records follow one another. If the
+-- file has an alignment, there may be padding between them. The entry block of a record isn't checked: a record counts
+-- if its bytes are a frame. `content` are all bytes of the open file `file`.
 use Rattle.std.specs.Prelude.{◌≡◌, ℕ, ◌+◌, ◌-◌, ◌%◌, ◌<◌, ◌≤◌, List, [], ◌∷◌, length, take, drop, Result, Ok, Err, IsErr, nat_lt, ◌==◌, if◌then◌else◌}
 use Rattle.raft_log_record_base.specs.Grammar.{◌>>=◌}
 use Rattle.raft_log_record_base.specs.Files.{signature_of}
@@ -18,7 +18,7 @@ use Rattle.raft_log_file_reader.specs.declared.open_file.OpenFile.{OpenFile}
 abbrev pub padding_len : ℕ → ℕ → ℕ
 padding_len alignment offset = if alignment == 0 then 0 else (alignment - offset % alignment) % alignment
 
--- `bytes` begin with padding of this many bytes: the first and the last of these are 0, and no valid header of a record
+-- `bytes` begin with padding of this many bytes. The first and the last of these are 0, and no valid header of a record
 -- begins there. `bytes` are long enough for such a header and for the padding.
 pub record IsPadding (padding : ℕ) (bytes : List ℕ) : Type 0 where
   pub some : 0 < padding
@@ -90,8 +90,8 @@ HasBatches file content offset [] end = end ≡ offset
 HasBatches file content offset (items ∷ more) end =
     (next : ℕ) × HasBatch file content offset items next × HasBatches file content next more end
 
--- Reads the header of the record at the front of `bytes`. Returns where its footer begins and how long the record is,
--- or the first fault: that of the header, or that the record doesn't end within `bytes`.
+-- Reads the header of the record at the front of `bytes`. Returns where its footer begins and how long the record is.
+-- Fails with the header's first fault, or because the record doesn't end within `bytes`.
 unfoldable pub extent_at : List ℕ → Result (ℕ × ℕ) Fault
 extent_at bytes = header_at bytes
     >>= λ r. if nat_lt (length bytes) r.0.2 then Err (corrupt (past_input r.0.2)) else Ok (r.0.0, r.0.2)

@@ -46,8 +46,8 @@ pub record IsOtherFile (path : List ℕ) (d : Disk) (text : List ℕ) : Type 0 w
   pub there : d.names path ≡ None → ⊥
   pub other : (id : FileId) → IsLogPath id path → ⊥
 
--- Why no file to read was found at `path`. `Io`: the file system has stopped. Otherwise it runs, and either memory ran
--- out, or the text says that no file has the path or that its name isn't a log file's.
+-- Why no file to read was found at `path`. `Io`: the file system has stopped. `Memory`: memory ran out.
+-- `InvalidArgument`: no file has the path, or its name isn't a log file's; the text says which.
 abbrev pub IsNoFile : List ℕ → Disk → Error → Type 0
 IsNoFile path d (errors.InvalidArgument text) =
     (d.stopped ≡ false) × (HasNoFileAt path d (string_bytes text) ⊎ IsOtherFile path d (string_bytes text))
@@ -75,8 +75,8 @@ pub record AreFilesOf (directory : List ℕ) (d : Disk) (files : List LogFile) :
   pub same : IsPermutation found files
   pub ordered : IsSortedByKey (λ file. file.id) file_cmp files
 
--- Why a directory's log files couldn't be listed. `Io`: the file system has stopped. Otherwise it runs, and either
--- memory ran out, or the path isn't a directory's, as the text says.
+-- Why a directory's log files couldn't be listed. `Io`: the file system has stopped. `Memory`: memory ran out.
+-- `InvalidArgument`: the path isn't a directory's, as the text says.
 abbrev pub IsNoDirectory : List ℕ → Disk → Error → Type 0
 IsNoDirectory path d (errors.InvalidArgument text) = (d.stopped ≡ false)
     × (string_bytes text ≡ told (codes "Not a directory") path)

@@ -1,5 +1,5 @@
--- Foreign records. A foreign record is whole by its length and its footer's checksum, but its header has a compression
--- type other than 0, which this log doesn't read. Another program wrote it, so it is no damage.
+-- Foreign records. A foreign record is whole by its length and its footer's checksum. But its header has a compression
+-- type other than 0, and this log can't read it. Another program wrote it, so it is no damage.
 use Rattle.std.specs.Prelude.{◌≡◌, ℕ, ◌/◌, ◌%◌, ◌<◌, ◌≤◌, List, length, take, drop, slice_range, Option, MatchOption, IsOk}
 use Rattle.std.specs.Option.{ForSome}
 use Rattle.std.specs.Int.{w64, from_be_bytes}
@@ -22,7 +22,7 @@ len_in bytes = from_be_bytes w64 (take 8 bytes) / 256
 abbrev pub footer_in : List ℕ → ℕ
 footer_in bytes = from_be_bytes w64 (take 8 (drop 8 bytes))
 
--- `bytes` begin with a foreign record of a file with this signature: its compression type isn't 0, it ends within
+-- `bytes` begin with a foreign record of a file with this signature. Its compression type isn't 0, it ends within
 -- `bytes`, and its footer has the right checksum.
 pub record BeginsForeign (signature : Option ℕ) (bytes : List ℕ) : Type 0 where
   pub header : 16 ≤ length bytes

@@ -6,8 +6,8 @@ use Rattle.raft_log_file_reader.specs.Source.{bytes_of}
 use Rattle.raft_log_file_reader.specs.declared.source.Source.{Source}
 use Rattle.raft_log_file_reader.specs.declared.window.Window.{Window}
 
--- `source.size` is the size of the file, and the window ends within it. If its reads were honest, the window has the
--- bytes that the file has at its offset.
+-- `source.size` is the size of the file, and the window ends within the file. If the window's reads were honest, it has
+-- the bytes that the file has from `window.start` on.
 pub record HoldsPart (source : Source) (d : Disk) (window : Window) : Type 0 where
   pub size : source.size ≡ length (bytes_of source d)
   pub inside : window.start + length window.bytes.items ≤ source.size

@@ -1,4 +1,4 @@
--- A law of readers of items.
+-- A law on all calls of `next` of a `LogItemReader`.
 use Rattle.std.specs.Prelude.{List}
 use Rattle.std.specs.Iterator.{Drains}
 use Rattle.raft_log_fs.specs.Disk.{Disk}

@@ -13,8 +13,8 @@ use Rattle.raft_log_file_reader.specs.declared.item_reader.LogItemReader.{LogIte
 abbrev pub disk_of : {F : Type 0} → (F → Disk) → LogItemReader F → Disk
 disk_of disk reader = disk reader.file_system.now
 
--- if the reader has a file open, the file's size and the bytes in the reader's window are as on the disk; all reads of
--- that file were honest
+-- If the reader has a file open, the file's size and the bytes in the reader's window are as on the disk. All reads of
+-- that file were honest.
 abbrev pub IsFileAtWork : {F : Type 0} → (F → Disk) → LogItemReader F → Type 0
 IsFileAtWork disk reader = ReadsHonestly (disk_of disk reader) reader.batches.reader
 

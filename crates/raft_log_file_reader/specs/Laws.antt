@@ -43,8 +43,8 @@ PaddingAligns = (alignment offset : ℕ) → 0 < alignment
 abbrev pub IsFrameOf : LogFileContext → List ℕ → List LogItem × List ℕ → Type 0
 IsFrameOf context bytes frame = IsFrame (signature_of context) bytes frame.0 frame.1
 
--- the items of each frame, with the locations of their entries; the first frame begins at the offset `at`, and each
--- other one where the one before it ends
+-- The items of each frame, with the locations of their entries. The first frame begins at the offset `at`, and each
+-- later one at the end of the one before it.
 abbrev pub placed_frames : LogFileContext → ℕ → List (Written (List LogItem × List ℕ)) → List (List LogItem)
 placed_frames context at [] = []
 placed_frames context at (w ∷ ws) =

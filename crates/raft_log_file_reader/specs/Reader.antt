@@ -31,7 +31,7 @@ last_block reader = reader.last_block
 abbrev pub honest_of : LogItemBatchFileReader → Bool
 honest_of reader = reader.window.receipt.honest
 
--- the reader's window fits this file on the disk, its size is the file's, and its offset is within the file
+-- The reader's window has bytes of this file on disk `d` (`HoldsPart`). The reader's offset is within the file.
 pub record IsReadingFile (d : Disk) (reader : LogItemBatchFileReader) (file : OpenFile) : Type 0 where
   pub holds : HoldsPart file.source d reader.window
   pub within : reader.valid_offset ≤ file.source.size

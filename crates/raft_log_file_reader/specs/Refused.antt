@@ -13,13 +13,13 @@ use Rattle.raft_log_file_reader.specs.Batches.{IsBroken}
 use Rattle.raft_log_file_reader.specs.declared.source.Source.{Source}
 use Rattle.raft_log_file_reader.specs.declared.open_file.OpenFile.{OpenFile}
 
--- Why a call that reads from the offset `at` on failed with this error. The error is the fault of `reading`, which is
--- the result for these bytes; or the file system failed a read from `at` on; or memory ran out.
+-- Why a call that reads from the offset `at` on failed with this error. `reading` is the result for the bytes there.
+-- The error is the fault in `reading`, the file system failed a read from `at` on, or memory ran out.
 abbrev pub FailsAt : {Y : Type 0} → Source → Disk → ℕ → Error → Result Y Fault → Type 0
 FailsAt source d at (errors.Io kind) reading = IsUnreadFrom source at d kind
 FailsAt source d at e reading = FailsOrMemory e reading
 
--- Why the next batch after `offset` wasn't read: the file system failed a read from there on, memory ran out, or the
+-- Why the next batch after `offset` wasn't read. The file system failed a read from there on, memory ran out, or the
 -- error is the next record's fault.
 abbrev pub FailsBehind : OpenFile → Disk → ℕ → Error → Type 0
 FailsBehind file d offset (errors.Io kind) = IsUnreadFrom file.source offset d kind
@@ -33,7 +33,7 @@ FailsBehind file d offset _ = ⊥
 abbrev pub bytes_at : FileBlockHandle → OpenFile → Disk → List ℕ
 bytes_at block file d = take block.len (drop block.offset (bytes_of file.source d))
 
--- why a check that the entry block at a location is whole failed: the file system failed a read from the block's start
--- on, memory ran out, or the error is the block's fault
+-- Why the check of the entry block at a location failed. The file system failed a read from the block's start on,
+-- memory ran out, or the error is the block's fault.
 abbrev pub FailsToCheckBlock : FileBlockHandle → OpenFile → Disk → Error → Type 0
 FailsToCheckBlock block file d e = FailsAt file.source d block.offset e (block_of (bytes_at block file d))

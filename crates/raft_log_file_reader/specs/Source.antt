@@ -1,4 +1,4 @@
--- A file that is read, and why bytes of it can't be read.
+-- The bytes of a file that a reader has open, and why reading some of them fails.
 use Rattle.std.specs.Prelude.{ℕ, ◌+◌, ◌≤◌, List, [], Option, Some, None}
 use Rattle.std.specs.declared.io.ErrorKind.{ErrorKind}
 use Rattle.raft_log_record_base.specs.declared.errors.Error.{Error}
@@ -30,7 +30,7 @@ CannotRead source offset d (errors.Io kind) = IsUnreadFrom source offset d kind
 CannotRead source offset d errors.Memory = Unit {0}
 CannotRead source offset d _ = ⊥
 
--- why `count` bytes from `offset` on weren't read: the file system failed the read, or memory ran out
+-- why `count` bytes of the file from `offset` on weren't read: the file system failed the read, or memory ran out
 abbrev pub CannotReadPart : Source → ℕ → ℕ → Disk → Error → Type 0
 CannotReadPart source offset count d (errors.Io kind) = IsUnread source.handle offset count d kind
 CannotReadPart source offset count d errors.Memory = Unit {0}

@@ -14,24 +14,24 @@ use Rattle.raft_log_file_reader.specs.declared.batches.BatchReader.{BatchReader}
 abbrev pub most_open : LogItemBatchFileReader → ℕ
 most_open reader = most_behind (file_of reader) (end_of reader)
 
--- `items` were read of the open file. The bound on its results has become lower by more than their number.
+-- `items` were read from the open file. The bound on its results has become lower by more than their number.
 pub record ReadsOn (d : Disk) (items : List LogItem) (old new : LogItemBatchFileReader) : Type 0 where
   pub goes_on : AnswersGoOn (GivesOpen d) old (given items) new
   pub fewer : length items + most_open new < most_open old
 
--- nothing more is read of the file that the reader had open, if any, and it has none open now
+-- nothing more is read from the file that the reader had open, if any; it has no file open now
 pub record EndsOpen (d : Disk) (old new : LogItemBatchFileReader) : Type 0 where
   pub nothing : GivesOpen d old []
   pub closed : HasNoneOpen new
 
--- all that is still read of the open file is this error, and the reader has closed it
+-- all that is still read from the open file is this error, and the reader has closed the file
 pub record FailsOpen (d : Disk) (error : Error) (old new : LogItemBatchFileReader) : Type 0 where
   pub told : GivesOpen d old (Err error ∷ [])
   pub some : 0 < most_open old
   pub closed : HasNoneOpen new
 
--- The reader opened the first of the files that it hadn't opened yet. What it will return of the open file is what is
--- read of that file.
+-- The reader opened the first of the files that it hadn't opened yet. What it will return from this file is what
+-- `GivesFile` says.
 pub record OpensNext (d : Disk) (old new : BatchReader) : Type 0 where
   pub file : LogFile
   pub next : files_of old ≡ file ∷ files_of new
@@ -44,7 +44,7 @@ pub record HasNoFileLeft (old new : BatchReader) : Type 0 where
   pub none_left : files_of new ≡ []
   pub closed : HasNoneOpen new.reader
 
--- the first of the files that the reader hadn't opened yet couldn't be opened: all that is read of it is this error
+-- the first of the files that the reader hadn't opened yet couldn't be opened: all that is read from it is this error
 pub record FailsNext (d : Disk) (error : Error) (old new : BatchReader) : Type 0 where
   pub file : LogFile
   pub next : files_of old ≡ file ∷ files_of new

@@ -13,9 +13,10 @@ TellsInvalid words path (errors.InvalidArgument text) = string_bytes text ≡ to
 TellsInvalid words path errors.Memory = Unit {0}
 TellsInvalid words path _ = ⊥
 
--- The error of a call on a path if the file system failed it with `kind`:
--- - after a stop, `Io` with this kind
--- - before one, `Memory`; or `InvalidArgument`, whose text has these words and the path, if `kind` isn't `OutOfMemory`
+-- The error of a call on a path if the file system failed it with `kind`. `stopped` says whether it had stopped.
+-- - If it had, the error is `Io` with this kind.
+-- - If it runs, the error is `Memory`. If `kind` isn't `OutOfMemory`, it may be `InvalidArgument` instead, whose text
+--   has these words and the path.
 abbrev pub TellsAbsent : Bool → ErrorKind → List ℕ → List ℕ → Error → Type 0
 TellsAbsent stopped kind words path (errors.InvalidArgument text) =
     (stopped ≡ false) × (kind ≡ OutOfMemory → ⊥) × (string_bytes text ≡ told words path)

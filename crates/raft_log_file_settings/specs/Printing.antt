@@ -99,8 +99,8 @@ pub record HasRows (rows : List Row) (table : Members) : Type 0 where
 abbrev pub SaysRows : List ℕ → List Row → Type 0
 SaysRows text rows = (table : Members) × (parse_document text ≡ Some table) × HasRows rows table
 
--- `new` is the table `old` with `value` at `key`; if neither `value` nor a value of `old` contains other values, no
--- value of `new` does
+-- `new` is the table `old` with `value` at `key`. If neither `value` nor any value of `old` contains other values, no
+-- value of `new` contains other values.
 pub record PutsAt (key : List ℕ) (value : Data) (old new : Members) : Type 0 where
   pub at : (k : List ℕ) → get_member k new ≡ cond (bytes_eq key k) (Some value) (get_member k old)
   pub flat : depth value ≡ 0 → members_depth old ≡ 0 → members_depth new ≡ 0
@@ -122,7 +122,7 @@ abbrev pub first_unsaid : List Row → Option (List ℕ)
 first_unsaid [] = None
 first_unsaid (row ∷ rows) = if is_unsaid row.1 then Some row.0 else first_unsaid rows
 
--- the error text for a number at `key` that TOML can't express
+-- the error text for the value of `key`, a number that TOML can't express
 abbrev pub too_large : List ℕ → List ℕ
 too_large key = codes "number past the range of TOML at " ++ key
 
@@ -134,7 +134,7 @@ IsUnprintable rows (errors.InvalidArgument text) =
 IsUnprintable rows errors.Memory = Unit {0}
 IsUnprintable rows _ = ⊥
 
--- the error says that TOML can't express the number at `key`, or it is `Memory`
+-- the error says that TOML can't express the value of `key`, which is a number; or it is `Memory`
 abbrev pub SaysTooLarge : List ℕ → Error → Type 0
 SaysTooLarge key (errors.InvalidArgument text) = string_bytes text ≡ too_large key
 SaysTooLarge key errors.Memory = Unit {0}

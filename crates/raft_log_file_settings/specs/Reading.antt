@@ -1,4 +1,4 @@
--- How settings are read from TOML: what type of value each key has, and its default.
+-- How settings are read from TOML: what values each key may have, which keys are ignored, and the errors.
 use Rattle.std.specs.Prelude.{◌≡◌, ℕ, ◌+◌, ℤ, pos, negsuc, ◌++◌, Bool, not, map, filter, List, [], ◌∷◌, Option, Some, None, Result, Ok, Err, ◌⊎◌, if◌then◌else◌, ◌==◌, codes, Vec, String}
 use Rattle.std.specs.Float.{Float, binary64}
 use Rattle.std.specs.Float.Ieee.{eq, div, of_int}
@@ -30,7 +30,7 @@ abbrev pub natural : ℤ → Option ℕ
 natural (pos n) = Some n
 natural (negsuc n) = None
 
--- the number that a TOML value is, if it isn't negative
+-- the number, if the TOML value is an integer that isn't negative
 abbrev pub number_of : Data → Option ℕ
 number_of d = option_and_then natural (as_integer d)
 
@@ -43,11 +43,11 @@ abbrev pub size_of : Data → Option ℕ
 size_of (string text) = size_of_text text
 size_of d = number_of d
 
--- the float that is nearest to so many thousandths
+-- the float that is nearest to `n` thousandths
 abbrev pub thousandths : ℕ → Float
 thousandths n = div binary64 (of_int binary64 (pos n)) (of_int binary64 (pos 1000))
 
--- how many thousandths a float is, if it is the float nearest to a number of them that is at most `most`
+-- the number of thousandths, at most `most`, to which `x` is the nearest float, if there is one
 unfoldable pub thousandths_up_to : ℕ → Float → Option ℕ
 thousandths_up_to most x = find (λ n. eq x (thousandths n)) (range_with_len 0 (most + 1))
 
@@ -136,7 +136,7 @@ files_in usual t = do
   Ok (bytes_per_sync, format_version, target_file_size)
 
 -- The settings `usual`, except for the keys that a table sets. If some values are wrong, the error is the first of
--- their keys, in this order. Unknown keys are ignored.
+-- their keys, in the order in which they are read here. Unknown keys are ignored.
 unfoldable pub settings_over : Settings → Members → Result Settings (List ℕ)
 settings_over usual t = do
   dir ← at (codes "dir") as_str usual.dir t
@@ -279,7 +279,7 @@ abbrev pub keys_of : Members → List (List ℕ)
 keys_of no_members = []
 keys_of (member key d t) = key ∷ keys_of t
 
--- the keys of a table that aren't those of settings, in the order of their bytes
+-- the keys of a table that aren't those of settings, in the table's order; a parsed table is sorted by its keys' bytes
 abbrev pub dropped_keys : Members → List (List ℕ)
 dropped_keys t = filter (λ key. not (is_setting key)) (keys_of t)
 

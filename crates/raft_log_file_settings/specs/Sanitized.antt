@@ -12,12 +12,12 @@ use Rattle.raft_log_file_settings.specs.Settings.{Settings}
 use Rattle.raft_log_file_settings.specs.Text.{fault_text}
 use Rattle.raft_log_record_base.specs.Files.{is_signed}
 
--- the name of a log file, or of a file that Append keeps for recycling
+-- the log's files may have this name: it is that of a queue's file, or a reserved name of a file kept for recycling
 abbrev pub IsFileName : List ℕ → Type 0
 IsFileName name =
     (n : ℕ) × (((queue : LogQueue) × IsNamed (suffix_of queue) name n) ⊎ IsNamed reserved_suffix name n)
 
--- `path` consists of `directory`, a slash, and a name that the log uses
+-- `path` consists of `directory`, a slash, and a name that the log's files may have
 abbrev pub IsFileIn : List ℕ → List ℕ → Type 0
 IsFileIn directory path = (name : List ℕ) × IsFileName name × (path ≡ directory ++ 47 ∷ name)
 
@@ -51,15 +51,15 @@ files_within limit target = min (limit / target * 3 / 2) (2 ^ 32 - 1)
 abbrev pub can_recycle : Settings → Bool
 can_recycle s = s.enable_log_recycle && is_signed s.format_version
 
--- how many files Append may have, those kept for recycling included: a purge recycles files only within this limit; 0
--- if files can't be recycled, or if the target size is above the purge threshold
+-- A purge keeps files of Append for recycling as long as Append then has at most this many files, including those kept.
+-- It is 0 if files can't be recycled, or if the target size is above the purge threshold.
 abbrev pub recycle_capacity : Settings → ℕ
 recycle_capacity s =
     if can_recycle s && nat_le s.target_file_size s.purge_threshold
     then files_within s.purge_threshold s.target_file_size else 0
 
--- how many files an open may prefill with zeros; 0 if it may not, or if the limit on their bytes is below the target
--- size
+-- How many files an open may prefill with zeros. It is 0 if it may not prefill, or if the limit on their bytes is below
+-- the target size.
 abbrev pub prefill_capacity : Settings → ℕ
 prefill_capacity s =
     let limit = unwrap_or s.prefill_limit 0 in

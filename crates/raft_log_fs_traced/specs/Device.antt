@@ -1,4 +1,5 @@
--- A device: the calls made on it, and the disk that calls see and the disk that a crash leaves after them.
+-- A device: the calls made on it, the disk that further calls see after them, and the disk that a crash leaves. A crash
+-- "leaves" a disk in these comments if it leaves one of its images (`IsImage`): unsynced bytes may be lost.
 use Rattle.std.specs.Prelude.{◌≡◌, ℕ, ◌+◌, ◌≤◌, ◌⊎◌, not, suc, Option, Some, None, List, [], ◌∷◌, ◌++◌, length, take, drop, unwrap_or}
 use Rattle.std.specs.List.{filter}
 use Rattle.std.specs.Map.{update}
@@ -29,7 +30,7 @@ pub record Trace : Type 0 where
   pub found : Disk
   pub made : List DeviceCall
 
--- A device after some calls. `seen` is the disk that calls see, and `kept` the disk that a crash leaves. `owed` are the
+-- A device after some calls. `seen` is the disk that calls see. `kept` is the disk that a crash leaves. `owed` are the
 -- directories that still have to be synced, because names in them have changed.
 pub record Held : Type 0 where
   pub seen : Disk
@@ -139,7 +140,7 @@ abbrev pub attempted : ℕ → Change → Attempt → DeviceCall
 attempted file change attempt.Made = Changed file change
 attempted file change (attempt.Undone kind) = Undone file change
 
--- a call that failed: either it was made on the device, or no call was
+-- A call failed, and either it was made on the device or no call was. `old` and `new` are the traces before and after.
 abbrev pub MayBeMade : DeviceCall → Trace → Trace → Type 0
 MayBeMade call old new = (new ≡ old) ⊎ (new ≡ noted call old)
 

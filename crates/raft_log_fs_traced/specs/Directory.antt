@@ -36,8 +36,8 @@ LacksDirectory path d error = IsAfterStop d error ⊎ ((d.stopped ≡ false) × 
 abbrev pub LacksFile : Handle → Disk → ErrorKind → Type 0
 LacksFile handle d error = IsAfterStop d error ⊎ ((d.stopped ≡ false) × WrongHandle handle d error)
 
--- the error of a call that writes: the file system has stopped, or it runs and the handle's file was deleted or is open
--- only for reading
+-- The error of a call that writes, if the file system has stopped; or if it runs, and the handle's file was deleted or
+-- is open only for reading.
 abbrev pub LacksWriter : Handle → Disk → ErrorKind → Type 0
 LacksWriter handle d error = IsAfterStop d error ⊎ ((d.stopped ≡ false) × WrongWriter handle d error)
 

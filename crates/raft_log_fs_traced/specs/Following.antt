@@ -8,8 +8,8 @@ use Rattle.raft_log_fs_state.specs.declared.storage.Storage.{Storage}
 use Rattle.raft_log_fs_state.specs.Storage.{contents_of}
 use Rattle.raft_log_fs_traced.specs.Device.{Trace, held_by, settled}
 
--- Until a stop of the file system, calls on the device see the disk of the model, and a crash leaves this disk too: no
--- directory has to be synced.
+-- Until a stop of the file system, calls on the device see the disk of the model. A crash leaves this disk too, since
+-- no directory has to be synced.
 abbrev pub Follows : Bool → Storage → Trace → Type 0
 Follows stopped storage trace = stopped ≡ false → held_by trace ≡ settled (contents_of storage)
 

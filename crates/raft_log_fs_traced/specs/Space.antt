@@ -1,5 +1,5 @@
--- The space of each directory of a file system over a device: what is set for it, and what its files had when one of
--- them found no space.
+-- The free space that a file system over a device returns for a directory. It depends on the limit that is set for the
+-- directory, and on the size of the directory's files when one of them found no space.
 use Rattle.std.specs.Prelude.{◌≡◌, ℕ, min, Option, List}
 use Rattle.std.specs.BTreeMap.{get_by_text}
 use Rattle.raft_log_fs_state.specs.Storage.{contents_of}

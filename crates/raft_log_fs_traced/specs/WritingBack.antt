@@ -20,7 +20,7 @@ abbrev pub WritesBack : ℕ → ℕ → Trace → Trace → Type 0
 WritesBack file size old new =
     (between : Trace) × WrotePieces file size old between × (new ≡ noted (Synced file) between)
 
--- both traces begin with the same disk, and after either, calls find the same, and so does a crash
+-- Both traces begin with the same disk. After the calls of either trace, later calls and a crash find the same.
 abbrev pub LeavesBytes : Trace → Trace → Type 0
 LeavesBytes old new = (new.found ≡ old.found) × (held_by new ≡ held_by old)
 

@@ -1,4 +1,4 @@
--- The bytes of a log file without the padding between its records, which a file with an alignment has.
+-- A log file with an alignment has padding between its records. Here are its bytes without padding.
 use Rattle.std.specs.Prelude.{◌≡◌, ℕ, ◌⊎◌, Bool, List, [], ◌∷◌, ◌++◌, take, drop}
 use Rattle.raft_log_record_base.specs.Fault.{Fault}
 use Rattle.raft_log_record_base.specs.declared.pipe_log.FileId.{FileId}
@@ -13,8 +13,8 @@ use Rattle.raft_log_recovery_read.specs.Reading.{FileReading, ReadsBytes}
 
 -- Which files are rewritten.
 
--- The file has an alignment. A queue's last file without a whole record doesn't count: its header is taken for a torn
--- one.
+-- The file with these bytes (`content`) has an alignment. `last` says whether it is its queue's last file. A last file
+-- without a whole record doesn't count: an open takes its header for a torn one.
 abbrev pub IsPadded : Bool → FileId → List ℕ → Type 0
 IsPadded last id content =
     (read : FileReading) × ReadsBytes last id content read × (IsUnaligned read.format → ⊥)
@@ -42,8 +42,8 @@ abbrev pub joined : List (List ℕ) → List ℕ
 joined [] = []
 joined (bytes ∷ more) = bytes ++ joined more
 
--- `rest` is what the file's bytes without padding have after the last record, which ends at `end`. If only padding is
--- left there, it is empty. If the next record is broken, it is all bytes from `end` on, unchanged.
+-- The last whole record of `content` ends at `end`, and `rest` is what follows it in the bytes without padding. If only
+-- padding is left there, it is empty. If the next record is broken, it is all bytes from `end` on, unchanged.
 abbrev pub IsRest : OpenFile → List ℕ → ℕ → List ℕ → Type 0
 IsRest file content end rest = (HasNoMore file content end × (rest ≡ []))
     ⊎ ((fault : Fault) × IsBroken file content end fault × (rest ≡ drop end content))
@@ -62,8 +62,8 @@ pub record AreJoined (file : OpenFile) (content : List ℕ) (offset : ℕ) (byte
   pub left : IsRest file content end rest
   pub both : bytes ≡ joined records ++ rest
 
--- `new` are the file's bytes without padding: a header with the same version and no alignment, the records byte for
--- byte without gaps, and what follows the last one.
+-- `content` are the bytes of file `id`, and `new` are its bytes without padding. They begin with a header of the same
+-- version and no alignment. The records follow byte for byte without gaps, and then what follows the last one.
 pub record IsWithoutPadding (id : FileId) (content new : List ℕ) : Type 0 where
   pub file : OpenFile
   pub is : file.id ≡ id

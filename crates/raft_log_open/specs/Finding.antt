@@ -34,15 +34,16 @@ pub record FindsPadding (config : Config) (b : DualPipesBuilder) (old new : Disk
   pub finds : FindsLog config b old new
   pub has : HasPadding b new
 
--- the files that have padding were written without it, and then the log's directories were scanned again
+-- The files that have padding were written without it, and then the log's directories were scanned again. `was` is the
+-- builder of the first scan, `b` that of the second.
 pub record FindsAnew (was b : DualPipesBuilder) (old new : Disk) : Type 0 where
   pub written : List FileId
   pub unpadded : Disk
   pub unpads : Unpads (directories_of (settings_of was.config)) written old unpadded
   pub scans : ScansLog was b unpadded new
 
--- The files that have padding were written without it, and found again. Then the queues were read into these contexts,
--- and damaged files were truncated.
+-- The files that have padding, which `was` had found, were written without it, and a second scan found them again. Then
+-- the queues were read into `append` and `rewrite`, and damaged files were truncated. `b` has the result.
 pub record ReadsAnew (was : DualPipesBuilder) (append rewrite : MemTableRecoverContext) (b : DualPipesBuilder)
     (old new : Disk) : Type 0 where
   pub found : DualPipesBuilder
@@ -50,8 +51,8 @@ pub record ReadsAnew (was : DualPipesBuilder) (append rewrite : MemTableRecoverC
   pub anew : FindsAnew was found old scanned
   pub recovers : RecoversLog HasReadBatches append rewrite found b scanned new
 
--- The log's files were found as they are. Or one of them had an alignment: then those with padding were written
--- without it, and the files were found again.
+-- `b` has the log's files as the last scan found them. Either the first scan was the only one. Or it found a file with
+-- an alignment: then the files with padding were written without it, and the directories were scanned again.
 pub data FindsUnpadded (config : Config) (b : DualPipesBuilder) (old new : Disk) : Type 0 where
   as_it_stood : FindsLog config b old new → FindsUnpadded config b old new
   once_unpadded : (was : DualPipesBuilder) (padded : Disk) → FindsPadding config was old padded
@@ -63,7 +64,7 @@ IsNoPadding error = (text : String Global) → error ≡ errors.InvalidArgument 
 
 -- Why reading a log without its padding fails:
 -- - `still_padded`: writing the files without padding failed.
--- - `unfound`: that succeeded, and the second scan of the directories failed.
+-- - `unfound`: the files were written, and the second scan of the directories failed.
 -- - `unread`: the files were found again, and reading a queue or truncating its damaged files failed.
 pub data FailsToReadAnew (was : DualPipesBuilder) (error : Error) (old new : Disk) : Type 0 where
   still_padded : FailsToUnpad (directories_of (settings_of was.config)) error old new

@@ -1,4 +1,4 @@
--- A log file is read for its bytes without padding.
+-- Reading a log file for the bytes that it gets if its padding is removed.
 use Rattle.std.specs.Prelude.{◌≡◌, ℕ, ◌<◌, ◌++◌, List, Some}
 use Rattle.raft_log_record_base.specs.Fault.{Fault}
 use Rattle.raft_log_record_items.specs.declared.item.LogItem.{LogItem}
@@ -17,7 +17,7 @@ use Rattle.raft_log_open.specs.declared.content.Next.TheVariants as nexts
 abbrev pub content_of : ListedFile → Disk → List ℕ
 content_of file d = bytes_in (d.files file.handle.file)
 
--- the file has no alignment that counts (`IsUnpadded`), so it isn't rewritten
+-- the file has no alignment, no header, or is a last file without a whole record (`IsUnpadded`), so it isn't rewritten
 abbrev pub NeedsNothing : Disk → ListedFile → Type 0
 NeedsNothing d file = IsUnpadded file.is_last file.id (content_of file d)
 
@@ -34,7 +34,8 @@ pub record ReadsNext (file : OpenFile) (content : List ℕ) (old new : LogItemBa
   pub begins : start ≡ batch.at
   pub further : end_of old < end_of new
 
--- what follows the reader's offset: a record, which it read; nothing more; or a broken record, which it didn't read
+-- What follows the offset of `old` in the open file, whose bytes are `content`. It is a record, which was read; or
+-- nothing more; or a broken record, which wasn't read.
 abbrev pub FindsNext : OpenFile → List ℕ → LogItemBatchFileReader → LogItemBatchFileReader → Next → Type 0
 FindsNext file content old new (nexts.Record start) = ReadsNext file content old new start
 FindsNext file content old new nexts.End = HasNoMore file content (end_of old)

@@ -24,7 +24,8 @@ use Rattle.raft_log_recovery.specs.Reserving.{ReadiesLog}
 use Rattle.raft_log_recovery.specs.declared.builder.DualPipesBuilder.{DualPipesBuilder}
 use Rattle.raft_log_open.specs.Finding.{FindsUnpadded}
 
--- The context has read all files of a queue on this disk, in order; `endings` has the result for each file.
+-- The context has read all these files of a queue on disk `d`, in order, as the recovery mode `mode` requires.
+-- `endings` has the result for each file.
 pub record HasReadAll (queue : LogQueue) (mode : RecoveryMode) (files : List File) (d : Disk)
     (context : MemTableRecoverContext) (endings : List FileEnding) : Type 0 where
   pub segments : List (List Batch)

@@ -74,7 +74,7 @@ IsApart file = string_bytes file.path ≡ string_bytes file.temporary → ⊥
 abbrev pub listed_as : PlacedFile → Handle → ListedFile
 listed_as file handle = record { id = file.id; handle = handle; is_last = file.is_last }
 
--- the file isn't rewritten, and nothing changed: no file has its path, or it has no padding
+-- the file isn't rewritten, and nothing changed: no file has its path, or it doesn't count as padded (`NeedsNothing`)
 pub data LeavesAlone (file : PlacedFile) (old new : Disk) : Type 0 where
   absent : old.names (string_bytes file.path) ≡ None → new ≡ old → LeavesAlone file old new
   plain : (handle : Handle) → IsOpened (string_bytes file.path) ReadOnly handle old

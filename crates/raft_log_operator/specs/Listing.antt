@@ -1,4 +1,4 @@
--- What a dump lists.
+-- Which items of a log a dump lists.
 use Rattle.std.specs.Prelude.{◌≡◌, ⊤, ℕ, Option, None, Some}
 use Rattle.raft_log_record_items.specs.declared.item.LogItem.{LogItem}
 

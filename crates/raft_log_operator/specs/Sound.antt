@@ -1,4 +1,4 @@
--- What the result `Sound` of a task says of a log, and what an inspection of the log found.
+-- What a task's result `Sound` says about the log on the disk, and what it means if an inspection found no fault.
 use Rattle.std.specs.Prelude.{◌≡◌, ℕ, List, []}
 use Rattle.raft_log_record_base.specs.declared.pipe_log.LogQueue.{LogQueue}
 use Rattle.raft_log_record_base.specs.declared.pipe_log.LogQueue.TheVariants as queues
@@ -33,8 +33,8 @@ abbrev pub IsIntactLog : Place → Disk → Type 0
 IsIntactLog place d = (queue : LogQueue) → (batches : List Batch)
     × IsIntactQueue queue (directories_in place) d batches × HaveNoHole batches
 
--- what the result `Sound` says of the log after a task: for `Check`, that the log is intact; for `Stat`, that its files
--- are; for other tasks, nothing
+-- What the log on disk `d` is if this task returns `Sound`. After `Check`, it is intact. After `Stat`, its files are
+-- intact. Other tasks say nothing.
 abbrev pub IsSoundFor : Place → Task → Disk → Type 0
 IsSoundFor place Check d = IsIntactLog place d
 IsSoundFor place Stat d = HasIntactFiles place d

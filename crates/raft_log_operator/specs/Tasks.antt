@@ -33,7 +33,7 @@ FailsToCopy place target (Log error) old new = FailsToFork (kept_settings place)
 FailsToCopy place target (Output _) old new = Copies place target old new
 FailsToCopy place target _ old new = ⊥
 
--- each file of the log in these directories that has an alignment was rewritten without padding
+-- the files of the log in these directories that have padding were rewritten without it
 abbrev pub TakesPadding : Place → Disk → Disk → Type 0
 TakesPadding place old new =
     (written : List FileId) × Unpads (directories_of (kept_settings place)) written old new

@@ -1,4 +1,4 @@
--- The command lines of the tool.
+-- The command lines of the program `raft_log_ctl`.
 use Rattle.std.specs.Prelude.{◌≡◌, ◌≢◌, ◌<◌, ◌^◌, ℕ, List, [], ◌∷◌, ◌++◌, Option, None, Some, String, codes, decimal, string_bytes}
 use Rattle.std.specs.declared.alloc.Global.{Global}
 use Rattle.raft_log_operator.specs.declared.command.Command.{Command}
@@ -46,12 +46,12 @@ words_of (On place task) = task_words place task
 abbrev pub NamesNoGroup : List ℕ → Type 0
 NamesNoGroup word = (group : ℕ) → group < 2 ^ 64 → word ≢ decimal group
 
--- in these arguments of a dump, `word` is the one for the group's number, and it isn't the number of a group
+-- the arguments after `dump` name a group by `word`, which isn't the number of a group
 abbrev pub MisnamesGroup : List (List ℕ) → List ℕ → Type 0
 MisnamesGroup words word = (directory : List ℕ) × (rest : List (List ℕ))
     × (words ≡ directory ∷ codes "--group" ∷ word ∷ rest) × NamesNoGroup word
 
--- these arguments request a dump, and `word` is the one for its group's number, and isn't the number of a group
+-- these arguments request a dump and name a group by `word`, which isn't the number of a group
 abbrev pub MisnamesDumpedGroup : List (List ℕ) → List ℕ → Type 0
 MisnamesDumpedGroup words word =
     (rest : List (List ℕ)) × (words ≡ codes "dump" ∷ rest) × MisnamesGroup rest word

@@ -1,4 +1,4 @@
--- Copies of entries and values are written to Rewrite, and the tables then have these there.
+-- A batch of copies of entries and values is written to Rewrite. Then the tables locate these items in Rewrite.
 use Rattle.std.specs.Prelude.{◌≡◌, ◌⊎◌, ◌↔◌, IsTrue, ℕ, Option, [], false}
 use Rattle.raft_log_fs.specs.Causes.{IsLater}
 use Rattle.raft_log_record_base.specs.declared.errors.Error.{Error}
@@ -14,9 +14,9 @@ use Rattle.raft_log_purge_copy.specs.Parts.{Remains, StaysInFile}
 use Rattle.raft_log_purge_copy.specs.Reasons.{HasReason}
 use Rattle.raft_log_purge_copy.specs.Refusals.{IsOverlong}
 
--- The batch was written to Rewrite at `block`, and the tables have its entries and values there now. The copies come
--- from files of Append up to the gate, or from Rewrite if there is no gate. The log has the same contents if no batch
--- was pending, and the items are copies and no part of an atomic group.
+-- The batch was written to Rewrite at `block`, and the tables locate its entries and values there now. The copies are
+-- of items in files of Append up to the gate, or in Rewrite if there is no gate. The log has the same contents if no
+-- batch was pending, and the items are copies (`HasCopies`) and no part of an atomic group.
 pub record MovesCopies (gate : Option ℕ) (b : Batch) (s t : EngineState) : Type 0 where
   pub block : FileBlockHandle
   pub alive : has_failed t ≡ false

@@ -18,8 +18,8 @@ use Rattle.raft_log_engine_laws.specs.Holding.{IsRecoverableAs}
 use Rattle.raft_log_engine_laws.specs.Settled.{HoldsSettled}
 use Rattle.raft_log_purge_copy.specs.Reasons.{HasFileReason}
 
--- what the tables must show before files leave the live range of a queue: that no tombstone is owed, if the queue is
--- Append; nothing, if it is Rewrite
+-- What must hold of the tables before files leave a queue's live range. For Append, no tombstone is owed. For Rewrite,
+-- there is no condition.
 abbrev pub MayLoseFiles : Which → (ℕ → Shown) → Type 0
 MayLoseFiles InAppend v = (g : ℕ) → OwesNothing (whereabouts (v g))
 MayLoseFiles InRewrite v = Unit {0}
@@ -47,7 +47,7 @@ abbrev pub RemainsSettled : LogDirectories → LogMap → EngineState → Error 
 RemainsSettled home m t errors.Failed = IsRecoverableAs home t.pipes.disk m []
 RemainsSettled home m t _ = HoldsSettled home t m
 
--- if the error is `Other`, `limit` is not a file number in the queue's live range; no other error has this reason
+-- The error is `Other`, and `limit` isn't a file number in the queue's live range.
 abbrev pub IsNoLimit : LogQueue → ℕ → Error → EngineState → Type 0
 IsNoLimit queue limit (errors.Other fault) s =
     IsInSpan limit (pipe_at (which_of queue) (files_of s.pipes)) → ⊥

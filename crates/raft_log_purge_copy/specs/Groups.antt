@@ -1,4 +1,5 @@
--- Groups are rewritten: all that they have in Append, in files up to the gate, is copied to Rewrite.
+-- Groups are rewritten: all that they have in Append, in files up to the gate, is copied to Rewrite. In each
+-- definition, `s` and `t` are the engine before and after, and `test` says which groups are meant.
 use Rattle.std.specs.Prelude.{◌≡◌, ◌↔◌, ◌+◌, ◌==◌, IsTrue, ℕ, Bool, true, false, List, drop}
 use Rattle.std.specs.List.{list_any}
 use Rattle.raft_log_fs.specs.Causes.{IsLater}
@@ -14,8 +15,8 @@ use Rattle.raft_log_purge_copy.specs.Moving.{IsPartlyRewritten, IsRewrittenTo}
 use Rattle.raft_log_purge_copy.specs.Reasons.{GivesReason}
 use Rattle.raft_log_purge_copy.specs.Rewriting.{OweNothing, StaysHeld, StaysOrIsLeft}
 
--- For each group that passes the test, a part of what it had in Append, in files up to the gate, moved to Rewrite:
--- perhaps nothing, perhaps all. Other groups are unchanged.
+-- For each group that passes the test, a part of what it had in files of Append up to the gate moved to Rewrite. The
+-- part may be nothing or all. Other groups are unchanged.
 pub record RewritesPart (test : ℕ → Bool) (gate : ℕ) (s t : EngineState) : Type 0 where
   pub parts : (g : ℕ) → IsPartlyRewritten gate (s.tables g) (t.tables g)
   pub others : (g : ℕ) → test g ≡ false → t.tables g ≡ s.tables g
@@ -30,8 +31,8 @@ pub record Rewrites (test : ℕ → Bool) (gate : ℕ) (s t : EngineState) : Typ
   pub stays : StaysInFile s.pipes t.pipes
   pub holds : StaysHeld s t
 
--- Rewriting the groups that pass the test failed; a part of what was to move may be in Rewrite. If no tombstone is
--- owed, the error says why.
+-- Rewriting the groups that pass the test failed, perhaps after a part of what they had in Append moved to Rewrite. If
+-- no tombstone is owed, the error says why.
 pub record StopsRewriting (test : ℕ → Bool) (gate : ℕ) (error : Error) (s t : EngineState) : Type 0 where
   pub part : RewritesPart test gate s t
   pub tells : has_failed s ≡ false → IsTrue (has_failed t) ↔ (error ≡ errors.Failed)

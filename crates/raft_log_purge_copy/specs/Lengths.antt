@@ -1,5 +1,4 @@
--- The records that a purge writes, and when one would be too long: a record of what one group has, or that of the owed
--- tombstones.
+-- The records that a purge writes: those of what one group has, and that of the owed tombstones. When is one too long?
 use Rattle.std.specs.Prelude.{◌≡◌, ◌⊎◌, ◌<◌, ◌≤◌, ◌^◌, ℕ, List, [], ◌∷◌, ◌++◌, length, map, Some}
 use Rattle.std.specs.Cmp.Lexicographic.{slice_cmp}
 use Rattle.std.specs.List.Sorted.{IsStrictlySortedBy}
@@ -30,9 +29,9 @@ abbrev pub IsOneMark : List LogItem → Type 0
 IsOneMark mark = (mark ≡ [])
     ⊎ ((number : ℕ) × (status : AtomicGroupStatus) × (mark ≡ mark_item number status ∷ []))
 
--- The items are these of group `g`, in this order, and `entries` are the bytes of its entries:
--- - entries from index `first` on, one after another
--- - keys with their values
+-- `items` are these of group `g`, in this order, and `entries` are the bytes of all its entries, joined:
+-- - entries from index `first` on, one after another, with the bytes `bytes`
+-- - the keys `pairs` with their values
 -- - the mark
 pub record AreOfGroup (g first : ℕ) (bytes : List (List ℕ)) (pairs : List (List ℕ × List ℕ)) (mark : List LogItem)
     (items : List LogItem) (entries : List ℕ) : Type 0 where
@@ -66,8 +65,8 @@ pub record AreOfMap (m : LogMap) (items : List LogItem) (entries : List ℕ) : T
   pub values : AreValuesIn m group pairs
   pub once : IsStrictlySortedBy (slice_cmp nat_cmp) (keys_of pairs)
 
--- A record of these items would be too long: it has more bytes of entries than a batch may have, or 2 ^ 56 bytes or
--- more.
+-- A record of these items would be too long. Its entries have more bytes than a batch may have, or the record has
+-- 2 ^ 56 bytes or more.
 abbrev pub IsTooLong : List LogItem → List ℕ → Type 0
 IsTooLong items entries = (max_entries_len < length entries) ⊎ (2 ^ 56 ≤ record_len items entries)
 

@@ -1,4 +1,4 @@
--- The owed tombstones as a batch, and calls after which no more tombstones are owed.
+-- The owed tombstones as a batch, and calls that add no owed tombstone.
 use Rattle.std.specs.Prelude.{◌≡◌, ℕ, true, false, List, [], ◌∷◌, ◌++◌}
 use Rattle.raft_log_record_items.specs.declared.entry.EntryIndex.{EntryIndex}
 use Rattle.raft_log_record_items.specs.declared.item.LogItem.{LogItem}
@@ -50,14 +50,14 @@ pub record OwesSame (v w : Shown) : Type 0 where
   pub compact : owed_compact w ≡ owed_compact v
   pub deleted : w.deleted ≡ v.deleted
 
--- the group owes no tombstone in `w` that it didn't owe in `v`: no Clean, no Compact, no deletion of a key; the
--- Compact's index may differ
+-- The group owes no tombstone in `w` that it didn't owe in `v`: no Clean, no Compact, no deletion of a key. The
+-- Compact's index may differ.
 pub record OwesNoMore (v w : Shown) : Type 0 where
   pub cleaned : w.cleaned ≡ true → v.cleaned ≡ true
   pub compacted : w.compacted ≡ true → v.compacted ≡ true
   pub deleted : (k : List ℕ) → w.deleted k ≡ true → v.deleted k ≡ true
 
--- no group owes a tombstone in the second tables that it didn't owe in the first
+-- no group owes a tombstone in the tables `w` that it didn't owe in `v`
 abbrev pub OweNoMore : (ℕ → Shown) → (ℕ → Shown) → Type 0
 OweNoMore v w = (g : ℕ) → OwesNoMore (v g) (w g)
 

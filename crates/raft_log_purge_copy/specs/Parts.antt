@@ -1,4 +1,4 @@
--- What a part of a purge leaves if it fails, and what the record of a batch that a purge writes must be.
+-- What a failed part of a purge leaves, and which record a purge makes of a batch.
 use Rattle.std.specs.Prelude.{◌≡◌, ◌↔◌, IsTrue, ℕ, false, []}
 use Rattle.raft_log_fs.specs.Causes.{IsLater}
 use Rattle.raft_log_record_base.specs.declared.errors.Error.{Error}

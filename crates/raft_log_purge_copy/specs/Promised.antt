@@ -15,8 +15,8 @@ use Rattle.raft_log_purge_copy.specs.GroupParts.{items_of_all}
 abbrev pub PromisesNoMoves : MemTables → Type 0
 PromisesNoMoves m = (g : ℕ) → (promise_of m g).moves ≡ 0
 
--- Let the tables `old`, before a call, have no room reserved for moves. Then `new`, those after it, have none if the
--- call succeeded, or if the pipes `w` haven't failed.
+-- If the tables `old` before a call have no room reserved for moves, the tables `new` after it have none. This holds if
+-- the call succeeded, or if the pipes `w` haven't failed.
 abbrev pub LeavesNoMoves : {A E : Type 0} → Result A E → LogPipes → MemTables → MemTables → Type 0
 LeavesNoMoves result w old new = OnErr result (is_failed w ≡ false) → PromisesNoMoves old → PromisesNoMoves new
 

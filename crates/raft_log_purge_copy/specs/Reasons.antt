@@ -72,8 +72,8 @@ HasReason home m _ s t = ⊥
 abbrev pub GivesReason : Error → EngineState → EngineState → Type 0
 GivesReason error s t = (home : LogDirectories) (m : LogMap) → Represents home s m [] → HasReason home m error s t
 
--- Why a purge that writes the owed tombstones failed: for a reason that any part may have, or because the record of
--- these tombstones would be too long.
+-- Why a purge that writes the owed tombstones failed. It has a reason that any part may have, or the record of these
+-- tombstones would be too long.
 abbrev pub HasPurgeReason : LogDirectories → LogMap → Error → EngineState → EngineState → Type 0
 HasPurgeReason home m error s t = HasReason home m error s t ⊎ ((error ≡ errors.Full) × OwesTooMuch s.tables)
 

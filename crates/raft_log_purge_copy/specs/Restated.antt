@@ -27,9 +27,9 @@ IsNotedFrom n (Some files) = n ≤ files.from
 
 -- From `v` to `w` the group was restated: all entries and values that it has in Rewrite are in file `n` and later
 -- ones.
--- - The files noted for atomic groups begin no earlier than the lower of `n` and where they began before.
--- - If they began after a file below `n`, or ended at or before it, one of the two still holds.
--- - The group owes the same tombstones.
+-- - `noted`: the first file noted for atomic groups isn't lower than before, or is `n` or later.
+-- - `past`: if the files noted began after a file `k` below `n`, or ended at or before it, one of the two still holds.
+-- - `owes`: the group owes the same tombstones.
 pub record IsRestatedFrom (n : ℕ) (v w : Shown) : Type 0 where
   pub entries : LieFrom n (take w.rewritten w.places)
   pub values : (k : List ℕ) (h : KeyValue) → w.held k ≡ Some h → h.appended ≡ false → n ≤ h.file
@@ -51,8 +51,8 @@ abbrev pub StaysOrIsLeft : Error → EngineState → EngineState → Type 0
 StaysOrIsLeft error s t = (home : LogDirectories) (m : LogMap) → Represents home s m []
     → Represents home t m [] ⊎ ((error ≡ errors.Failed) × IsRecoverableAs home t.pipes.disk m [])
 
--- Each group that passes the test was restated: all that it has in Rewrite is in the file that was active at the
--- start, or in later ones. Other groups are unchanged.
+-- Each group that passes the test was restated. All that it has in Rewrite is in the file that was active in `s`, or in
+-- later ones. Other groups are unchanged.
 pub record Restates (test : ℕ → Bool) (s t : EngineState) : Type 0 where
   pub others : (g : ℕ) → test g ≡ false → t.tables g ≡ s.tables g
   pub counts : t.counts ≡ s.counts

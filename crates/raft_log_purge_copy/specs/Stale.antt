@@ -24,9 +24,8 @@ use Rattle.raft_log_purge_copy.specs.Reasons.{HasFileReason, HasPurgeReason}
 abbrev pub written_file : LogQueue → LogPipes → ℕ
 written_file queue v = (pipe_at (which_of queue) (files_of v)).active.seq
 
--- The queue rotated. Then its files below the lowest that any group needs left its live range. If no group needs one,
--- all below the new active file left it. A log with nothing pending keeps its contents, if no tombstone is owed or the
--- queue is Rewrite.
+-- The queue rotated. Then `count` files left its live range: those below its lowest file in use. A log with nothing
+-- pending keeps its contents, if no tombstone is owed or the queue is Rewrite.
 pub record TurnsAndLoses (queue : LogQueue) (m : MemTables) (count : ℕ) (s t : EngineState) : Type 0 where
   pub turned : LogPipes
   pub turns : RotatesQueue (which_of queue) s.pipes turned

@@ -1,5 +1,6 @@
--- The steps by which a group's entries and keys in Rewrite are restated as an atomic group. `v` and `old` are the
--- pipes and the cached block before a step, `w` and `new` those after it.
+-- The steps by which the entries and keys that a group `g` has in Rewrite are restated as atomic group `number`. `es`
+-- are these entries, and `parts` are the records written so far. `v` and `old` are the pipes and the cached block
+-- before a step, `w` and `new` those after it.
 use Rattle.std.specs.Prelude.{◌≡◌, ◌+◌, ◌<◌, ℕ, List, [], ◌∷◌, length, take, drop}
 use Rattle.raft_log_record_base.specs.declared.errors.Error.{Error}
 use Rattle.raft_log_record_items.specs.declared.entry.EntryIndex.{EntryIndex}
@@ -50,8 +51,9 @@ GivesUp g number es before parts error v old w new = (m : MemTables) (s : Engine
     → es ≡ rewritten_entries (s.tables g) → HasParts g number before parts s (shows v m old)
     → FailsToRestate error s (shows w m new)
 
--- the atomic group that was open with these parts isn't ended, so it is given up, and group `g` isn't restated, if:
--- - the remaining entries fit in one record
+-- The atomic group that was open with these parts isn't ended, so it is given up, and group `g` isn't restated. The
+-- premises are:
+-- - the entries after the first `done` fit in one record
 -- - `pairs` are the keys that group `g` has in Rewrite, with their values
 abbrev pub GivesUpLast : ℕ → ℕ → List EntryIndex → ℕ → List RestatedPart → List (List ℕ × List ℕ) → Error
     → LogPipes → BlockCache → BlockCache → Type 0
@@ -71,7 +73,8 @@ pub record IsLastPart (g number done : ℕ) (pairs : List (List ℕ × List ℕ)
   pub says : (home : LogDirectories) (m : LogMap) → Represents home s m []
       → AreEntryBytes m g ((s.tables g).first + done) bytes
 
--- a batch was made that can end the atomic group, which is still open with the same parts
+-- The batch `b` was made, which can end the atomic group with the entries after the first `done`, and with the keys and
+-- values `pairs`. The atomic group is still open with the same parts.
 abbrev pub MakesLast : ℕ → ℕ → List EntryIndex → ℕ → List RestatedPart → List (List ℕ × List ℕ) → Batch
     → LogPipes → BlockCache → BlockCache → Type 0
 MakesLast g number es done parts pairs b v old new = (m : MemTables) (s : EngineState)

@@ -26,13 +26,13 @@ abbrev pub SyncsIfDue : ℕ → ℕ → LogPipes → LogPipes → Type 0
 SyncsIfDue old new v w = ((old < max_unsynced) × (new ≡ old) × (w ≡ v))
     ⊎ ((max_unsynced ≤ old) × (new ≡ 0) × SyncsQueue InRewrite v w)
 
--- how many bytes of Rewrite are unsynced before the next record is written, if `old` are now: none if a sync is due,
--- since it comes first
+-- If `old` bytes of Rewrite are unsynced: how many of them still are right before the next record is written. None, if
+-- a sync is due, since it is made before the record.
 abbrev pub left_unsynced : ℕ → ℕ
 left_unsynced old = if nat_lt old max_unsynced then old else 0
 
--- The count of unsynced bytes was `old`. It is `new` after a sync, if one was due, and the write of the batch's record.
--- The count stops at 2 ^ 64 - 1.
+-- Rewrite was synced if that was due, and then the batch's record was written. The count of unsynced bytes was `old`
+-- before, and is `new` after. The count stops at 2 ^ 64 - 1.
 abbrev pub CountsRecord : Batch → ℕ → ℕ → Type 0
 CountsRecord b old new = (len : ℕ) × IsReadyForEach len b.items b.entries
     × (new ≡ min (left_unsynced old + len) (2 ^ 64 - 1))

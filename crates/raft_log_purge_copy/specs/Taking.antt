@@ -24,7 +24,7 @@ use Rattle.raft_log_purge_copy.specs.Records.{FailsToWriteRecord, WritesToRewrit
 use Rattle.raft_log_purge_copy.specs.Restated.{FailsToRestate, RestatesOne}
 use Rattle.raft_log_purge_copy.specs.Steps.{IsLastPart}
 
--- the tables have the promised room for moving the entries of the parts, and of these items after them
+-- the tables have room reserved for moving the entries of the parts, and then those of these items
 abbrev pub HaveRoom : MemTables → List RestatedPart → List LogItem → Type 0
 HaveRoom m parts items = MayMove m (tagged_items {E = EntryIndex} (λ e. e) (items_of_all parts ++ items))
 

@@ -59,11 +59,12 @@ pub record FailsToHaveAll (directories : List (List ℕ)) (error : Error) (old n
   pub has : HasDirectories before old between
   pub fails : FailsToHave path error between new
 
--- Reading them.
+-- Listing their files.
 
--- The error for a call that changes nothing, if the file system failed it with `kind`:
--- - after a stop, `Io` with this kind
--- - before one, `Memory`; or `Io` with this kind, if it isn't `OutOfMemory`
+-- The error of the log if the file system failed a call that changes nothing with `kind`. `stopped` says whether it had
+-- stopped.
+-- - If it had, the error is `Io` with this kind.
+-- - If it runs, the error is `Memory`. If `kind` isn't `OutOfMemory`, it may be `Io` with this kind instead.
 abbrev pub TellsRefusal : Bool → ErrorKind → Error → Type 0
 TellsRefusal stopped kind (errors.Io told) = (told ≡ kind) × ((stopped ≡ true) ⊎ (kind ≡ OutOfMemory → ⊥))
 TellsRefusal stopped kind errors.Memory = stopped ≡ false

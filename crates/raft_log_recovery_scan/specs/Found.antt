@@ -1,4 +1,4 @@
--- The files of a log that its directories have, by their names.
+-- Which files of a log its directories have. A file's name says its kind and its number.
 use Rattle.std.specs.Prelude.{◌≡◌, ℕ, ◌<◌, ◌⊎◌, None, List, [], ◌∷◌, ◌++◌, suc, length, slice_index_or, Contains}
 use Rattle.std.specs.String.{string_bytes}
 use Rattle.raft_log_record_base.specs.declared.errors.Error.{Error}
@@ -26,7 +26,7 @@ AreAmongAll kind place [] files = files ≡ []
 AreAmongAll kind place (names ∷ listings) files = (first : List FoundFile) × (more : List FoundFile)
     × AreAmong kind place names first × AreAmongAll kind (suc place) listings more × (files ≡ first ++ more)
 
--- the message says that one of these names is misnamed, and has that name
+-- `text` is the error message for one of these names, which is misnamed
 abbrev pub TellsOneOf : FileKind → List (List ℕ) → List ℕ → Type 0
 TellsOneOf kind names text =
     (name : List ℕ) × Contains names name × IsMisnamed kind name × (text ≡ told_misnamed name)

@@ -1,4 +1,4 @@
--- The names of a log's files, and which of them the log itself gives.
+-- The names that a log's files may have, the name that the log gives to a new file, and which names are errors.
 use Rattle.std.specs.Prelude.{◌≡◌, ℕ, ◌<◌, Bool, false, List, ◌++◌, codes}
 use Rattle.std.specs.String.{string_bytes}
 use Rattle.raft_log_record_base.specs.declared.errors.Error.{Error}
@@ -41,7 +41,7 @@ IsMisnamed kind name =
 abbrev pub told_misnamed : List ℕ → List ℕ
 told_misnamed name = codes "misnamed log file: " ++ name
 
--- Why it isn't known which file has this name. `Corruption`: the name is misnamed, and the message has it. `Memory`:
+-- The errors of parsing a file's name. `Corruption`: the file is misnamed, and the message has its name. `Memory`:
 -- memory ran out.
 abbrev pub FailsToName : FileKind → List ℕ → Error → Type 0
 FailsToName kind name (errors.Corruption text) =

@@ -43,8 +43,8 @@ abbrev pub permission_before : RecoveryMode → Permission
 permission_before TolerateAnyCorruption = ReadWrite
 permission_before _ = ReadOnly
 
--- The files of a queue are open, and there is at least one: the last one for writing, and those before with the
--- permission that the recovery mode requires.
+-- The files of a queue are open, and there is at least one. The last one is open for writing, and those before it with
+-- the permission that the recovery mode requires.
 pub record IsOpenBehind (kind : FileKind) (directories : List (List ℕ)) (d : Disk) (mode : RecoveryMode)
     (found : List FoundFile) (files : List File) : Type 0 where
   pub before : List FoundFile

@@ -19,8 +19,8 @@ FollowsNumber a b = suc a.seq ≡ b.seq
 abbrev pub IsConsecutive : List FoundFile → Type 0
 IsConsecutive files = AllAdjacentBelow FollowsNumber files (length files)
 
--- The first of `these` doesn't follow the last of `those`: a number is missing between the two, or both have the same
--- number.
+-- The number of the first of `these` isn't that of the last of `those` plus one. A number is missing between the two,
+-- or both have the same number.
 pub record IsBreak (those these : List FoundFile) : Type 0 where
   pub before : List FoundFile
   pub last : FoundFile

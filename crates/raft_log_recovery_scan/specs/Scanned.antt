@@ -18,7 +18,7 @@ use Rattle.raft_log_recovery_scan.specs.declared.file_kind.FileKind.TheVariants.
 use Rattle.raft_log_recovery_scan.specs.declared.scanning.found.FoundFile.{FoundFile}
 use Rattle.raft_log_recovery_scan.specs.declared.scanning.ScannedFiles.{ScannedFiles}
 
--- `kept` are the files of this kind after the last break in the numbers, among the names in these listings
+-- `kept` are the files of this kind after the last break in the numbers. `listings` has the names in each directory.
 pub record IsRunAmong (kind : FileKind) (listings : List (List (List ℕ))) (kept : List FoundFile)
     : Type 0 where
   pub found : List FoundFile
@@ -39,7 +39,8 @@ pub record IsQueueIn (kind : FileKind) (directories : List (List ℕ)) (d : Disk
   pub run : IsRunIn kind directories d kept
   pub opened : IsOpenQueue kind directories d mode kept files
 
--- `files` are the files kept for recycling after the last break in the numbers, open for reading
+-- Among the files with reserved names, which are kept for recycling, `files` are those after the last break in the
+-- numbers. They are open for reading.
 pub record IsReserveIn (directories : List (List ℕ)) (d : Disk) (files : List File) : Type 0 where
   pub kept : List FoundFile
   pub run : IsRunIn Reserved directories d kept
@@ -52,7 +53,7 @@ pub record IsScanned (directories : List (List ℕ)) (d : Disk) (mode : Recovery
   pub rewrite : IsQueueIn Rewrite directories d mode scanned.rewrite.items
   pub reserved : IsReserveIn directories d scanned.reserved.items
 
--- the message says that a file in these directories is misnamed, and has its name
+-- `text` is the error message for a file in these directories that is misnamed
 abbrev pub TellsMisnamedIn : List (List ℕ) → Disk → List ℕ → Type 0
 TellsMisnamedIn directories d text = (kind : FileKind) × (name : List ℕ) × HasName directories d name
     × IsMisnamed kind name × (text ≡ told_misnamed name)
@@ -65,8 +66,8 @@ FailsToFindFiles directories d (errors.Corruption text) = TellsMisnamedIn direct
 FailsToFindFiles directories d errors.Memory = Unit {0}
 FailsToFindFiles directories d _ = ⊥
 
--- the directories are there, nothing else changed, and `scanned` has their files after the last break in the numbers,
--- open
+-- The directories are there, and nothing else changed. For each kind, `scanned` has the open files after the last break
+-- in the numbers.
 pub record Scans (directories : List (List ℕ)) (mode : RecoveryMode) (scanned : ScannedFiles)
     (old new : Disk) : Type 0 where
   pub made : HasDirectories directories old new

@@ -1,4 +1,4 @@
--- Runs and answers that the model explains.
+-- What it means that the model explains a run's moments, or answers to events; and the laws that it explains all runs.
 use Rattle.std.specs.Prelude.{◌≡◌, List, [], ◌∷◌}
 use Rattle.raft_log_world.specs.declared.event.Answer.{Answer}
 use Rattle.raft_log_world.specs.declared.event.Event.{Event}
@@ -10,8 +10,8 @@ use Rattle.raft_log_world.specs.Logs.{Asks, LogOf, Stands}
 use Rattle.raft_log_world.specs.Run.{IsLogRun, Moment}
 
 -- From `log` on, which `at` represents, the model gives each moment's answer in turn. After each moment, the engine or
--- the files represent the log that the model becomes. Nothing is claimed from a CRC collision on, nor from a copy on
--- whose target isn't clear.
+-- the files represent the log that the model becomes. Nothing is claimed from the first moment on that doesn't meet
+-- `Asks`: at a CRC collision, or a copy whose target isn't clear.
 abbrev pub Goes :
     {S F B C : Type 0}
     → (l : LogOf S F B C) (at : Storage S F) (log : ModelLog) → Stands l at log → List (Moment S F B C) → Type 0

@@ -45,8 +45,8 @@ pub record GrowsBy (log : ModelLog) (batches : List BatchRecord) (last : ModelLo
   pub contents : durable last ≡ taken (durable log) done
   pub part : IsPart (done ++ pending_in last) batches
 
--- Whatever happens to a log, its durable contents stay. Only batches are added to them, whole and in order: some of
--- those that were pending or that the events asked to write.
+-- A log's durable contents stay, after any events that the model explains. Only batches are added to them, whole and in
+-- order: some of those that were pending or that the events asked to write.
 abbrev pub KeepsDurable : Type 0 → Type 0 → Type 0
 KeepsDurable B C =
     (says : B → BatchRecord) (log last : ModelLog) (events : List (Event B C)) (answers : List Answer)

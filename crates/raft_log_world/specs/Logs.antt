@@ -13,8 +13,8 @@ use Rattle.raft_log_world.specs.Model.ModelLog.{resting, left}
 -- What an implementation of a log defines. `S` are engines, `F` files, `B` batches, and `C` says what a crash leaves:
 -- - `is`: an engine, or the files, represent this log of the model;
 -- - `says`: the record of a batch;
--- - `read_spared`: they represent the log, and there is no CRC collision in the files;
--- - `crash_spared`: they represent the log, and there is no CRC collision in the files that a crash left;
+-- - `read_spared`: if they represent the log, there is no CRC collision in the files;
+-- - `crash_spared`: if they represent the log, there is no CRC collision in the files that a crash left;
 -- - `is_clear`: files may be copied into this directory.
 pub record LogOf (S F B C : Type 0) : Type 1 where
   pub is : Storage S F → ModelLog → Type 0
@@ -53,8 +53,8 @@ Asks l at log is (Fork target) now = l.is_clear at (string_bytes target) × IfLe
 Asks l at log is (Crash what) (Closed files) = UnlessResting log (l.crash_spared at log is what files)
 Asks l at log is event now = Unit {0}
 
--- The model explains that the event had this answer and led from `at` to `now`: whichever log of the model `at`
--- represents, the model gives this answer too, and `now` represents the log that it becomes. The premise is `Asks`.
+-- The model explains that the event had this answer and led from `at` to `now`. For each log of the model that `at`
+-- represents and that meets `Asks`, the model may give this answer, and `now` represents the log that it becomes.
 abbrev pub Follows :
     {S F B C : Type 0} → LogOf S F B C → Storage S F → Event B C → Answer → Storage S F → Type 0
 Follows l at event answer now =

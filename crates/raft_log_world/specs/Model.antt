@@ -1,5 +1,6 @@
 -- The model log: a log as its callers see it. It says which answers an event may have, and what the log is afterwards.
--- A crash loses at most a suffix of the batches that aren't synced yet.
+-- A crash loses at most a suffix of the batches that aren't synced yet. `m` are the durable contents before an event,
+-- `pending` the pending batches, and `next` is the log after it.
 use Rattle.std.specs.Prelude.{◌≡◌, ◌⊎◌, ◌≤◌, ℕ, Bool, true, false, List, [], ◌∷◌, ◌++◌, length, take, option_map}
 use Rattle.raft_log_model_laws.specs.Item.{Record, items_of}
 use Rattle.raft_log_model_laws.specs.Item.Item.{Compact as CompactItem}
@@ -109,8 +110,8 @@ Serves says m pending (Purge kind) Refused next = next ≡ running (taken m pend
 Serves says m pending (Purge kind) Failed next = (next ≡ failed m pending) ⊎ (next ≡ failed (taken m pending) [])
 Serves says m pending call answer next = ⊥
 
--- the event does nothing: it is a call or a close, and no engine has the log open; or it is an open or a copy, and an
--- engine has the log open
+-- The event does nothing. It is a call or a close, and no engine has the log open (`opened`). Or it is an open or a
+-- copy, and an engine has the log open.
 abbrev pub IsIdle : {B C : Type 0} → Bool → Event B C → Type 0
 IsIdle opened (Open workers) = opened ≡ true
 IsIdle opened (Serve call) = opened ≡ false

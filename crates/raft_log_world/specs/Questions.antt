@@ -1,5 +1,5 @@
--- Questions of a user, and their answers by the model log: is a synced batch ever lost, can half a batch be read, what
--- does a failed write leave, what does a purge keep, what does a copy hold?
+-- Laws of the model log that answer a user's questions. Is a synced batch ever lost? Can half a batch be read? What
+-- does a failed write leave? What does a purge keep? What does a copy hold?
 use Rattle.std.specs.Prelude.{◌≡◌, Bool, true, List, [], ◌∷◌, ◌++◌}
 use Rattle.std.specs.Global.{Global}
 use Rattle.std.specs.declared.string.String.{String}
@@ -34,8 +34,8 @@ Syncs (Serve (PurgeCall kind)) = Unit {0}
 Syncs Close = Unit {0}
 Syncs event = ⊥
 
--- Let a write with a sync, a sync, a purge or a close succeed. Whatever happens later, the contents are those before
--- this event, with its batch if it wrote one. After them come some of the batches that later events asked to write.
+-- Let a write with a sync, a sync, a purge or a close succeed. After any later events, the contents begin with those
+-- before this event, and its batch if it wrote one. Then come some of the batches that later events asked to write.
 abbrev pub SyncedBatchesAreKept : Type 0 → Type 0 → Type 0
 SyncedBatchesAreKept B C =
     (says : B → BatchRecord) (log next last : ModelLog) (event : Event B C)
@@ -43,16 +43,16 @@ SyncedBatchesAreKept B C =
     → Syncs event → Answers says log event Done next → Explains says next events answers last
     → Continues (taken (contents_of log) (written_in says (event ∷ []))) (written_in says events) last
 
--- After any events, the contents are the durable ones of the beginning, and then whole batches, in order: some of those
--- that were pending or that the events asked to write.
+-- After any events, the contents are the durable ones of the beginning, and then whole batches, in order. These are
+-- some of the batches that were pending or that the events asked to write.
 abbrev pub BatchesAreWhole : Type 0 → Type 0 → Type 0
 BatchesAreWhole B C =
     (says : B → BatchRecord) (log last : ModelLog) (events : List (Event B C)) (answers : List Answer)
     → Explains says log events answers last
     → Continues (durable log) (pending_in log ++ written_in says events) last
 
--- Whatever happens to `log`, until an event asks to write a batch or to compact: the contents are `m`, and then the
--- first few of these batches.
+-- After any events that ask for no write and no compaction, the contents of `log` are `m`, and then the first few of
+-- these batches.
 abbrev pub ShowsFirst : {B : Type 0} → Type 0 → (B → BatchRecord) → ModelLog → Contents → List BatchRecord → Type 0
 ShowsFirst {B} C says log m batches =
     (events : List (Event B C)) (answers : List Answer) (last : ModelLog)
@@ -60,7 +60,7 @@ ShowsFirst {B} C says log m batches =
 
 -- What a write that fails leaves of its batch:
 -- - `refused`: if the engine runs on, the contents are those before the write.
--- - `failed`: if the engine fails, the contents until the next write are the durable ones, and then the first few of
+-- - `failed`: if the engine fails, then until the next write the contents are the durable ones with the first few of
 --   these batches: the pending ones, and this one last. So this one is there whole, after all others, or not at all.
 pub record LeavesNoTrace {B : Type 0} (C : Type 0) (says : B → BatchRecord) (log next : ModelLog) (batch : B)
     (sync : Bool) : Type 0 where

@@ -1,4 +1,4 @@
--- What reads of a log return, and what its contents are.
+-- The contents `m` of a log, and what reads of them return.
 use Rattle.std.specs.Prelude.{◌≡◌, ◌⊎◌, ◌+◌, ◌-◌, ◌<◌, ◌≤◌, ◌&&◌, ℕ, Bool, true, false, List, [], ◌∷◌, Option, Some, None, option_map, length, map, bytes_eq}
 use Rattle.std.specs.Cmp.Lexicographic.{slice_cmp}
 use Rattle.std.specs.Global.{Vec}
@@ -46,19 +46,20 @@ HasEntries m group index [] = Unit {0}
 HasEntries m group index (entry ∷ entries) =
     (m group (Index index) ≡ Some (Entry entry)) × HasEntries m group (index + 1) entries
 
--- how many of `all` entries a read may return: all of them, or at least one if there is a greatest size
+-- a read may return `count` of `all` entries: all of them, or at least one (if there are any) if there is a greatest
+-- size
 abbrev pub IsCount : Option ℕ → ℕ → ℕ → Type 0
 IsCount None all count = count ≡ all
 IsCount (Some max) all count = (count ≤ all) × (0 < all → 0 < count)
 
--- The group has an entry at each index from `begin` on, below `end`. These are the first of them, and all unless there
--- is a greatest size.
+-- The group has an entry at each index from `begin` on, below `end`. `entries` are the first of these. They are all of
+-- them unless there is a greatest size, `max`.
 pub record AreFetched (m : Contents) (group begin end : ℕ) (max : Option ℕ) (entries : List (List ℕ)) : Type 0 where
   pub are : HasEntries m group begin entries
   pub all : (index : ℕ) → begin ≤ index → index < end → m group (Index index) ≡ None → ⊥
   pub count : IsCount max (end - begin) (length entries)
 
--- what a read of the entries from `begin` on, below `end`, returns; none if the group has none of them
+-- `entries` is what a read of the entries from `begin` on, below `end`, returns: none, if the group has none of them
 abbrev pub Fetches : Contents → ℕ → ℕ → ℕ → Option ℕ → List (List ℕ) → Type 0
 Fetches m group begin end max entries =
     (HasNone m group begin end × (entries ≡ [])) ⊎ AreFetched m group begin end max entries
@@ -73,8 +74,8 @@ abbrev pub is_below : Option (List ℕ) → List ℕ → Bool
 is_below None k = true
 is_below (Some end) k = is_lt (slice_cmp nat_cmp k end)
 
--- These are the keys of the group from `start` on, below `end`, with their values: each key once, in the order of their
--- bytes.
+-- `pairs` are the keys of the group from `start` on, below `end`, with their values: each key once, in the order of the
+-- keys' bytes.
 pub record Scans (m : Contents) (group : ℕ) (start end : Option (List ℕ)) (pairs : List (List ℕ × List ℕ))
     : Type 0 where
   pub rising : IsStrictlySortedBy (slice_cmp nat_cmp) (keys_of pairs)

@@ -18,13 +18,13 @@ abbrev pub behind : {S F B C : Type 0} → Storage S F → List (Moment S F B C)
 behind at [] = at
 behind at (m ∷ ms) = behind m.now ms
 
--- the model explains each of these moments (`Follows`): the first begins at `at`, and each other one with the engine or
--- the files that the moment before it left
+-- The model explains each of these moments (`Follows`). The first begins with the engine or the files `at`, and each
+-- later one with those that the moment before it left.
 abbrev pub FollowAll : {S F B C : Type 0} → LogOf S F B C → Storage S F → List (Moment S F B C) → Type 0
 FollowAll l at [] = Unit {0}
 FollowAll l at (m ∷ ms) = Follows l at m.event m.answer m.now × FollowAll l m.now ms
 
--- A run of these events that began with these files: each event made a moment, the report has the answers of all, and
+-- A run of these events that began with these files. Each event made a moment, the report has the answers of all, and
 -- the model explains them.
 pub record IsLogRun {S F B C : Type 0} (l : LogOf S F B C) (files : F) (events : List (Event B C))
     (report : LogReport S F) : Type 0 where

@@ -1,5 +1,5 @@
--- The picture of a run: one line for each event. A round has a line for its outcome, one for each request, and one for
--- the end of what was taken.
+-- The picture of a run. An event has one line. Only a round has more: one for its outcome, one for each request, and
+-- one after the requests that were taken.
 use Rattle.std.specs.Prelude.{◌≡◌, ℕ, Bool, List, map}
 use Rattle.raft_voter_messages.specs.declared.round.Round.{Round}
 use Rattle.raft_voter.specs.Rounds.{fresh_world}
@@ -14,9 +14,9 @@ use Rattle.raft_voter_timeline.specs.Marks.{all_marks, event_mark, marks_of}
 use Rattle.raft_voter_timeline.specs.Picture.{ShowsLines}
 use Rattle.raft_voter_timeline.specs.Writes.{AreWrites}
 
--- The picture shows lines with exactly the marks `events`, except for the rounds. Each round's mark is replaced by the
--- marks of the next of `rounds`, with its cut. `writes` says which rounds changed a voter; before the first round, all
--- voters are fresh.
+-- The picture shows lines with exactly the marks `events`. But each round's mark is replaced by the marks of the next
+-- of `rounds`, with its cut. `writes` says which rounds changed a voter if all voters were fresh before the first
+-- round.
 pub record DrawsRounds (events : List Mark) (rounds : List Round) (cuts picture : List ℕ) : Type 0 where
   pub lines : List Line
   pub writes : List Bool

@@ -7,12 +7,12 @@ use Rattle.std.specs.declared.alloc.Global.{Global}
 abbrev pub Gains : String Global → String Global → List ℕ → Type 0
 Gains old new more = string_bytes new ≡ string_bytes old ++ more
 
--- The character is left out of the XML: it is below the space, or is U+FFFE or U+FFFF. XML allows none of these except
--- tab, line feed and carriage return.
+-- The character is replaced in the XML: its code is below 32, or it is U+FFFE or U+FFFF. XML allows none of these
+-- except tab, line feed and carriage return.
 abbrev pub has_no_place : ℕ → Bool
 has_no_place c = nat_lt c 32 || (c == 0xFFFE || c == 0xFFFF)
 
--- The bytes of a character in the XML: an entity for `&`, `<`, `>` and the quotes, U+FFFD for one that is left out
+-- The bytes of a character in the XML. They are an entity for `&`, `<`, `>` and the quotes, U+FFFD if it is replaced
 -- (`has_no_place`), and otherwise its UTF-8.
 unfoldable pub escaped : ℕ → List ℕ
 escaped c =

@@ -57,28 +57,28 @@ abbrev pub head_mark : Outcome → Mark
 head_mark (outcomes.Answered replies) = marks.Answered
 head_mark outcomes.Cut = marks.CutOff
 
--- The mark of the line after the requests that were taken. If the round got replies, it says whether the round wrote,
--- and so synced before it replied. If the round was cut off, the line shows its cut.
+-- The mark of the line after the requests that were taken. If the round got replies, the mark says whether the round
+-- wrote, and so synced before it replied. If the round was cut off, the line shows its cut.
 abbrev pub end_mark : Outcome → Bool → Mark
 end_mark (outcomes.Answered replies) true = marks.Durable
 end_mark (outcomes.Answered replies) false = marks.Unchanged
 end_mark outcomes.Cut wrote = marks.Cut
 
--- The marks of a round whose requests before position `up_to` were taken, and which wrote or didn't: its first line,
--- these requests, the line after them, and the lost requests.
+-- The marks of a round: its first line, the requests before position `up_to`, which were taken, the line after them,
+-- and the lost requests. `wrote` says whether the round wrote.
 abbrev pub round_marks : Round → Bool → ℕ → List Mark
 round_marks round wrote up_to =
     head_mark round.outcome ∷ fates round.refused marks.Taken 0 (take up_to round.requests)
     ++ end_mark round.outcome wrote ∷ fates round.refused marks.Lost up_to (drop up_to round.requests)
 
--- The position up to which a round of `count` requests was taken. This is `count` if it got replies. Otherwise it is
--- the first of `cuts`, at most `count`, or 0 if there are no cuts.
+-- The requests of a round before this position were taken. It is `count`, the number of requests, if the round got
+-- replies. Otherwise it is the first of `cuts`, at most `count`, or 0 if there are no cuts.
 abbrev pub place_of : Outcome → List ℕ → ℕ → ℕ
 place_of (outcomes.Answered replies) cuts count = count
 place_of outcomes.Cut [] count = 0
 place_of outcomes.Cut (cut ∷ cuts) count = min count cut
 
--- the position up to which this round was taken, with these cuts left
+-- the requests of this round before this position were taken; `cuts` are those of this round and later ones
 abbrev pub taken_up_to : Round → List ℕ → ℕ
 taken_up_to round cuts = place_of round.outcome cuts (length round.requests)
 
@@ -92,7 +92,7 @@ behind_outcome outcomes.Cut (cut ∷ cuts) = cuts
 abbrev pub cuts_behind : Round → List ℕ → List ℕ
 cuts_behind round cuts = behind_outcome round.outcome cuts
 
--- The marks of a picture, from top to bottom: the first argument has one for each event, and each round's mark there is
+-- The marks of a picture, from top to bottom. The first argument has one for each event. Each round's mark there is
 -- replaced by the marks of the next of `rounds`. The next of `writes` says whether that round wrote. If the round was
 -- cut off, the next of `cuts` is its cut.
 abbrev pub all_marks : List Mark → List Round → List Bool → List ℕ → List Mark

@@ -6,7 +6,7 @@ use Rattle.raft_voter_timeline.specs.declared.line.Mark.{Mark}
 use Rattle.raft_voter_timeline.specs.Escape.{escaped}
 use Rattle.raft_voter_timeline.specs.Marks.{mark_name}
 
--- how far below the top the line with this number is, counted from 0
+-- how far below the top of the picture the line with this number is; the first line has number 0
 abbrev pub top_of : ℕ → ℕ
 top_of number = 122 + 22 * number
 

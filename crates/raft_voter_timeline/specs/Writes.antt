@@ -1,4 +1,4 @@
--- Which rounds write.
+-- Which rounds write, and how this is computed from the outlines of the groups' voters.
 use Rattle.std.specs.Prelude.{◌≡◌, ◌≢◌, ◌⊎◌, ◌==◌, ◌||◌, ℕ, Bool, false, if◌then◌else◌, List, [], ◌∷◌}
 use Rattle.std.specs.Bool.{Decides}
 use Rattle.raft_voter_messages.specs.declared.request.Request.{Request}
@@ -10,7 +10,7 @@ use Rattle.raft_voter_outline.specs.State.{State}
 use Rattle.raft_voter.specs.Rounds.{World, after, after_one, taken_below}
 use Rattle.raft_voter_timeline.specs.Marks.{cuts_behind, taken_up_to}
 
--- `W` has the groups' voters; at least one of these requests, taken in order, changes its group's voter
+-- at least one of these requests, taken in order by the groups' voters `W`, changes its group's voter
 abbrev pub Changes : World → List (ℕ × Request) → Type 0
 Changes W [] = ⊥
 Changes W (q ∷ qs) = (next (W q.0) q.1 ≢ W q.0) ⊎ Changes (after_one W q) qs
@@ -29,8 +29,8 @@ AreWrites W (round ∷ rounds) cuts (wrote ∷ writes) =
 abbrev pub AreOutlines : (ℕ → State) → World → Type 0
 AreOutlines outlines W = (g : ℕ) → outlines g ≡ without_bytes (W g)
 
--- if `old` has the outlines of the groups' voters, `new` has those after these requests, and `wrote` says whether one
--- of the requests changed a voter
+-- Let `old` have the outlines of the groups' voters. Then `new` has those after these requests, and `wrote` says
+-- whether one of the requests changed a voter.
 abbrev pub Takes : (ℕ → State) → (ℕ → State) → List (ℕ × Request) → Bool → Type 0
 Takes old new qs wrote =
     (W : World) → AreOutlines old W → Decides wrote (Changes W qs) × AreOutlines new (after W qs)

@@ -187,8 +187,9 @@ abbrev pub GivesItems : {X : Type 0} → Result (Vec X) Error → Result (List X
 GivesItems (Ok x) reading = reading ≡ Ok x.items
 GivesItems (Err e) reading = FailsOrMemory e reading
 
--- A check of the end of a footer returned `result`. It was given the total length of the entries as `len`, which is
--- 2 ^ 64 - 1 if the total is more. The result is right for each total `sum` for which `len` is given.
+-- `result` is that of the check whether `rest` is empty and the entries fill a block of `block_len` bytes. The check
+-- got the entries' total length as `len`, which is 2 ^ 64 - 1 if the total is more. The result is right for each
+-- total `sum` that gives this `len`.
 abbrev pub TellsWhole : Result (Unit {0}) Error → ℕ → ℕ → List ℕ → Type 0
 TellsWhole result block_len len rest =
     (sum : ℕ) → len ≡ min sum (2 ^ 64 - 1) → GivesOrMemory result (whole_of block_len sum rest)

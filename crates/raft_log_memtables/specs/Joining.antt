@@ -33,8 +33,8 @@ pub record JoinsOne (old new : MemTables) (group : ℕ) (newer : GroupTable) : T
   pub fits : LeavesHole (shown_of old group) (replay_of newer.table) → ⊥
   pub others : (g : ℕ) → (group == g) ≡ false → StaysAt old new g
 
--- Why a table of the later segment isn't joined. The error is `Hole` if the table's entries leave a hole. It may always
--- be `Memory`.
+-- Why the later segment's table of a group, with the replay's result `z`, isn't joined to the earlier table `v`. The
+-- error is `Hole` only if the later entries leave a hole. Else it is `Memory`.
 abbrev pub TableRefused : Shown → Replayed → Error → Type 0
 TableRefused v z error = ((error ≡ errors.Hole) × LeavesHole v z) ⊎ (error ≡ errors.Memory)
 
@@ -46,7 +46,7 @@ JoinsAll old newer new = (g : ℕ) → JoinsAt old newer new g
 abbrev pub JoinsSome : MemTables → MemTables → MemTables → Type 0
 JoinsSome old newer new = (g : ℕ) → StaysAt old new g ⊎ JoinsAt old newer new g
 
--- Why the later segment isn't joined. The error is `Hole` if its entries leave a hole in some group. It may always be
+-- Why the later segment isn't joined. The error is `Hole` only if its entries leave a hole in some group. Else it is
 -- `Memory`.
 abbrev pub JoinRefused : MemTables → MemTables → Error → Type 0
 JoinRefused old newer error =
@@ -81,14 +81,14 @@ UnmarkedAt old new g = (shown_of new g ≡ unmarked (shown_of old g)) × (counts
 abbrev pub MergesSome : MemTables → MemTables → MemTables → Type 0
 MergesSome old append new = (g : ℕ) → UnmarkedAt old new g ⊎ MergesAt old append new g
 
--- the result of replaying a group with this table, after an atomic group in these files was read; nothing without a
--- table
+-- What was replayed into a group's table, after an atomic group in these files was read. Files that were noted before
+-- stay noted. Without a table, it is nothing.
 abbrev pub read_noted_in : GroupFiles → Option Raw → Replayed
 read_noted_in files None = nothing_replayed
 read_noted_in files (Some t) = with_read_group (replay_of t) files
 
--- the result of replaying a group with this table, after an atomic group in these files ended; nothing without a
--- table
+-- What was replayed into a group's table, after an atomic group in these files ended. Files that were noted before stay
+-- noted only while the group still has something in Rewrite up to the last of them. Without a table, it is nothing.
 abbrev pub noted_in : GroupFiles → Option Raw → Replayed
 noted_in files None = nothing_replayed
 noted_in files (Some t) = record (replay_of t) { table = with_group t files }

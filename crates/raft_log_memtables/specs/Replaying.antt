@@ -1,4 +1,5 @@
--- How records are replayed into the tables of all groups.
+-- How records are replayed into the tables of all groups. The flag `q` is true for records of Append, and false for
+-- those of Rewrite.
 use Rattle.std.specs.Prelude.{◌≡◌, ℕ, ◌==◌, ◌⊎◌, Bool, true, false, List, [], ◌∷◌, ◌++◌}
 use Rattle.raft_log_record_base.specs.declared.errors.Error.{Error}
 use Rattle.raft_log_record_base.specs.declared.errors.Error.TheVariants as errors
@@ -12,18 +13,17 @@ use Rattle.raft_log_memtables.specs.declared.mem_tables.MemTables.{MemTables}
 use Rattle.raft_log_memtables.specs.Tables.{counts, promise_of, replayed_of, shown_of}
 use Rattle.raft_log_memtables.specs.Batch.{counts_after, counts_at_end, MayFollowAll}
 
--- the result of a replay, which was `z`, after these items were read in file `n`, of Append if `q` is true, else of
--- Rewrite
+-- the result of a replay after these items were read in file `n`; before them it was `z`
 abbrev pub all_replayed : Bool → ℕ → Replayed → List (Item Place (List ℕ)) → Replayed
 all_replayed q n z [] = z
 all_replayed q n z (x ∷ xs) = all_replayed q n (replayed q n z x) xs
 
--- in Append, where `q` is true, the item leaves no hole and no index too high after entries with the range `w`
+-- in Append, the item leaves no hole and no index too high after entries with the range `w`
 abbrev pub MayBeRead : {E V : Type 0} → Bool → Window → Item E V → Type 0
 MayBeRead q w x = q ≡ true → MayFollow w x
 
--- Why an item isn't replayed onto entries with the range `w`. The error is `Hole` if this is Append, and the run
--- leaves a hole or an index too high. It may always be `Memory`.
+-- Why an item isn't replayed onto entries with the range `w`. The error is `Hole` only in Append, if the run leaves a
+-- hole or an index too high. Else it is `Memory`.
 abbrev pub ReadRefused : {E V : Type 0} → Bool → Window → Item E V → Error → Type 0
 ReadRefused q w x error =
     ((error ≡ errors.Hole) × (q ≡ true) × (MayFollow w x → ⊥)) ⊎ (error ≡ errors.Memory)

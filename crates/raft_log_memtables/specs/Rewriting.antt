@@ -14,9 +14,9 @@ use Rattle.raft_log_memtable.specs.Room.{Promise, count_of, needs, with_moves, w
 use Rattle.raft_log_memtables.specs.declared.mem_tables.MemTables.{MemTables}
 use Rattle.raft_log_memtables.specs.Tables.{counts, has_table, promise_of, shown_of}
 
--- The table after this item was written to file `n` of Rewrite. Of a run, entries that the table still has and the gate
--- allows move to the run's places (`rewritten_by`). A value that the table still has and the gate allows moves to file
--- `n`. A Clean, Compact or Del is a tombstone that was owed, and changes nothing.
+-- The table after this item was written to file `n` of Rewrite. A run moves the entries that the table still has and
+-- the gate allows to the run's places (`rewritten_by`). A put moves the key's value to file `n`, if the table still has
+-- it and the gate allows it. A Clean, Compact or Del is a tombstone that was owed, and changes nothing.
 abbrev pub rewritten_item : Option ℕ → ℕ → Shown → Item Place (List ℕ) → Shown
 rewritten_item gate n v (Run f ps) = rewritten_by gate v (Run f ps)
 rewritten_item gate n v (Put k w) = key_rewritten gate v k n

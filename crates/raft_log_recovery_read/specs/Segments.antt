@@ -22,7 +22,7 @@ is_at_end files index = length files - index == 1
 abbrev pub id_of : LogQueue → File → FileId
 id_of queue file = record { queue = queue; seq = file.seq }
 
--- `file` is at position `index` of its queue's files, and `read` is what it contains; its damage is tolerated
+-- `file` is at position `index` of its queue's files, and `read` is what it contains; its damage, if any, is tolerated
 pub record ReadsAt (mode : RecoveryMode) (queue : LogQueue) (files : List File) (d : Disk) (index : ℕ)
     (file : File) (read : FileReading) : Type 0 where
   pub inside : index < length files

@@ -19,7 +19,7 @@ use Rattle.raft_log_judge.specs.declared.outcome.Standing.{Standing}
 use Rattle.raft_log_judge.specs.declared.outcome.Standing.TheVariants.{Broken, Closed, Running}
 
 -- A view of a log: whether an engine has it open, the contents `now` that readers see, and `kept`, one of the contents
--- that a crash may leave. A log has a view for each of these.
+-- that a crash may leave. A log has one view for each possible `kept`.
 pub record View : Type 0 where
   pub standing : Standing
   pub now : Contents
@@ -34,7 +34,7 @@ abbrev pub seen : Standing → Contents → Contents → View
 seen Running now kept = record { standing = Running; now = now; kept = kept }
 seen standing now kept = unseen standing kept
 
--- `kept` are the contents `m` and then the first few of the batches `pending`, maybe none or all
+-- `kept` are the contents `m` after a prefix of the batches `pending`, maybe none or all
 pub record Reaches (m : Contents) (pending : List BatchRecord) (kept : Contents) : Type 0 where
   pub front : List BatchRecord
   pub rest : List BatchRecord
@@ -59,7 +59,9 @@ abbrev pub AnyFits : List ModelLog → View → Type 0
 AnyFits [] view = ⊥
 AnyFits (log ∷ logs) view = Fits log view ⊎ AnyFits logs view
 
--- what a call with this answer does to a log over which an engine runs; `Never` if the answer is impossible
+-- What a call with this answer does to the log of a running engine. `Adds` adds the call's batch, `Turns` only changes
+-- the standing; their flag says whether all batches are durable then. `Reads` changes nothing. An impossible answer
+-- gives `Never`.
 abbrev pub call_outcome : {B : Type 0} → Call B → Answer → Outcome
 call_outcome (Write batch sync) Done = Adds Running sync
 call_outcome (Write batch sync) Refused = Turns Running false

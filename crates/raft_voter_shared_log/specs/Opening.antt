@@ -9,7 +9,8 @@ use Rattle.raft_voter_recovery.specs.declared.unread.Unread.{Unread}
 use Rattle.raft_voter_recovery.specs.declared.unread.Unread.TheVariants.{Memory}
 use Rattle.raft_voter_store.specs.Opening.{FailsToOpenVoters, OpensVoters}
 
--- A store was opened with the settings of `config`. Its engine has the state `t`, and its outlines are `os`.
+-- A store was opened from the files `old`, with the settings of `config`. Its engine has the state `t`. Its outlines,
+-- the voters without their entries' data, are `os`.
 abbrev pub OpensStore :
     {F : Type 0} → (F → Disk) → (F → List ℕ → ℕ → Type 0) → Config → F → EngineState → (ℕ → State) → Type 0
 OpensStore disk tells config old t os =

@@ -15,8 +15,8 @@ use Rattle.raft_voter_durability_laws.specs.Requests.{Broke, TurnedDown}
 use Rattle.raft_voter_durability_laws.specs.Ends.{Answered, GaveUp, Unsynced, Went}
 
 -- The first requests of the round `qs` got the replies `told`, and the next request `q` was rejected with an error. The
--- call ends in the state `t`, whose disk is no earlier than that after `q`: a file call that failed at `q` is counted
--- there too.
+-- round began in the state `s`, with the outlines `os`. It ended in `t`, whose disk is no earlier than that after `q`.
+-- So a file call that failed at `q` is counted there too.
 pub record TurnsDown (qs : List (ℕ × Request)) (told : List Reply) (q : ℕ × Request) (s t : EngineState) (os : ℕ → State)
     : Type 0 where
   pub wrote : Bool
@@ -28,13 +28,14 @@ pub record TurnsDown (qs : List (ℕ × Request)) (told : List Reply) (q : ℕ �
   pub turned : TurnedDown q error mid next outlines
   pub later : IsLater next.pipes.disk t.pipes.disk
 
--- Each reply `Refused` has a reason. Either its request is out of range; or the request was rejected with an error,
--- after the requests before it were served.
+-- Each reply `Refused` in `told` has a reason. Either its request is out of range; or the request was rejected with an
+-- error, after the requests before it were served.
 abbrev pub AreExcused : List (ℕ × Request) → List Reply → EngineState → EngineState → (ℕ → State) → Type 0
 AreExcused qs told s t os = (place : ℕ) (q : ℕ × Request) → slice_get told place ≡ Some Refused
     → slice_get qs place ≡ Some q → (in_range q.1 ≡ false) ⊎ TurnsDown qs (take place told) q s t os
 
--- the first requests of the round `qs` got the replies `told`, and each reply `Refused` has a reason
+-- The first requests of the round `qs` got the replies `told`, and each reply `Refused` has a reason. `wrote` is
+-- false only if no record was written. The state `s` became `t`, and the outlines `os` became `us`.
 pub record Passes (qs : List (ℕ × Request)) (told : List Reply) (wrote : Bool) (s t : EngineState) (os us : ℕ → State)
     : Type 0 where
   pub went : Went qs told wrote s t os us

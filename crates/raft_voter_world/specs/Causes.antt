@@ -40,7 +40,7 @@ pub data HasItsCause {S F : Type 0} (v : Service S) (Happened : Moment S F → S
       → IsCutOff v old round cause new → HasItsCause v Happened round
   was_idle : (files : F) → Happened (idle round files) (Closed files) → IsIdle round → HasItsCause v Happened round
 
--- Each round in the report of a run has one of these causes.
+-- each round in the report of a run has its cause, as `HasItsCause` says
 abbrev pub EachRoundHasItsCause : {S F : Type 0} → Service S → Upkeep S → Disk S F → Type 0
 EachRoundHasItsCause {S} {F} v u d = (files : F) (events : List Event) (report : WorldReport F)
     → (run : IsRun v u d files events report)

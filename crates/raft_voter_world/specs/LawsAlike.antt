@@ -9,8 +9,8 @@ use Rattle.raft_voter_world.specs.Independent.{AreIndependent}
 
 -- Any two stores.
 
--- Both stores gave the same replies to these rounds. Each group got the replies of a voter that takes only this
--- group's requests. Both stores serve these voters afterwards.
+-- Both stores gave the same replies to these rounds. Each group got the replies of a voter, as it is in `W`, that
+-- takes only this group's requests. Both stores serve these voters afterwards.
 pub record AnsweredAlike {S T : Type 0} (v : Service S) (w : Service T) (W : World)
     (rounds : List (List (ℕ × Request))) (told heard : List (List Reply)) (new : S) (last : T) : Type 0 where
   pub same : told ≡ heard

@@ -1,5 +1,6 @@
--- How the tables of two consecutive segments are joined, and how what was read of Append is applied over what was read
--- of Rewrite.
+-- How the tables of two consecutive segments are joined, and how what was read of Append is applied over what was
+-- read of Rewrite. `old` and `new` are the tables before and after. `newer` is what was read of the later segment,
+-- `append` what was read of Append.
 use Rattle.std.specs.Prelude.{◌≡◌, ℕ, ◌==◌, ◌⊎◌, Bool, false, ◌&&◌, ◌||◌, not, Option, Some, None}
 use Rattle.raft_log_record_base.specs.declared.errors.Error.{Error}
 use Rattle.raft_log_record_base.specs.declared.errors.Error.TheVariants as errors
@@ -26,7 +27,7 @@ pub record JoinsAt (old newer new : MemTables) (g : ℕ) : Type 0 where
   pub counting : counts new g ≡ counts_with old newer g
   pub fits : LeavesHole (shown_of old g) (replayed_of newer g) → ⊥
 
--- one table of the later segment was joined to the table of its group, without a hole, and no other group changed
+-- the table `newer` of group `group` was joined to the group's table, without a hole, and no other group changed
 pub record JoinsOne (old new : MemTables) (group : ℕ) (newer : GroupTable) : Type 0 where
   pub read : replayed_of new group ≡ joined (replayed_of old group) (replay_of newer.table)
   pub counting : counts new group ≡ newer.counts || (counts old group && not (shown newer.table).cleaned)
@@ -62,7 +63,7 @@ pub record MergesAt (old append new : MemTables) (g : ℕ) : Type 0 where
 abbrev pub SameAt : MemTables → MemTables → ℕ → Type 0
 SameAt old new g = (shown_of new g ≡ shown_of old g) × (counts new g ≡ counts old g)
 
--- one table of Append was applied over the table of its group, and no other group changed
+-- the table `append` of group `group` was applied over the group's table, and no other group changed
 pub record MergesOne (old new : MemTables) (group : ℕ) (append : GroupTable) : Type 0 where
   pub shows : shown_of new group ≡ merged (shown_of old group) (replay_of append.table)
   pub counting : counts new group ≡ append.counts || (counts old group && not (shown append.table).cleaned)

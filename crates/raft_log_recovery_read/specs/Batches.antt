@@ -1,4 +1,6 @@
--- Batches that were read from a file and passed to a replay machine, which applies them one after another.
+-- Batches that were read from a file and passed to a replay machine, which applies them one after another. `reads`
+-- relates a machine to the batches that it has read, and `declines` batches to errors with which it may reject the
+-- last one.
 use Rattle.std.specs.Prelude.{◌≡◌, Option, Some, None, List, ◌++◌, map}
 use Rattle.raft_log_record_base.specs.declared.errors.Error.{Error}
 use Rattle.raft_log_record_base.specs.declared.pipe_log.FileId.{FileId}
@@ -22,7 +24,8 @@ pub record DeclinesSome {M : Type 0} (reads : List Batch → M → Type 0) (decl
   pub split : batches ≡ first ++ rest
   pub declined : (before : List Batch) → reads before machine → declines (before ++ first) error
 
--- These batches were passed to a machine, one after another. It accepted them all, or rejected one with this error.
+-- These batches were passed to a machine, one after another, which turned it from `old` into `new`. It accepted them
+-- all, or rejected one with this error.
 abbrev pub HasTaken : {M : Type 0} → (List Batch → M → Type 0) → (List Batch → Error → Type 0) → List Batch
     → M → M → Option Error → Type 0
 HasTaken reads declines batches old new None = TakesBatches reads batches old new

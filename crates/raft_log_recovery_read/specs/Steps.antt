@@ -1,4 +1,4 @@
--- A reader reads one more record of a file.
+-- A reader reads one more record of a file on disk `d`. `old` and `new` are the reader before and after.
 use Rattle.std.specs.Prelude.{◌≡◌, ℕ, ◌<◌, Option, Some, None, List, IsTrue}
 use Rattle.raft_log_record_base.specs.Fault.{Fault}
 use Rattle.raft_log_record_base.specs.declared.errors.Error.{Error}
@@ -20,8 +20,8 @@ pub record StandsAs (d : Disk) (old new : LogItemBatchFileReader) : Type 0 where
   pub file : file_of new ≡ file_of old
   pub end : end_of new ≡ end_of old
 
--- The reader read a batch, and knows the location of its entry block. If all reads were honest, it is the next one, and
--- it has these items.
+-- The reader read a batch, and knows the location of its entry block. If all reads were honest, it is the next batch
+-- of the file, and it has these items.
 pub record TakesBatchOf (d : Disk) (file : OpenFile) (old new : LogItemBatchFileReader) (items : List LogItem)
     : Type 0 where
   pub batch : IsTrue (honest_of new) → HasBatch file (bytes_of file.source d) (end_of old) items (end_of new)

@@ -55,7 +55,7 @@ pub record AddsLogs (logs : List ModelLog) (old new : List Candidate) : Type 0 w
   pub adds : new ≡ old ++ more
   pub are : map log_of more ≡ logs
 
--- candidates are added for what the log may be after this event with this answer
+-- candidates are added to the list `old` for what `log` may be after this event with this answer
 pub record AddsNexts {C : Type 0} (log : ModelLog) (event : Event (List Change) C) (answer : Answer)
     (old new : List Candidate) : Type 0 where
   pub more : List Candidate

@@ -1,4 +1,5 @@
--- Views of a log: what its readers see, and what a crash may leave. They decide which answers are possible.
+-- Views of a log: what its readers see, and what a crash may leave. They decide which answers are possible. `says`
+-- gives the record of a batch.
 use Rattle.std.specs.Prelude.{◌≡◌, ◌⊎◌, ◌↔◌, true, false, List, [], ◌∷◌, ◌++◌, option_map}
 use Rattle.raft_log_model_laws.specs.Item.Record.{Plain}
 use Rattle.raft_log_model_laws.specs.Groups.{taken}
@@ -147,14 +148,14 @@ abbrev pub Moves : {B C : Type 0} → (B → BatchRecord) → View → Event B C
 Moves says view event answer next =
     Turned (outcome view.standing event answer) (batch_of says event) (IsRead view.now event answer) view next
 
--- from this view on, these answers to these events are possible
+-- from `view` on, `answers` are possible as the answers to `events`, one for each
 abbrev pub Goes : {B C : Type 0} → (B → BatchRecord) → View → List (Event B C) → List Answer → Type 0
 Goes says view [] [] = Unit {0}
 Goes says view (event ∷ events) (answer ∷ answers) =
     (next : View) × Moves says view event answer next × Goes says next events answers
 Goes says view events answers = ⊥
 
--- from a view of one of the logs on, these answers to these events are possible
+-- from a view of one of the logs on, `answers` are possible as the answers to `events`
 abbrev pub AnyGoes : {B C : Type 0} → (B → BatchRecord) → List ModelLog → List (Event B C) → List Answer → Type 0
 AnyGoes says logs events answers = (view : View) × AnyFits logs view × Goes says view events answers
 

@@ -16,8 +16,8 @@ abbrev pub OpensStore :
 OpensStore disk tells config old t os =
     (settings : Config) × (settings_of settings ≡ settings_of config) × OpensVoters disk tells settings old t os
 
--- Either memory ran out before the open began, and the file system is unchanged; or the open, with the settings of
--- `config`, failed with `cause`.
+-- Either memory ran out before the open began, and the file system is unchanged. Or the open, with the settings of
+-- `config`, failed with `cause`, and returned the files `new` in place of `old`.
 abbrev pub FailsToOpenStore : {F : Type 0} → (F → Disk) → (F → List ℕ → ℕ → Type 0) → Config → Unread → F → F → Type 0
 FailsToOpenStore disk tells config cause old new = ((cause ≡ Memory) × (new ≡ old))
     ⊎ ((settings : Config) × (settings_of settings ≡ settings_of config)

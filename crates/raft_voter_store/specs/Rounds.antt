@@ -1,4 +1,5 @@
--- How the store's loop serves the requests of a round one by one, and how the round ends.
+-- How the store's loop serves the requests of a round one by one, and how the round ends. `s` and `os` are the
+-- engine's state and the outlines before, `t` and `us` those after.
 use Rattle.std.specs.Prelude.{◌≡◌, ◌⊎◌, ◌≤◌, ℕ, Bool, false, List, length, slice_get, Some, take}
 use Rattle.raft_log_fs.specs.Causes.{IsLater}
 use Rattle.raft_log_record_base.specs.declared.errors.Error.{Error}
@@ -68,8 +69,9 @@ pub record CutsRoundOff (qs : List (ℕ × Request)) (refused : List ℕ) (s t :
   pub left : (home : LogDirectories) (V : World) → Keeps home s V → AreOutlines os V
       → GaveUp home V qs told s t ⊎ Unsynced home V qs told s t
 
--- If a round got as far as the request `q`, with the replies `told`, it gets past `q`, with the replies `now`. `wrote`
--- is false only if the round wrote no record before `q`; `more` is false only if it wrote none up to and with `q`.
+-- If a round got as far as the request `q`, with the replies `told`, the state `t` and the outlines `us`, it gets
+-- past `q`, with `now`, `u` and `ws`. `wrote` is false only if it wrote no record before `q`; `more` is false only if
+-- it wrote none up to and with `q`.
 abbrev pub GoesOn : ℕ × Request → Bool → Bool → List Reply → List Reply → EngineState → EngineState → (ℕ → State) → (ℕ → State) → Type 0
 GoesOn q wrote more told now t u us ws = (qs : List (ℕ × Request)) (s : EngineState) (os : ℕ → State)
     → Passes qs told wrote s t os us → slice_get qs (length told) ≡ Some q → Passes qs now more s u os ws

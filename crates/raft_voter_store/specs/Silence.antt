@@ -27,7 +27,7 @@ IfVotersStay os qs P = (V : World) → AreOutlines os V → All (LeavesVoter V) 
 abbrev pub AsksForNone : ℕ × Request → Type 0
 AsksForNone q = (from to : ℕ) → q.1 ≡ Read from to → ⊥
 
--- The call only read: the files, the pending batches and the outlines are unchanged. At most the engine's cached block
--- differs.
+-- The call, from the state `s` to `t`, only read: the files, the pending batches and the outlines are unchanged. At
+-- most the engine's cached block differs.
 abbrev pub ReadsAlone : EngineState → EngineState → Outlines → Outlines → Type 0
 ReadsAlone s t old new = StaysButBlock s t × (new ≡ old)

@@ -53,7 +53,7 @@ WholeGroupsMayEnd E = (at : Located → E) (gate : Option ℕ) (ps : List Writte
     → MayEnd at (whole_end files k w) v items
 
 -- Assume that in each queue, a table's file numbers never fall as the index rises. Noting an atomic group's files in
--- the table is the same as noting them with some `least`, a file below which the table has nothing in Rewrite.
+-- the table is noting them with some `least`: below this file, the table has nothing in Rewrite.
 abbrev pub WholeGroupsAreNoted : Type 0
 WholeGroupsAreNoted = (t : Raw) (files : GroupFiles) (a r : ℕ) → IsOrderly (shown t) → FilesRise a r (shown t)
     → (least : ℕ) × IsLeastInRewrite (shown t) least × (with_group t files ≡ with_note (shown t) least files)

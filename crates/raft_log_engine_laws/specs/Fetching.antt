@@ -1,5 +1,5 @@
--- Reads of entries, which need the blocks of the log's files. They return the entries of the log's contents, with
--- their bytes.
+-- Reads of entries, which need the blocks of the log's files. They return the entries of the log's contents, parsed
+-- by `reading` as messages. `s` and `t` are the engine's states before and after a call.
 use Rattle.std.specs.Prelude.{◌≡◌, ◌⊎◌, ◌+◌, ◌-◌, ◌≤◌, ◌<◌, ℕ, true, false, List, [], ◌∷◌, ◌++◌, length, Option, Some, None, Err, if◌then◌else◌}
 use Rattle.raft_log_model_laws.specs.Groups.{taken}
 use Rattle.raft_log_model_laws.specs.Meaning.Slot.{Index}

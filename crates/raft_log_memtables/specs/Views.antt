@@ -24,7 +24,7 @@ view_of v m = record {
   map = m;
 }
 
--- The tables are well formed, and represent the contents `m`, if `at` gives the bytes at each place.
+-- The tables `v` are well formed, and represent the contents `m`, if `at` gives the entry at each place.
 pub record AreMeant {E : Type 0} (at : Located → E) (v : ℕ → Shown) (m : Map E (List ℕ)) : Type 0 where
   pub orderly : (g : ℕ) → IsOrderly (v g)
   pub meant : (g : ℕ) → IsMeant at (v g) (m g)

@@ -24,8 +24,8 @@ pub record DeclinesSome {M : Type 0} (reads : List Batch → M → Type 0) (decl
   pub split : batches ≡ first ++ rest
   pub declined : (before : List Batch) → reads before machine → declines (before ++ first) error
 
--- These batches were passed to a machine, one after another, which turned it from `old` into `new`. It accepted them
--- all, or rejected one with this error.
+-- These batches were passed to the machine `old`, one after another. It accepted them all, and is `new`, or rejected
+-- one with this error.
 abbrev pub HasTaken : {M : Type 0} → (List Batch → M → Type 0) → (List Batch → Error → Type 0) → List Batch
     → M → M → Option Error → Type 0
 HasTaken reads declines batches old new None = TakesBatches reads batches old new

@@ -9,8 +9,8 @@ use Rattle.raft_voter_world.specs.Independent.{AreIndependent}
 
 -- Any two stores.
 
--- The replies of both stores to these rounds, `told` and `heard`, are the same. Each group got the replies of its
--- voter in `W`, if this takes only the group's requests. The stores, now `new` and `last`, serve these voters.
+-- The replies of both stores to these rounds, `told` and `heard`, are the same. Each group got the replies that its
+-- voter in `W` gives to this group's requests alone. The stores, now `new` and `last`, serve the voters after these.
 pub record AnsweredAlike {S T : Type 0} (v : Service S) (w : Service T) (W : World)
     (rounds : List (List (ℕ × Request))) (told heard : List (List Reply)) (new : S) (last : T) : Type 0 where
   pub same : told ≡ heard

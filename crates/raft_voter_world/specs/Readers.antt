@@ -14,9 +14,8 @@ use Rattle.raft_voter_world.specs.Run.{EndsWell, IsRun, Knows, moments_of}
 use Rattle.raft_voter_world.specs.Stores.{Disk, Upkeep}
 
 -- What holds for these moments, if by the proof `known` an open of `storage` finds only voters that are possible
--- after `cut`. After each moment this holds for the next storage and cut-off round; the reader continues with any
--- proof of it. Opens show such voters at some position, or leave them in the files, as in `Goes`. `End` is true at
--- the end. After a CRC collision nothing is claimed.
+-- after `cut`. After each moment the same holds for the next storage and cut-off round, and the reader continues with
+-- any proof of it. The rest is as in `Goes`: what opens show, `End` at the end, and nothing after a CRC collision.
 abbrev pub GoesBy :
     {S F : Type 0}
     → (v : Service S) (d : Disk S F) → (Storage S F → CutRound → Type 0)

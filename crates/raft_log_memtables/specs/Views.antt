@@ -83,9 +83,9 @@ pub record GroupEnd : Type 0 where
 abbrev pub ended : GroupEnd → (ℕ → Shown) → ℕ → Shown
 ended e v g = if e.about g then with_note (all_moved (v g) (e.moves g)) (e.least g) e.files else v g
 
--- In raft group `g`, with the table `v g`, the copies of the atomic group's end `e` are allowed, and are in files up
--- to its last one. After them, the raft group has nothing of Rewrite below file `e.least g`. The items of all records
--- of the atomic group have the same effect as these copies.
+-- In raft group `g`, with the table `v g`, the copies of the end `e` are allowed, and are in files up to its last
+-- one. After them, the raft group has nothing of Rewrite below file `e.least g`. The items of all records of the
+-- atomic group have the same effect as these copies.
 pub record MayEndIn {E : Type 0} (at : Located → E) (e : GroupEnd) (v : ℕ → Shown)
     (items : List (Tagged E (List ℕ))) (g : ℕ) : Type 0 where
   pub can : CanAllMove at (v g) (e.moves g)
@@ -93,8 +93,8 @@ pub record MayEndIn {E : Type 0} (at : Located → E) (e : GroupEnd) (v : ℕ �
   pub least : IsLeastInRewrite (all_moved (v g) (e.moves g)) (e.least g)
   pub taken_as : IsJoined (of_group g items) (copies_of at (v g) (e.moves g))
 
--- The end `e` is allowed in each raft group that it changes, and `items`, those of all records of the atomic group,
--- has none of other raft groups.
+-- The end `e` is allowed in each raft group that it changes. `items` are those of all records of the atomic group,
+-- and none is of another raft group.
 pub record MayEnd {E : Type 0} (at : Located → E) (e : GroupEnd) (v : ℕ → Shown)
     (items : List (Tagged E (List ℕ))) : Type 0 where
   pub about : (g : ℕ) → e.about g ≡ true → MayEndIn at e v items g

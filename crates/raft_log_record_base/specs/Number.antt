@@ -234,7 +234,7 @@ var_within (suc left) (b ∷ bs) =
 unfoldable pub var_u64_at : NumberReader ℕ
 var_u64_at bytes = var_within 9 bytes
 
--- reads a varint, and returns the signed number of which it is the zigzag code
+-- reads a varint, and returns the signed number whose zigzag code it is
 unfoldable pub var_i64_at : NumberReader ℤ
 var_i64_at = mapped_at from_zigzag var_u64_at
 

@@ -89,7 +89,7 @@ AreLogOpenings disk tells shows [] = Unit {0}
 AreLogOpenings disk tells shows (x ∷ xs) =
     IsShared disk tells shows x × IsFollowedInLog disk shows x xs × AreLogOpenings disk tells shows xs
 
--- the first opening is that of directories without a log
+-- the first opening found directories without a log
 abbrev pub BeginsBare : {F : Type 0} → (F → Disk) → List (LogSharing F) → Type 0
 BeginsBare disk [] = Unit {0}
 BeginsBare disk (x ∷ xs) = IsSound (disk x.found) × IsBare x.shared.opened.config (disk x.found)

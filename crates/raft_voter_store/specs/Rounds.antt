@@ -69,9 +69,9 @@ pub record CutsRoundOff (qs : List (ℕ × Request)) (refused : List ℕ) (s t :
   pub left : (home : LogDirectories) (V : World) → Keeps home s V → AreOutlines os V
       → GaveUp home V qs told s t ⊎ Unsynced home V qs told s t
 
--- If a round got as far as the request `q`, with the replies `told`, the state `t` and the outlines `us`, it gets
--- past `q`, with `now`, `u` and `ws`. `wrote` is false only if it wrote no record before `q`; `more` is false only if
--- it wrote none up to and with `q`.
+-- A round that got as far as the request `q` gets past it. Before `q` it has the replies `told`, the state `t` and
+-- the outlines `us`; after `q` it has `now`, `u` and `ws`. `wrote` is false only if it wrote no record before `q`;
+-- `more` is false only if it wrote none up to and with `q`.
 abbrev pub GoesOn : ℕ × Request → Bool → Bool → List Reply → List Reply → EngineState → EngineState → (ℕ → State) → (ℕ → State) → Type 0
 GoesOn q wrote more told now t u us ws = (qs : List (ℕ × Request)) (s : EngineState) (os : ℕ → State)
     → Passes qs told wrote s t os us → slice_get qs (length told) ≡ Some q → Passes qs now more s u os ws

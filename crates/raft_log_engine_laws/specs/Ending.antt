@@ -25,8 +25,9 @@ use Rattle.raft_log_engine_laws.specs.Parts.{FilesGoUp, HoldsInGroup, IsGroupPar
 use Rattle.raft_log_engine_laws.specs.GroupWriting.{LeavesRecords}
 use Rattle.raft_log_engine_laws.specs.Whole.{HasWhole, IsWholeCopy, batches_of, filed_copies, filed_items, parts_moved, whole_moves}
 
--- How the tables apply a whole atomic group. `about` says which groups' tables change; the parts have no items of the
--- others. After the change, group `g` has nothing in Rewrite in files below `least g`.
+-- How tables that show `v` apply a whole atomic group of the parts `ps`. `about` says which raft groups' tables
+-- change; the parts have no items of the others. After the change, group `g` has nothing in Rewrite in files below
+-- `least g`.
 pub record TakesWhole (gate : Option ℕ) (ps : List WrittenPart) (v : ℕ → Shown) : Type 0 where
   pub about : ℕ → Bool
   pub least : ℕ → ℕ
@@ -52,7 +53,7 @@ WholeGroupsMayEnd E = (at : Located → E) (gate : Option ℕ) (ps : List Writte
     → MayEnd at (whole_end files k w) v items
 
 -- Assume that in each queue, a table's file numbers never fall as the index rises. Noting an atomic group's files in
--- it is the same as noting them with some `least`, a file below which it has nothing in Rewrite.
+-- the table is noting them with some `least`: below this file, the table has nothing in Rewrite.
 abbrev pub WholeGroupsAreNoted : Type 0
 WholeGroupsAreNoted = (t : Raw) (files : GroupFiles) (a r : ℕ) → IsOrderly (shown t) → FilesRise a r (shown t)
     → (least : ℕ) × IsLeastInRewrite (shown t) least × (with_group t files ≡ with_note (shown t) least files)
@@ -70,8 +71,8 @@ pub record ShowsWhole (gate : Option ℕ) (ps : List WrittenPart) (files : Group
 abbrev pub files_of_group : UnendedGroup → FileBlockHandle → GroupFiles
 files_of_group o block = record { from = o.first.block.id.seq; to = block.id.seq }
 
--- After the record that ends an atomic group was written, and the tables applied the whole group, the log has the same
--- contents.
+-- Let the parts of an atomic group be copies that may move together (`HasWhole`). After the record that ends the
+-- group was written, and the tables applied the whole group, the log has the same contents.
 abbrev pub WrittenEndsKeepTheMap : Type 0
 WrittenEndsKeepTheMap = (home : LogDirectories) (e t : EngineState) (gate : Option ℕ) (o : UnendedGroup) (b : Batch)
     (block : FileBlockHandle) (m : LogMap) → HoldsInGroup home e m o → IsGroupPart o.number End b
@@ -80,9 +81,9 @@ WrittenEndsKeepTheMap = (home : LogDirectories) (e t : EngineState) (gate : Opti
     → ShowsWhole gate (parts_of o ++ record { block = block; batch = b } ∷ []) (files_of_group o block)
     e.tables t.tables → KeepsOrForgets e t → Represents home t m []
 
--- An append of the record that ends an atomic group failed, and the tables are unchanged. If the group is given up,
--- the log is as after any failed append to Rewrite. After `NumberRange` or `Memory` the group is also still open, and
--- may continue.
+-- An append of the record that ends an atomic group of copies failed, and the tables are unchanged. If the group is
+-- given up, the log is as after any failed append to Rewrite. After `NumberRange` or `Memory` the group is also still
+-- open, and may continue.
 pub record RefusedEndsKeepTheMap : Type 0 where
   pub given_up : (home : LogDirectories) (e t : EngineState) (gate : Option ℕ) (o : UnendedGroup) (b : Batch) (m : LogMap)
       (error : Error) → HoldsInGroup home e m o → IsGroupPart o.number End b

@@ -28,7 +28,7 @@ abbrev pub LogMap : Type 0
 LogMap = Map (List ℕ) (List ℕ)
 
 -- An engine's state: what its tables show of each group, which groups count, its pipes, and its cached entry block. A
--- group counts if an item of it came after its last Clean.
+-- group counts if it has had items and the last one wasn't a Clean.
 pub record EngineState : Type 0 where
   pub tables : ℕ → Shown
   pub counts : ℕ → Bool

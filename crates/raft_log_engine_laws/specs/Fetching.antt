@@ -1,5 +1,5 @@
--- Reads of entries, which need the blocks of the log's files. They return the entries of the log's contents, with
--- their bytes.
+-- Reads of entries, which need the blocks of the log's files. They return the entries of the log's contents, parsed
+-- by `reading` as messages. `s` and `t` are the engine's states before and after a call.
 use Rattle.std.specs.Prelude.{◌≡◌, ◌⊎◌, ◌+◌, ◌-◌, ◌≤◌, ◌<◌, ℕ, true, false, List, [], ◌∷◌, ◌++◌, length, Option, Some, None, Err, if◌then◌else◌}
 use Rattle.raft_log_model_laws.specs.Groups.{taken}
 use Rattle.raft_log_model_laws.specs.Meaning.Slot.{Index}
@@ -79,8 +79,9 @@ abbrev pub AreToRead : EngineState → ℕ → ℕ → ℕ → Option ℕ → Li
 AreToRead s g begin end max es = ((s.counts g ≡ false) × (es ≡ []))
     ⊎ ((s.counts g ≡ true) × AreIn (s.tables g) begin end × (es ≡ fetched (s.tables g) begin end max))
 
--- The entries of `AreToRead` were read, and their messages were appended to `old`. They are the entries of the log's
--- contents after the pending batches.
+-- The entries of `AreToRead` were read, and their messages were appended to `old`, which became `new`. There are
+-- `count` of them. They are the entries of the log's contents after the pending batches. At most the cached block
+-- changed.
 pub record FetchesTo {M : Type 0} (reading : List ℕ → Option M) (g begin end : ℕ) (max : Option ℕ) (s t : EngineState)
     (old new : List M) (count : ℕ) : Type 0 where
   pub lived : has_failed s ≡ false

@@ -28,8 +28,8 @@ pub record MayBeWritten (e : EngineState) (b : Batch) : Type 0 where
   pub says : SaysItself (signed_for b) b
   pub laid : IsLaidOut b
 
--- After the pipes wrote a batch and the tables applied it under the number of its file, it is the last batch of the
--- log. A prefix of the log's batches may be durable.
+-- Suppose the batch `b` may be written. After the pipes wrote it and the tables applied it under the number of its
+-- file, it is the last batch of the log. A prefix of the log's batches may be durable.
 abbrev pub BatchesAreWritten : Type 0
 BatchesAreWritten = (home : LogDirectories) (e t : EngineState) (b : Batch) (block : FileBlockHandle) (m : LogMap)
     (pending : List LogRecordValue) → Represents home e m pending → MayBeWritten e b
@@ -37,8 +37,9 @@ BatchesAreWritten = (home : LogDirectories) (e t : EngineState) (b : Batch) (blo
     → t.tables ≡ all_shown block.id.seq e.tables (items_at block b) → KeepsOrForgets e t
     → EndsAt home t m (pending ++ said_of b ∷ [])
 
--- After the pipes failed to append a batch, and the tables stayed the same, the log is without the batch. If the
--- engine has failed, its files can be opened, with the batch or without it.
+-- Suppose the batch `b` may be written. After the pipes failed to append it, and the tables stayed the same, the log
+-- is without the batch, as `Leaves` says. If the engine has failed, its files can be opened, with the batch or
+-- without it.
 abbrev pub RefusalsLeaveNoTrace : Type 0
 RefusalsLeaveNoTrace = (home : LogDirectories) (e t : EngineState) (b : Batch) (m : LogMap) (pending : List LogRecordValue)
     (error : Error) → Represents home e m pending → MayBeWritten e b → t.tables ≡ e.tables → KeepsOrForgets e t

@@ -14,8 +14,9 @@ abbrev pub GroupsMayBeGivenUp : Type 0
 GroupsMayBeGivenUp = (home : LogDirectories) (e : EngineState) (m : LogMap) (o : UnendedGroup) → HoldsInGroup home e m o
     → Represents home e m []
 
--- An atomic group `n` is begun between the records `front` and `back`. If no record of `back` continues it, all other
--- records count as if the group's records were not there.
+-- Atomic group `n` is begun between the records `front` and `back`, and not ended. In `back`, each middle or end of a
+-- group comes right after its begin or a middle of it; so none continues `n`. Then all other records count as if
+-- those of `n` were not there.
 abbrev pub GroupsLeftOpenCountNot : Type 0 → Type 0 → Type 0
 GroupsLeftOpenCountNot E V = (front back : List (Record E V)) (n : ℕ) (first : List (Tagged E V))
     (more : List (List (Tagged E V))) → UnbrokenFrom None back

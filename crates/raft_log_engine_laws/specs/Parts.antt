@@ -51,8 +51,9 @@ gone_on_by o p = record { number = o.number; first = o.first; more = o.more ++ p
 abbrev pub said_items : Batch → List (Tagged (List ℕ) (List ℕ))
 said_items b = tagged_items (entry_bytes b.entries) b.items
 
--- The batch may be written as a part of atomic group `number`: it isn't empty, and its mark has this number and status.
--- No run of entries in it ends past the greatest index that an entry may have.
+-- The batch may be written as a part of atomic group `number`: it isn't empty, and its mark has this number and
+-- status. Its record is read back with its contents. No run of entries in it ends past the greatest index that an
+-- entry may have.
 pub record IsGroupPart (number : ℕ) (status : AtomicGroupStatus) (b : Batch) : Type 0 where
   pub some : b.items ≡ [] → ⊥
   pub part : marking_of_items b.items ≡ Part number status

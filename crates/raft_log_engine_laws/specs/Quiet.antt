@@ -32,8 +32,8 @@ FailedSyncsLeaveLogs = (which : Which) (home : LogDirectories) (v w : LogPipes) 
     → RunsAs home v m pending → FailsToSyncQueue which v w
     → Fails v.disk w.disk × IsRecoverableAs home w.disk m pending
 
--- A rotation of Append makes all pending batches durable. If nothing was pending in either queue, nothing is after it.
--- A rotation of Rewrite without pending batches leaves nothing pending in either queue.
+-- A rotation of Append makes all pending batches durable. If nothing was pending in either queue, nothing is after
+-- it. If no batch is pending, nothing is pending in either queue after a rotation of Rewrite.
 pub record RotationsKeepTheMap : Type 0 where
   pub append : (home : LogDirectories) (e t : EngineState) (m : LogMap) (pending : List LogRecordValue) → Represents home e m pending
       → SameTables e t → RotatesQueue InAppend e.pipes t.pipes → Represents home t (taken m pending) []

@@ -52,16 +52,16 @@ pub record ReadsValue (e : EngineState) (g : ℕ) (key : List ℕ) (value : Opti
 abbrev pub is_within : Option (List ℕ) → Option (List ℕ) → List ℕ → Bool
 is_within start end k = is_from start k && is_below end k
 
--- `es` lists the keys of group `g` in the range that have a value in the contents `m`, with these values. Each key is
--- there once, in the order of the keys' bytes.
+-- `es` lists the keys of group `g` from `start` on and below `end` that have a value in the contents `m`, with these
+-- values. Each key is there once, in the order of the keys' bytes.
 pub record AreKeysOf (m : LogMap) (g : ℕ) (start end : Option (List ℕ)) (es : List (List ℕ × List ℕ))
     : Type 0 where
   pub rising : IsStrictlySortedBy (slice_cmp nat_cmp) (keys_of es)
   pub inside : (k : List ℕ) → is_within start end k ≡ true → StandsUnder m g k (lookup (bytes_eq k) es)
   pub outside : (k : List ℕ) → is_within start end k ≡ false → lookup (bytes_eq k) es ≡ None
 
--- All keys of group `g` in the range were returned, with their values. They are those of the log's contents after the
--- pending batches.
+-- All keys of group `g` from `start` on and below `end` were returned in `es`, with their values. They are those of
+-- the log's contents after the pending batches.
 pub record ReadsKeys (e : EngineState) (g : ℕ) (start end : Option (List ℕ)) (es : List (List ℕ × List ℕ))
     : Type 0 where
   pub shown : ListsAll (values_within start end (e.tables g)) es

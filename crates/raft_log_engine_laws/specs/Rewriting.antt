@@ -73,8 +73,8 @@ abbrev pub SaysAt : (Located → List ℕ) → FileBlockHandle → Batch → Typ
 SaysAt at block b = map (renamed_tagged (λ p. at (in_queue false p))) (items_at block b)
     ≡ tagged_items (entry_bytes b.entries) b.items
 
--- The batch's items are copies of entries and values that the tables show, and the gate lets each of them move to
--- Rewrite. This holds at each location to which the batch may be written.
+-- The batch's items are copies of entries and values that the tables `v` show of the contents `m`. The gate lets each
+-- of them move to Rewrite. This holds at each location to which the batch may be written.
 abbrev pub HasCopies : Option ℕ → Batch → (ℕ → Shown) → LogMap → Type 0
 HasCopies gate b v m = (block : FileBlockHandle) (at : Located → List ℕ) → AreMeant at v m → SaysAt at block b
     → (g : ℕ) → AreCopies at gate block.id.seq (v g) (of_group g (items_at block b))

@@ -1,4 +1,5 @@
--- A sync of Append: the engine's state after it, and the contents of its log, whether the sync succeeds or fails.
+-- A sync of Append: the engine's state `s` before it and `t` after it, and the contents of its log, whether the sync
+-- succeeds or fails.
 use Rattle.std.specs.Prelude.{◌≡◌, ◌⊎◌, ℕ, Bool, false, true, List, []}
 use Rattle.raft_log_model_laws.specs.Groups.{taken}
 use Rattle.raft_log_fs.specs.Causes.{Fails, IsLater}

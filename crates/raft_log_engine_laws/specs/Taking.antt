@@ -1,4 +1,4 @@
--- The tables apply a whole atomic group of copies that has items of one group only.
+-- The tables apply a whole atomic group of copies that has items of one raft group only.
 use Rattle.std.specs.Prelude.{◌≡◌, ◌==◌, ℕ, true, false, List, [], ◌∷◌, ◌++◌, Option}
 use Rattle.raft_log_record_base.specs.declared.pipe_log.FileBlockHandle.{FileBlockHandle}
 use Rattle.raft_log_record_frames.specs.declared.status.AtomicGroupStatus.TheVariants.{End}
@@ -40,8 +40,9 @@ pub record NotesFiles (group : ℕ) (files : GroupFiles) (old new : MemTables) :
   pub noted : replayed_of new group ≡ noted_in files (raw_of old group)
   pub others : (g : ℕ) → (group == g) ≡ false → replayed_of new g ≡ replayed_of old g
 
--- Let an atomic group have items of raft group `group` only, which has a table. If the tables moved the items of all
--- its parts, and then noted its files, they show the whole atomic group.
+-- Let the parts `ps` be whole copies, with items of raft group `group` only, which has a table. File numbers never
+-- fall along its entries, nor along the parts. If the tables `old` moved the items of all parts, and then noted the
+-- files, they show the whole atomic group.
 abbrev pub TablesTakeWholeGroups : Type 0 → Type 0
 TablesTakeWholeGroups E = (at : Located → E) (gate : Option ℕ) (a : ℕ) (ps : List WrittenPart)
     (files : GroupFiles) (group : ℕ) (old m new : MemTables) → ((g : ℕ) → IsOrderly (shown_of old g))
@@ -51,9 +52,9 @@ TablesTakeWholeGroups E = (at : Located → E) (gate : Option ℕ) (a : ℕ) (ps
     → MovedParts gate ps old m → NotesFiles group files m new
     → ShowsWhole gate ps files (shown_of old) (shown_of new)
 
--- A purge ends an atomic group. Its batches restate raft group `group` (`RestatesGroup`), and have no items of other
--- groups. Let the record with the end be written, and the tables move the items of all parts and note the files. Then
--- the log has the same contents.
+-- The batches of the atomic group `o`, with the last batch `b`, restate raft group `group` and have no items of
+-- others. The pipes `v` wrote the record of `b` and became `w`. The tables `old` moved the items of all parts and
+-- became `m`, then noted the files and became `new`. Then the log has the same contents.
 abbrev pub EndsOverTables : Type 0
 EndsOverTables = (home : LogDirectories) (v w : LogPipes) (old m new : MemTables) (cache after : BlockCache)
     (gate : Option ℕ) (o : UnendedGroup) (b : Batch) (block : FileBlockHandle) (map : LogMap) (group : ℕ)

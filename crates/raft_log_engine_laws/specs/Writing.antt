@@ -1,4 +1,5 @@
--- A write of a batch: the engine's state after it, and the contents of its log, whether the write succeeds or fails.
+-- A write of the batch `b`, with a sync if `sync` is true: the engine's state `s` before it and `t` after it, and the
+-- contents of its log, whether the write succeeds or fails.
 use Rattle.std.specs.Prelude.{◌≡◌, ◌⊎◌, ◌^◌, ◌≤◌, ◌↔◌, IsTrue, ℕ, Bool, true, false, None, List, [], ◌∷◌, ◌++◌}
 use Rattle.raft_log_model_laws.specs.Item.{Tagged}
 use Rattle.raft_log_model_laws.specs.Groups.{of_group, taken}

@@ -80,7 +80,8 @@ first_held Rewrite h = None
 abbrev pub files_behind : ℕ → ActiveFiles → ActiveFiles
 files_behind seq h = record h { first = max h.first (suc seq); waiting = drop (suc seq - h.first) h.waiting }
 
--- The files up to `seq` were purged. If they are of Append, all were listed, and they were removed from the list.
+-- The files up to `seq` were purged. If they are of Append, `seq` isn't past the last listed file, and those that were
+-- listed were removed from the list.
 abbrev pub DropsFiles : LogQueue → ℕ → ActiveFiles → ActiveFiles → Type 0
 DropsFiles Append seq old new = (seq < old.first + length old.waiting) × (new ≡ files_behind seq old)
 DropsFiles Rewrite seq old new = new ≡ old

@@ -28,11 +28,12 @@ AllRest storage = (id : ℕ) → RestsAt id (contents_of storage)
 pub AllRest-prop : (storage : Storage) → IsProp (AllRest storage)
 AllRest-prop storage = hlevel (File-set, props)
 
--- Calls see the disk that was found at the opening, and a crash leaves it too, whatever calls were made since.
+-- The calls in `trace` changed nothing: calls see the disk that was loaded at the opening, and a crash leaves it too.
 abbrev pub StandsAsFound : Trace → Type 0
 StandsAsFound trace = held_by trace ≡ settled trace.found
 
--- the file at `path`, if there is one, was written back whole and synced, and no other call was made
+-- From the trace `old` to `new`, the file at `path` in `d`, if there is one, was written back whole and then synced. No
+-- other call was made.
 abbrev pub IsWrittenBack : List ℕ → Disk → Trace → Trace → Type 0
 IsWrittenBack path d old new =
     (file : ℕ) → d.names path ≡ Some file → WritesBack file (size_of (d.files file)) old new

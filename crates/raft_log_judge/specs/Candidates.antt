@@ -1,4 +1,6 @@
--- The logs that the judge keeps.
+-- The logs that the judge keeps. A candidate is a log that may explain the answers so far, as a list of its batches.
+-- The first `durable` of them are durable, and the others are pending. Its standing says whether an engine has it
+-- open.
 use Rattle.std.specs.Prelude.{◌≡◌, ◌++◌, Bool, true, false, List, [], ◌∷◌, drop, map, take}
 use Rattle.raft_log_model_laws.specs.Groups.{taken}
 use Rattle.raft_log_world.specs.declared.event.Answer.{Answer}
@@ -14,7 +16,8 @@ use Rattle.raft_log_judge.specs.Changes.{says_of}
 use Rattle.raft_log_judge.specs.Judging.{no_contents}
 use Rattle.raft_log_judge.specs.Views.{LeadTo}
 
--- the log with these durable contents and pending batches, which an engine has open or not
+-- The log with the durable contents `m` and these pending batches. No engine has it open (`Closed`), one has
+-- (`Running`), or one has and has failed (`Broken`).
 abbrev pub standing_log : Standing → Contents → List BatchRecord → ModelLog
 standing_log Closed m pending = left m pending
 standing_log Running m pending = running m pending
@@ -32,7 +35,7 @@ pending_of c = drop c.durable (map says_of c.batches)
 abbrev pub contents_of : Candidate → Contents
 contents_of c = taken no_contents (map says_of c.batches)
 
--- the log that a candidate is
+-- the log that a candidate represents
 abbrev pub log_of : Candidate → ModelLog
 log_of c = standing_log c.standing (durable_of c) (pending_of c)
 
@@ -41,7 +44,7 @@ abbrev pub turned : Standing → Bool → Candidate → ModelLog
 turned standing false c = standing_log standing (durable_of c) (pending_of c)
 turned standing true c = standing_log standing (taken (durable_of c) (pending_of c)) []
 
--- the logs that an open may find after the contents `m`: one for each number of pending batches that are kept
+-- the logs that an open may find if the durable contents are `m`: one for each number of pending batches that are kept
 abbrev pub opened_logs : Contents → List BatchRecord → List ModelLog
 opened_logs m [] = running m [] ∷ []
 opened_logs m (batch ∷ pending) = running m [] ∷ opened_logs (taken m (batch ∷ [])) pending
@@ -52,7 +55,7 @@ pub record AddsLogs (logs : List ModelLog) (old new : List Candidate) : Type 0 w
   pub adds : new ≡ old ++ more
   pub are : map log_of more ≡ logs
 
--- candidates are added for what the log may be after this event with this answer
+-- candidates are added to the list `old` for what `log` may be after this event with this answer
 pub record AddsNexts {C : Type 0} (log : ModelLog) (event : Event (List Change) C) (answer : Answer)
     (old new : List Candidate) : Type 0 where
   pub more : List Candidate

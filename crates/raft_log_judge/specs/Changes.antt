@@ -1,4 +1,4 @@
--- Batches as lists of changes, and what they say.
+-- Batches as lists of changes, and the model's records of them.
 use Rattle.std.specs.Prelude.{ℕ, List, map}
 use Rattle.raft_log_model_laws.specs.Item.{Item, Tagged}
 use Rattle.raft_log_model_laws.specs.Item.Item.{Run, Clean as CleanItem, Compact as CompactItem, Put as PutItem, Del}

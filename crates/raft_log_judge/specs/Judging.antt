@@ -13,7 +13,7 @@ use Rattle.raft_log_judge.specs.Changes.{says_of}
 abbrev pub no_contents : Contents
 no_contents = λ group slot. None
 
--- From the empty log on, the model gives these answers to these events in turn. At each event it may choose which
+-- From the empty log on, the model gives `answers` to `events`, one after another. At each event it may choose which
 -- batches are durable, lost or written.
 abbrev pub IsExplained : {C : Type 0} → List (Event (List Change) C) → List Answer → Type 0
 IsExplained events answers = (last : ModelLog) × Explains says_of (resting no_contents) events answers last

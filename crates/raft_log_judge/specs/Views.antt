@@ -1,4 +1,5 @@
--- Views of a log: what its readers see, and what a crash may leave. They decide which answers are possible.
+-- Views of a log: what its readers see, and what a crash may leave. They decide which answers are possible. `says`
+-- gives the record of a batch.
 use Rattle.std.specs.Prelude.{◌≡◌, ◌⊎◌, ◌↔◌, true, false, List, [], ◌∷◌, ◌++◌, option_map}
 use Rattle.raft_log_model_laws.specs.Item.Record.{Plain}
 use Rattle.raft_log_model_laws.specs.Groups.{taken}
@@ -19,7 +20,7 @@ use Rattle.raft_log_judge.specs.declared.outcome.Standing.{Standing}
 use Rattle.raft_log_judge.specs.declared.outcome.Standing.TheVariants.{Broken, Closed, Running}
 
 -- A view of a log: whether an engine has it open, the contents `now` that readers see, and `kept`, one of the contents
--- that a crash may leave. A log has a view for each of these.
+-- that a crash may leave. A log has one view for each possible `kept`.
 pub record View : Type 0 where
   pub standing : Standing
   pub now : Contents
@@ -34,7 +35,7 @@ abbrev pub seen : Standing → Contents → Contents → View
 seen Running now kept = record { standing = Running; now = now; kept = kept }
 seen standing now kept = unseen standing kept
 
--- `kept` are the contents `m` and then the first few of the batches `pending`, maybe none or all
+-- `kept` are the contents `m` after a prefix of the batches `pending`, maybe none or all
 pub record Reaches (m : Contents) (pending : List BatchRecord) (kept : Contents) : Type 0 where
   pub front : List BatchRecord
   pub rest : List BatchRecord
@@ -59,7 +60,9 @@ abbrev pub AnyFits : List ModelLog → View → Type 0
 AnyFits [] view = ⊥
 AnyFits (log ∷ logs) view = Fits log view ⊎ AnyFits logs view
 
--- what a call with this answer does to a log over which an engine runs; `Never` if the answer is impossible
+-- What a call with this answer does to the log of a running engine. `Adds` adds the call's batch, `Turns` only changes
+-- the standing; their flag says whether all batches are durable then. `Reads` changes nothing. An impossible answer
+-- gives `Never`.
 abbrev pub call_outcome : {B : Type 0} → Call B → Answer → Outcome
 call_outcome (Write batch sync) Done = Adds Running sync
 call_outcome (Write batch sync) Refused = Turns Running false
@@ -145,14 +148,14 @@ abbrev pub Moves : {B C : Type 0} → (B → BatchRecord) → View → Event B C
 Moves says view event answer next =
     Turned (outcome view.standing event answer) (batch_of says event) (IsRead view.now event answer) view next
 
--- from this view on, these answers to these events are possible
+-- from `view` on, `answers` are possible as the answers to `events`, one for each
 abbrev pub Goes : {B C : Type 0} → (B → BatchRecord) → View → List (Event B C) → List Answer → Type 0
 Goes says view [] [] = Unit {0}
 Goes says view (event ∷ events) (answer ∷ answers) =
     (next : View) × Moves says view event answer next × Goes says next events answers
 Goes says view events answers = ⊥
 
--- from a view of one of the logs on, these answers to these events are possible
+-- from a view of one of the logs on, `answers` are possible as the answers to `events`
 abbrev pub AnyGoes : {B C : Type 0} → (B → BatchRecord) → List ModelLog → List (Event B C) → List Answer → Type 0
 AnyGoes says logs events answers = (view : View) × AnyFits logs view × Goes says view events answers
 

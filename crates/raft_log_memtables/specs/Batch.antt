@@ -16,7 +16,8 @@ use Rattle.raft_log_memtable.specs.Room.{Promise, kept, promised, IsForgotten, I
 use Rattle.raft_log_memtables.specs.declared.mem_tables.MemTables.{MemTables}
 use Rattle.raft_log_memtables.specs.Tables.{counts, shown_of, promise_of, has_table}
 
--- in each group, the batch's items leave no hole and no index too high, if they are applied one after another
+-- in each group `g`, its items of `xs` can be applied to the table `v g` one after another: they leave no hole and no
+-- index too high
 abbrev pub MayFollowAll : {E V : Type 0} → (ℕ → Shown) → List (Tagged E V) → Type 0
 MayFollowAll v xs = (g : ℕ) → MayAllFollow (span (v g)) (of_group g xs)
 
@@ -96,13 +97,13 @@ pub record IsTakenBack (old new : MemTables) (items : List LogItem) : Type 0 whe
   pub others : (g : ℕ) → mentions g items ≡ false → promise_of new g ≡ promise_of old g
   pub tables : (g : ℕ) → mentions g items ≡ false → has_table new g ≡ has_table old g
 
--- Why an item isn't applied to entries with the range `w`. The error is `Hole` if its run leaves a hole or an index
--- too high. It may always be `Memory`.
+-- Why an item isn't applied to entries with the range `w`. The error is `Hole` only if its run leaves a hole or an
+-- index too high. Else it is `Memory`.
 abbrev pub ItemRefused : {E V : Type 0} → Window → Item E V → Error → Type 0
 ItemRefused w x error = ((error ≡ errors.Hole) × (MayFollow w x → ⊥)) ⊎ (error ≡ errors.Memory)
 
--- Why a batch isn't applied. The error is `Hole` if a run leaves a hole or an index too high. It may always be
--- `Memory`.
+-- Why the batch `xs` isn't applied to the tables `v`. The error is `Hole` only if a run leaves a hole or an index too
+-- high. Else it is `Memory`.
 abbrev pub BatchRefused : {E V : Type 0} → (ℕ → Shown) → List (Tagged E V) → Error → Type 0
 BatchRefused v xs error = ((error ≡ errors.Hole) × (MayFollowAll v xs → ⊥)) ⊎ (error ≡ errors.Memory)
 

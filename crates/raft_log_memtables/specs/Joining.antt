@@ -1,5 +1,6 @@
--- How the tables of two consecutive segments are joined, and how what was read of Append is applied over what was read
--- of Rewrite.
+-- How the tables of two consecutive segments are joined, and how what was read of Append is applied over what was
+-- read of Rewrite. `old` and `new` are the tables before and after. `newer` is what was read of the later segment,
+-- `append` what was read of Append.
 use Rattle.std.specs.Prelude.{◌≡◌, ℕ, ◌==◌, ◌⊎◌, Bool, false, ◌&&◌, ◌||◌, not, Option, Some, None}
 use Rattle.raft_log_record_base.specs.declared.errors.Error.{Error}
 use Rattle.raft_log_record_base.specs.declared.errors.Error.TheVariants as errors
@@ -26,15 +27,15 @@ pub record JoinsAt (old newer new : MemTables) (g : ℕ) : Type 0 where
   pub counting : counts new g ≡ counts_with old newer g
   pub fits : LeavesHole (shown_of old g) (replayed_of newer g) → ⊥
 
--- one table of the later segment was joined to the table of its group, without a hole, and no other group changed
+-- the table `newer` of group `group` was joined to the group's table, without a hole, and no other group changed
 pub record JoinsOne (old new : MemTables) (group : ℕ) (newer : GroupTable) : Type 0 where
   pub read : replayed_of new group ≡ joined (replayed_of old group) (replay_of newer.table)
   pub counting : counts new group ≡ newer.counts || (counts old group && not (shown newer.table).cleaned)
   pub fits : LeavesHole (shown_of old group) (replay_of newer.table) → ⊥
   pub others : (g : ℕ) → (group == g) ≡ false → StaysAt old new g
 
--- Why a table of the later segment isn't joined. The error is `Hole` if the table's entries leave a hole. It may always
--- be `Memory`.
+-- Why the later segment's table of a group, with the replay's result `z`, isn't joined to the earlier table `v`. The
+-- error is `Hole` only if the later entries leave a hole. Else it is `Memory`.
 abbrev pub TableRefused : Shown → Replayed → Error → Type 0
 TableRefused v z error = ((error ≡ errors.Hole) × LeavesHole v z) ⊎ (error ≡ errors.Memory)
 
@@ -46,7 +47,7 @@ JoinsAll old newer new = (g : ℕ) → JoinsAt old newer new g
 abbrev pub JoinsSome : MemTables → MemTables → MemTables → Type 0
 JoinsSome old newer new = (g : ℕ) → StaysAt old new g ⊎ JoinsAt old newer new g
 
--- Why the later segment isn't joined. The error is `Hole` if its entries leave a hole in some group. It may always be
+-- Why the later segment isn't joined. The error is `Hole` only if its entries leave a hole in some group. Else it is
 -- `Memory`.
 abbrev pub JoinRefused : MemTables → MemTables → Error → Type 0
 JoinRefused old newer error =
@@ -62,7 +63,7 @@ pub record MergesAt (old append new : MemTables) (g : ℕ) : Type 0 where
 abbrev pub SameAt : MemTables → MemTables → ℕ → Type 0
 SameAt old new g = (shown_of new g ≡ shown_of old g) × (counts new g ≡ counts old g)
 
--- one table of Append was applied over the table of its group, and no other group changed
+-- the table `append` of group `group` was applied over the group's table, and no other group changed
 pub record MergesOne (old new : MemTables) (group : ℕ) (append : GroupTable) : Type 0 where
   pub shows : shown_of new group ≡ merged (shown_of old group) (replay_of append.table)
   pub counting : counts new group ≡ append.counts || (counts old group && not (shown append.table).cleaned)
@@ -81,14 +82,14 @@ UnmarkedAt old new g = (shown_of new g ≡ unmarked (shown_of old g)) × (counts
 abbrev pub MergesSome : MemTables → MemTables → MemTables → Type 0
 MergesSome old append new = (g : ℕ) → UnmarkedAt old new g ⊎ MergesAt old append new g
 
--- the result of replaying a group with this table, after an atomic group in these files was read; nothing without a
--- table
+-- What was replayed into a group's table, after an atomic group in these files was read. Files that were noted before
+-- stay noted. Without a table, it is nothing.
 abbrev pub read_noted_in : GroupFiles → Option Raw → Replayed
 read_noted_in files None = nothing_replayed
 read_noted_in files (Some t) = with_read_group (replay_of t) files
 
--- the result of replaying a group with this table, after an atomic group in these files ended; nothing without a
--- table
+-- What was replayed into a group's table, after an atomic group in these files ended. Files that were noted before stay
+-- noted only while the group still has something in Rewrite up to the last of them. Without a table, it is nothing.
 abbrev pub noted_in : GroupFiles → Option Raw → Replayed
 noted_in files None = nothing_replayed
 noted_in files (Some t) = record (replay_of t) { table = with_group t files }

@@ -1,4 +1,5 @@
--- How records are replayed into the tables of all groups.
+-- How records are replayed into the tables of all groups, which are `old` before and `new` after. The flag `q` is
+-- true for records of Append, and false for those of Rewrite.
 use Rattle.std.specs.Prelude.{◌≡◌, ℕ, ◌==◌, ◌⊎◌, Bool, true, false, List, [], ◌∷◌, ◌++◌}
 use Rattle.raft_log_record_base.specs.declared.errors.Error.{Error}
 use Rattle.raft_log_record_base.specs.declared.errors.Error.TheVariants as errors
@@ -12,18 +13,17 @@ use Rattle.raft_log_memtables.specs.declared.mem_tables.MemTables.{MemTables}
 use Rattle.raft_log_memtables.specs.Tables.{counts, promise_of, replayed_of, shown_of}
 use Rattle.raft_log_memtables.specs.Batch.{counts_after, counts_at_end, MayFollowAll}
 
--- the result of a replay, which was `z`, after these items were read in file `n`, of Append if `q` is true, else of
--- Rewrite
+-- the result of a replay after these items were read in file `n`; before them it was `z`
 abbrev pub all_replayed : Bool → ℕ → Replayed → List (Item Place (List ℕ)) → Replayed
 all_replayed q n z [] = z
 all_replayed q n z (x ∷ xs) = all_replayed q n (replayed q n z x) xs
 
--- in Append, where `q` is true, the item leaves no hole and no index too high after entries with the range `w`
+-- in Append, the item leaves no hole and no index too high after entries with the range `w`
 abbrev pub MayBeRead : {E V : Type 0} → Bool → Window → Item E V → Type 0
 MayBeRead q w x = q ≡ true → MayFollow w x
 
--- Why an item isn't replayed onto entries with the range `w`. The error is `Hole` if this is Append, and the run
--- leaves a hole or an index too high. It may always be `Memory`.
+-- Why an item isn't replayed onto entries with the range `w`. The error is `Hole` only in Append, if the run leaves a
+-- hole or an index too high. Else it is `Memory`.
 abbrev pub ReadRefused : {E V : Type 0} → Bool → Window → Item E V → Error → Type 0
 ReadRefused q w x error =
     ((error ≡ errors.Hole) × (q ≡ true) × (MayFollow w x → ⊥)) ⊎ (error ≡ errors.Memory)
@@ -36,22 +36,22 @@ StaysAt old new g = (replayed_of new g ≡ replayed_of old g) × (counts new g �
 abbrev pub RestsAt : MemTables → ℕ → Type 0
 RestsAt m g = (promise_of m g).ends ≡ span (shown_of m g)
 
--- the item was read in file `n` and applied to its group's table, and no other group changed
+-- the item `x` was read in file `n` and applied to its group's table, and no other group changed
 pub record ReadsOne (q : Bool) (n : ℕ) (old new : MemTables) (x : Tagged Place (List ℕ)) : Type 0 where
   pub fits : MayBeRead q (span (shown_of old x.group)) x.item
   pub read : replayed_of new x.group ≡ replayed q n (replayed_of old x.group) x.item
   pub counting : counts new x.group ≡ counts_after (counts old x.group) x.item
   pub others : (g : ℕ) → (x.group == g) ≡ false → StaysAt old new g
 
--- The items were read in file `n` and applied to their groups' tables. In Append, none of their runs leaves a hole or
--- an index too high.
+-- The items `xs` were read in file `n` and applied to their groups' tables. In Append, none of their runs leaves a
+-- hole or an index too high.
 pub record ReadsAll (q : Bool) (n : ℕ) (old new : MemTables) (xs : List (Tagged Place (List ℕ)))
     : Type 0 where
   pub fits : q ≡ true → MayFollowAll (shown_of old) xs
   pub read : (g : ℕ) → replayed_of new g ≡ all_replayed q n (replayed_of old g) (of_group g xs)
   pub counting : (g : ℕ) → counts new g ≡ counts_at_end (counts old g) (of_group g xs)
 
--- the items before one of `xs` were applied, and that one failed with this error
+-- the items of `xs` before one of them, read in file `n`, were applied, and that one failed with `error`
 pub record ReadsUpTo (q : Bool) (n : ℕ) (old new : MemTables) (xs : List (Tagged Place (List ℕ)))
     (error : Error) : Type 0 where
   pub front : List (Tagged Place (List ℕ))

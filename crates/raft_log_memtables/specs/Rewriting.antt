@@ -1,5 +1,5 @@
--- How the tables of all groups change when copies are written to Rewrite. The gate of a purge is the last file of
--- Append whose content it may copy. Without a gate, only content of Rewrite is copied.
+-- How the tables of all groups change from `old` to `new` when copies are written to Rewrite. The gate of a purge is
+-- the last file of Append whose content it may copy. Without a gate, only content of Rewrite is copied.
 use Rattle.std.specs.Prelude.{◌≡◌, ℕ, ◌+◌, ◌≤◌, ◌==◌, ◌⊎◌, Bool, true, false, if◌then◌else◌, List, [], ◌∷◌, drop, length, map, Option, Some}
 use Rattle.raft_log_model_laws.specs.Item.{Item, Tagged}
 use Rattle.raft_log_model_laws.specs.Item.Item.{Run, Clean, Compact, Put, Del}
@@ -14,9 +14,9 @@ use Rattle.raft_log_memtable.specs.Room.{Promise, count_of, needs, with_moves, w
 use Rattle.raft_log_memtables.specs.declared.mem_tables.MemTables.{MemTables}
 use Rattle.raft_log_memtables.specs.Tables.{counts, has_table, promise_of, shown_of}
 
--- The table after this item was written to file `n` of Rewrite. Of a run, entries that the table still has and the gate
--- allows move to the run's places (`rewritten_by`). A value that the table still has and the gate allows moves to file
--- `n`. A Clean, Compact or Del is a tombstone that was owed, and changes nothing.
+-- The table after this item was written to file `n` of Rewrite. A run moves the entries that the table still has and
+-- the gate allows to the run's places (`rewritten_by`). A put moves the key's value to file `n`, if the table still has
+-- it and the gate allows it. A Clean, Compact or Del is a tombstone that was owed, and changes nothing.
 abbrev pub rewritten_item : Option ℕ → ℕ → Shown → Item Place (List ℕ) → Shown
 rewritten_item gate n v (Run f ps) = rewritten_by gate v (Run f ps)
 rewritten_item gate n v (Put k w) = key_rewritten gate v k n
@@ -59,8 +59,8 @@ pub record PromisesMove {E V : Type 0} (old new : MemTables) (x : Tagged E V) : 
       ≡ moving (has_table old x.group) (promise_of old x.group) (count_of x.item)
   pub others : (g : ℕ) → (x.group == g) ≡ false → promise_of new g ≡ promise_of old g
 
--- The item was written to file `n` of Rewrite, and its group's table changed accordingly and used up its moves. No
--- other group changed, and no range of indexes did.
+-- The item `x` was written to file `n` of Rewrite. Its group's table changed as `rewritten_item` says, and used up
+-- its moves. No other group changed, and no range of indexes did.
 pub record RewritesOne (gate : Option ℕ) (n : ℕ) (old new : MemTables) (x : Tagged Place (List ℕ))
     : Type 0 where
   pub stay : GroupsStay old new
@@ -70,8 +70,8 @@ pub record RewritesOne (gate : Option ℕ) (n : ℕ) (old new : MemTables) (x : 
   pub others : (g : ℕ) → (x.group == g) ≡ false
       → (shown_of new g ≡ shown_of old g) × (promise_of new g ≡ promise_of old g)
 
--- The items were written to file `n` of Rewrite, and their groups' tables changed accordingly and used up their
--- moves. No range of indexes changed.
+-- The items `xs` were written to file `n` of Rewrite. Their groups' tables changed as `all_rewritten` says, and used
+-- up their moves. No range of indexes changed.
 pub record TakesRewritten (gate : Option ℕ) (n : ℕ) (old new : MemTables) (xs : List (Tagged Place (List ℕ)))
     : Type 0 where
   pub stay : GroupsStay old new
@@ -79,10 +79,11 @@ pub record TakesRewritten (gate : Option ℕ) (n : ℕ) (old new : MemTables) (x
   pub ends : (g : ℕ) → span (shown_of new g) ≡ span (shown_of old g)
   pub promise : (g : ℕ) → promise_of new g ≡ without_moves (promise_of old g) (entries_of g xs)
 
--- The item is an allowed copy. A run has the bytes of the table's entries. It starts at an entry in Rewrite or right
--- after the last of these, and ends at or after that last one. Past it, the run has only entries that the gate allows,
--- and none if the table owes a Clean or a Compact. A put has the key's value, which the gate allows. If the value is in
--- Append, the table owes neither a Clean nor the key's Del.
+-- The item is an allowed copy of what the table `v` has; `at` gives the bytes at each place.
+-- - A run has the bytes of the table's entries. It starts at an entry in Rewrite or right after the last of these,
+--   and ends at or after that one. Past it, it has only entries that the gate allows, and none if a Clean or Compact
+--   is owed.
+-- - A put has the key's value, which the gate allows. If it is in Append, neither a Clean nor the key's Del is owed.
 abbrev pub IsCopy : {E : Type 0} → (Located → E) → Option ℕ → Shown → Item Place (List ℕ) → Type 0
 IsCopy at gate v (Run f ps) =
     (v.first ≤ f) × (f ≤ v.first + v.rewritten) × (v.first + v.rewritten ≤ f + length ps)

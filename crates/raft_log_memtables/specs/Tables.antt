@@ -1,5 +1,5 @@
 -- The tables of all groups: what callers see of each, what each has reserved, and which groups count. A group counts
--- if an item of it came after its last Clean.
+-- if it has had items and the last one wasn't a Clean.
 use Rattle.std.specs.Prelude.{◌≡◌, ◌⊎◌, ℕ, Bool, true, false, Option, Some, None, is_some, option_map, if◌then◌else◌}
 use Rattle.std.specs.BTreeMap.{get}
 use Rattle.std.specs.Ordering.{nat_cmp}
@@ -47,7 +47,7 @@ promise_of m g = promise_in (get nat_cmp m.groups g)
 abbrev pub replayed_of : MemTables → ℕ → Replayed
 replayed_of m g = replayed_in (get nat_cmp m.groups g)
 
--- whether group `g` counts: an item of it came after its last Clean
+-- whether group `g` counts: it has had items, and the last one wasn't a Clean
 abbrev pub counts : MemTables → ℕ → Bool
 counts m g = counts_in (get nat_cmp m.groups g)
 
@@ -68,7 +68,7 @@ pub record ShowsSame (old new : MemTables) : Type 0 where
   pub shown : (g : ℕ) → shown_of new g ≡ shown_of old g
   pub counts : (g : ℕ) → counts new g ≡ counts old g
 
--- nothing is reserved ahead: in every group, the reserved range is that of the entries
+-- nothing is reserved for a batch of Append: in every group, the reserved range is that of the entries
 abbrev pub IsAtRest : MemTables → Type 0
 IsAtRest m = (g : ℕ) → (promise_of m g).ends ≡ span (shown_of m g)
 

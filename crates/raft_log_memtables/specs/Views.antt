@@ -24,7 +24,7 @@ view_of v m = record {
   map = m;
 }
 
--- The tables are well formed, and represent the contents `m`, if `at` gives the bytes at each place.
+-- The tables `v` are well formed, and represent the contents `m`, if `at` gives the entry at each place.
 pub record AreMeant {E : Type 0} (at : Located → E) (v : ℕ → Shown) (m : Map E (List ℕ)) : Type 0 where
   pub orderly : (g : ℕ) → IsOrderly (v g)
   pub meant : (g : ℕ) → IsMeant at (v g) (m g)
@@ -83,9 +83,9 @@ pub record GroupEnd : Type 0 where
 abbrev pub ended : GroupEnd → (ℕ → Shown) → ℕ → Shown
 ended e v g = if e.about g then with_note (all_moved (v g) (e.moves g)) (e.least g) e.files else v g
 
--- In raft group `g`, the copies of the atomic group are allowed, and are in files up to its last one. After them, the
--- raft group has nothing of Rewrite in a file below `least`. The items of all records of the atomic group have the same
--- effect as these copies.
+-- In raft group `g`, with the table `v g`, the copies of the end `e` are allowed, and are in files up to its last
+-- one. After them, the raft group has nothing of Rewrite below file `e.least g`. The items of all records of the
+-- atomic group have the same effect as these copies.
 pub record MayEndIn {E : Type 0} (at : Located → E) (e : GroupEnd) (v : ℕ → Shown)
     (items : List (Tagged E (List ℕ))) (g : ℕ) : Type 0 where
   pub can : CanAllMove at (v g) (e.moves g)
@@ -93,7 +93,8 @@ pub record MayEndIn {E : Type 0} (at : Located → E) (e : GroupEnd) (v : ℕ �
   pub least : IsLeastInRewrite (all_moved (v g) (e.moves g)) (e.least g)
   pub taken_as : IsJoined (of_group g items) (copies_of at (v g) (e.moves g))
 
--- the end is allowed in each raft group that it changes, and it has no items of other groups
+-- The end `e` is allowed in each raft group that it changes. `items` are those of all records of the atomic group,
+-- and none is of another raft group.
 pub record MayEnd {E : Type 0} (at : Located → E) (e : GroupEnd) (v : ℕ → Shown)
     (items : List (Tagged E (List ℕ))) : Type 0 where
   pub about : (g : ℕ) → e.about g ≡ true → MayEndIn at e v items g

@@ -73,9 +73,9 @@ abbrev pub ReadsItemsOrMemory :
 ReadsItemsOrMemory (Ok x) old new reading = reading ≡ Ok (x.items, new)
 ReadsItemsOrMemory (Err e) old new reading = FailsOrMemory e reading × (new ≡ old)
 
--- A decoder of a vector of items by the grammar `P`. The bytes it consumed spell the items that it returned. If a
--- spelling is at the front of `old`, the decoder consumes exactly it, unless memory ran out. If the decoder fails, it
--- consumes nothing.
+-- A decoder of a vector by the grammar `P` consumed the front of `old` and left `new`. The bytes it consumed spell the
+-- items that it returned. If a spelling is at the front of `old`, the decoder consumes exactly it and returns its
+-- items, unless memory ran out. If the decoder fails, it consumes nothing.
 pub record DecodesItemsOrMemory {X : Type 0} (P : List ℕ → List X → Type 0)
     (result : Result (Vec X) Error) (old new : List ℕ) : Type 0 where
   pub found : MatchResult result

@@ -38,7 +38,7 @@ version_number V1 = 1
 version_number V2 = 2
 
 -- The signature of records in a file of this format version and file number. In V2 it is the low 32 bits of the file
--- number; V1 has none. It is xored into each record's checksum.
+-- number; V1 has none. It is xored into the checksum of each record's footer.
 abbrev pub signature : Version → ℕ → Option ℕ
 signature V1 number = None
 signature V2 number = Some (number % 2 ^ 32)

@@ -23,7 +23,7 @@ abbrev pub ◌>>=◌ : {A B E : Type 0} → Result A E → (A → Result B E) �
 (Ok x) >>= f = f x
 (Err e) >>= f = Err e
 
--- the empty list of bytes spells `x`, and there is no other spelling
+-- only the empty list of bytes is a spelling, and it spells `x`
 abbrev pub IsKnown : {A : Type 0} → A → List ℕ → A → Type 0
 IsKnown x bytes y = (bytes ≡ []) × (y ≡ x)
 
@@ -32,7 +32,7 @@ abbrev pub Then : {A B : Type 0} → (List ℕ → A → Type 0) → (A → List
 Then {A = A} P Q bytes y = (x : A) × (front : List ℕ) × (back : List ℕ)
     × P front x × Q x back y × (bytes ≡ front ++ back)
 
--- the bytes spell, by `P`, some value of which `y` is the image under `f`
+-- the bytes spell a value by `P`, and `y` is the image of this value under `f`
 abbrev pub Mapped : {A B : Type 0} → (A → B) → (List ℕ → A → Type 0) → List ℕ → B → Type 0
 Mapped {A = A} f P bytes y = (x : A) × P bytes x × (y ≡ f x)
 

@@ -57,17 +57,18 @@ IsU64Desc = Mapped (bit_not w64) IsU64
 abbrev pub above_least : ℕ → ℤ
 above_least n = pos n -ℤ pos (2 ^ 63)
 
--- a signed number of 64 bits plus 2 ^ 63
+-- the sum of 2 ^ 63 and a signed number of 64 bits
 abbrev pub steps_above_least : ℤ → ℕ
 steps_above_least (pos n) = 2 ^ 63 + n
 steps_above_least (negsuc n) = 2 ^ 63 - (n + 1)
 
--- A signed number of 64 bits: it is stored plus 2 ^ 63, big-endian, so that byte order is the order of the numbers.
+-- A signed number of 64 bits. 2 ^ 63 is added before it is stored, big-endian, so byte order is the order of the
+-- numbers.
 abbrev pub IsI64 : List ℕ → ℤ → Type 0
 IsI64 = Mapped above_least IsU64
 
--- A signed number stored plus 2 ^ 63, big-endian, with every bit flipped, so that greater numbers come first in byte
--- order.
+-- A signed number of 64 bits. 2 ^ 63 is added and every bit is flipped before it is stored, big-endian, so greater
+-- numbers come first in byte order.
 abbrev pub IsI64Desc : List ℕ → ℤ → Type 0
 IsI64Desc = Mapped above_least IsU64Desc
 
@@ -233,7 +234,7 @@ var_within (suc left) (b ∷ bs) =
 unfoldable pub var_u64_at : NumberReader ℕ
 var_u64_at bytes = var_within 9 bytes
 
--- reads a varint, and returns the signed number of which it is the zigzag code
+-- reads a varint, and returns the signed number whose zigzag code it is
 unfoldable pub var_i64_at : NumberReader ℤ
 var_i64_at = mapped_at from_zigzag var_u64_at
 

@@ -37,7 +37,7 @@ meaning entry (contents.Kv kv) = key_meaning kv.op_type kv.key (value_of kv)
 abbrev pub tagged : {E : Type 0} → (EntryIndex → E) → LogItem → Tagged E (List ℕ)
 tagged entry x = record { group = x.raft_group_id; item = meaning entry x.content }
 
--- `x` before `xs` if the flag, which says whether `x` is a mark, is false; else `xs` alone
+-- `xs` alone if `x` is a mark, else `x` before `xs`; the flag says whether `x` is a mark
 abbrev pub unless_mark : {X : Type 0} → Bool → X → List X → List X
 unless_mark false x xs = x ∷ xs
 unless_mark true x xs = xs

@@ -56,7 +56,7 @@ IsBlock bytes entries =
 -- Headers.
 
 -- `bytes` is a header: two numbers of 64 bits, big-endian. The first is 256 times the record's length `len`, so its
--- lowest byte is 0, the type of no compression. The second is `offset`, that of the footer in the record.
+-- lowest byte is 0, the type of no compression. The second is `offset`, where the footer begins in the record.
 pub record IsHeader (bytes : List ℕ) (len offset : ℕ) : Type 0 where
   pub first : List ℕ
   pub second : List ℕ
@@ -187,8 +187,9 @@ abbrev pub GivesItems : {X : Type 0} → Result (Vec X) Error → Result (List X
 GivesItems (Ok x) reading = reading ≡ Ok x.items
 GivesItems (Err e) reading = FailsOrMemory e reading
 
--- A check of the end of a footer returned `result`. It was given the total length of the entries as `len`, which is
--- 2 ^ 64 - 1 if the total is more. The result is right for each total `sum` for which `len` is given.
+-- The check whether `rest` is empty and the entries fill a block of `block_len` bytes returned `result`. It got the
+-- entries' total length as `len`, which is 2 ^ 64 - 1 if the total is more. The result is right for each total `sum`
+-- that gives this `len`.
 abbrev pub TellsWhole : Result (Unit {0}) Error → ℕ → ℕ → List ℕ → Type 0
 TellsWhole result block_len len rest =
     (sum : ℕ) → len ≡ min sum (2 ^ 64 - 1) → GivesOrMemory result (whole_of block_len sum rest)

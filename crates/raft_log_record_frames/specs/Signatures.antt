@@ -1,4 +1,4 @@
--- Which files have different signatures.
+-- In which other files a footer that was signed for one file is valid.
 use Rattle.std.specs.Prelude.{◌≡◌, ◌↔◌, ℕ, ◌%◌, ◌^◌, List}
 use Rattle.raft_log_record_items.specs.declared.item.LogItem.{LogItem}
 use Rattle.raft_log_record_base.specs.declared.pipe_log.Version.TheVariants.{V2}

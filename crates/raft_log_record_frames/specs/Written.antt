@@ -12,8 +12,8 @@ AreBytes [] = Unit {0}
 AreBytes (b ∷ bs) = (b < 256) × AreBytes bs
 
 -- The bytes that are written for `items` and `entries` are a record of them in a file with this signature. The bytes
--- written for the items must encode them, and the lengths of their entries must add up to that of `entries`. All
--- lengths, bytes and the signature must be in range.
+-- written for the items must encode them, and the lengths of their entries must add up to that of `entries`. The
+-- signature and that sum must be below 2 ^ 32, the record's length below 2 ^ 56, and each byte below 256.
 abbrev pub WrittenIsRecord : Type 0
 WrittenIsRecord =
     (signature : Option ℕ) (items : List LogItem) (entries : List ℕ) → unwrap_or signature 0 < 2 ^ 32

@@ -1,4 +1,6 @@
--- Batches that were read from a file and passed to a replay machine, which applies them one after another.
+-- Batches that were read from a file and passed to a replay machine, which applies them one after another. `reads`
+-- relates a machine to the batches that it has read, and `declines` batches to errors with which it may reject the
+-- last one.
 use Rattle.std.specs.Prelude.{◌≡◌, Option, Some, None, List, ◌++◌, map}
 use Rattle.raft_log_record_base.specs.declared.errors.Error.{Error}
 use Rattle.raft_log_record_base.specs.declared.pipe_log.FileId.{FileId}
@@ -13,7 +15,8 @@ said id batches = map (batch_in id) batches
 abbrev pub TakesBatches : {M : Type 0} → (List Batch → M → Type 0) → List Batch → M → M → Type 0
 TakesBatches reads batches old new = (before : List Batch) → reads before old → reads (before ++ batches) new
 
--- The machine doesn't accept all of these batches: after the first few it rejects one with `error`.
+-- The machine rejected the last batch of `first` with `error`, and got none of `rest`. `declines` allows this error for
+-- all batches that the machine got, with the rejected one.
 pub record DeclinesSome {M : Type 0} (reads : List Batch → M → Type 0) (declines : List Batch → Error → Type 0)
     (batches : List Batch) (machine : M) (error : Error) : Type 0 where
   pub first : List Batch
@@ -21,7 +24,8 @@ pub record DeclinesSome {M : Type 0} (reads : List Batch → M → Type 0) (decl
   pub split : batches ≡ first ++ rest
   pub declined : (before : List Batch) → reads before machine → declines (before ++ first) error
 
--- These batches were passed to a machine, one after another. It accepted them all, or rejected one with this error.
+-- These batches were passed to the machine `old`, one after another. It accepted them all, and is `new`, or rejected
+-- one with this error.
 abbrev pub HasTaken : {M : Type 0} → (List Batch → M → Type 0) → (List Batch → Error → Type 0) → List Batch
     → M → M → Option Error → Type 0
 HasTaken reads declines batches old new None = TakesBatches reads batches old new

@@ -1,4 +1,5 @@
--- What a reader reads of a file after its header, and passes to a replay machine.
+-- What a reader reads of a file after its header, and passes to a replay machine (`reads`, `declines` as in
+-- `Batches`). The file is on disk `d`, and `old` and `new` are the machine or the reader before and after.
 use Rattle.std.specs.Prelude.{◌≡◌, ◌↔◌, ℕ, Bool, true, IsTrue, Option, Some, None, List, [], ◌∷◌, ◌++◌}
 use Rattle.raft_log_record_base.specs.Fault.{Fault}
 use Rattle.raft_log_record_base.specs.declared.errors.Error.{Error}

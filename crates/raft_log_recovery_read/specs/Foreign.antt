@@ -19,8 +19,8 @@ use Rattle.raft_log_file_reader.specs.declared.open_file.OpenFile.{OpenFile}
 use Rattle.raft_log_recovery_read.specs.Reading.{FailsToRead}
 use Rattle.raft_log_recovery_read.specs.Records.{ReadsBehind}
 
--- The reading of these bytes stops at a foreign record: the next record after the last good one is foreign. It begins
--- at `at`, and has this compression type.
+-- The reading of the bytes `content` of file `id` stops at a foreign record: the next record after the last good one
+-- is foreign. It begins at `at`, and has this compression type. `last` says whether the file is its queue's last.
 pub record StopsAtForeign (last : Bool) (id : FileId) (content : List ℕ) (at compression : ℕ) : Type 0 where
   pub file : OpenFile
   pub is : file.id ≡ id
@@ -52,7 +52,7 @@ abbrev pub TellsForeign : FileId → ℕ → ℕ → Error → Type 0
 TellsForeign id at compression (errors.Corruption text) = string_bytes text ≡ told_foreign id at compression
 TellsForeign id at compression _ = ⊥
 
--- the reading of the file stops at a foreign record, as the error says
+-- the reading of the file with this handle on disk `d` stops at a foreign record, and `error` says so
 pub record IsForeign (last : Bool) (id : FileId) (handle : Handle) (d : Disk) (error : Error) : Type 0 where
   pub at : ℕ
   pub compression : ℕ

@@ -1,4 +1,5 @@
--- The files of a queue that were found: the batches that each contains, and why reading one fails.
+-- The files `files` of a queue that were found on disk `d`: the batches that each contains, and why reading one fails
+-- in the recovery mode `mode`.
 use Rattle.std.specs.Prelude.{◌≡◌, ℕ, ◌-◌, ◌<◌, Bool, List, ◌++◌, length, slice_index_or, ◌==◌, is_some}
 use Rattle.raft_log_record_base.specs.declared.errors.Error.{Error}
 use Rattle.raft_log_record_base.specs.declared.pipe_log.FileId.{FileId}
@@ -22,7 +23,7 @@ is_at_end files index = length files - index == 1
 abbrev pub id_of : LogQueue → File → FileId
 id_of queue file = record { queue = queue; seq = file.seq }
 
--- `file` is at position `index` of its queue's files, and `read` is what it contains; its damage is tolerated
+-- `file` is at position `index` of its queue's files, and `read` is what it contains; its damage, if any, is tolerated
 pub record ReadsAt (mode : RecoveryMode) (queue : LogQueue) (files : List File) (d : Disk) (index : ℕ)
     (file : File) (read : FileReading) : Type 0 where
   pub inside : index < length files
@@ -61,7 +62,8 @@ pub record RefusesFile (mode : RecoveryMode) (queue : LogQueue) (files : List Fi
   pub is : (other : File) → file ≡ slice_index_or files index other
   pub refused : FailsToReadFound mode (is_at_end files index) (id_of queue file) file.handle d error
 
--- `found` is what was found of the file at position `index`, whose records were passed to a machine
+-- `found` is what was found of the file at position `index`, whose records were passed to a machine, which was `old`
+-- and became `new`
 pub record IsSegment {M : Type 0} (mode : RecoveryMode) (queue : LogQueue) (files : List File) (d : Disk)
     (index : ℕ) (takes : List Batch → M → Type 0) (declines : List Batch → Error → Type 0) (old new : M)
     (found : FoundFile) : Type 0 where

@@ -1,4 +1,5 @@
--- Which damage of a log file each recovery mode tolerates.
+-- Which damage of a log file each recovery mode tolerates. The file is `id` of the log, open under `handle` on disk
+-- `d`, and `last` says whether it is its queue's last.
 use Rattle.std.specs.Prelude.{◌≡◌, ◌⊎◌, Bool, true, false, Option, Some, None}
 use Rattle.raft_log_record_base.specs.declared.errors.Error.{Error}
 use Rattle.raft_log_record_base.specs.declared.pipe_log.FileId.{FileId}

@@ -7,15 +7,16 @@ use Rattle.raft_voter_session.specs.Text.{round_text}
 use Rattle.raft_voter.specs.Service.{AnswersRound, CutsOff, Service}
 use Rattle.raft_voter.specs.declared.service.Cause.{Cause}
 
--- `lines` are those of round `number` with its replies. The replies are those of the service's voters.
+-- `lines` are those of round `number` with its replies, which are those of the voters of `service`. The round changed
+-- the store `old` into `new`.
 pub record TellsReplies {S : Type 0} (service : Service S) (number : ℕ) (requests : List (ℕ × Request))
     (lines : List ℕ) (old new : S) : Type 0 where
   pub replies : List Reply
   pub told : lines ≡ round_text number (record { requests = requests; refused = []; outcome = Answered replies })
   pub answers : AnswersRound service requests replies old new
 
--- `lines` are those of round `number`, which was cut off for `cause`; the requests at the positions `refused` were
--- refused.
+-- `lines` are those of round `number`, which was cut off for `cause`; they don't show the cause. The requests at the
+-- positions `refused` were refused. The round changed the store `old` into `new`.
 pub record TellsCut {S : Type 0} (service : Service S) (number : ℕ) (requests : List (ℕ × Request))
     (lines : List ℕ) (old new : S) : Type 0 where
   pub cause : Cause

@@ -15,8 +15,9 @@ use Rattle.raft_voter_log.specs.Opens.{FindsVoters}
 use Rattle.raft_voter_store.specs.Service.{LeavesAt}
 use Rattle.raft_voter_log.specs.Instance.{ClosesStore}
 
--- A log was left, with voters that are possible after the round `cut`, and then there was a crash. An open of the image
--- finds such voters, the same for all settings that name the directories. This requires that there is no CRC collision.
+-- A log was left on disk `d` (`left`), with voters that are possible after the round `cut`, and a crash made the
+-- image `old`. An open of it finds such voters, the same for all settings that name the directories `home`. This
+-- requires that there is no CRC collision.
 abbrev pub GoesOnBehindACrash :
     {F : Type 0} → (F → Disk) → (F → List ℕ → ℕ → Type 0) → (home : LogDirectories) (d : Disk) (cut : CutRound)
     → IsLeftAmong home d (MayFollow cut) → Type 0
@@ -24,9 +25,9 @@ GoesOnBehindACrash {F} disk tells home d cut left = (old : F) → IsSound (disk 
     → IsCrashOf home left.left.1.lies.state d (disk old)
     → (W : World) × MayFollow cut W × ForAllNaming home (λ config. FindsVoters disk tells config old W (λ X. X ≡ W))
 
--- A log was left, with voters that are possible after the round `cut`, and is opened in place. The open finds such
--- voters, the same for all settings that name the directories. This requires that there is no CRC collision in the
--- active files as they are.
+-- A log was left in the files `closed`, with voters that are possible after the round `cut`, and is opened in place.
+-- The open finds such voters, the same for all settings that name the directories `home`. This requires that there is
+-- no CRC collision in the active files as they are.
 abbrev pub GoesOnInPlace :
     {F : Type 0} (disk : F → Disk) → (F → List ℕ → ℕ → Type 0) → (home : LogDirectories) (closed : F) (cut : CutRound)
     → IsLeftAmong home (disk closed) (MayFollow cut) → Type 0

@@ -36,7 +36,8 @@ pub record LogSharing (F : Type 0) : Type 0 where
 abbrev pub home_behind : {F : Type 0} → LogSharing F → LogDirectories
 home_behind x = home_of x.shared.settled.config
 
--- A store was opened from the files, shared and settled, and closed, as the contracts of these calls say.
+-- in the opening `x`, a store was opened from its files, shared and settled, and closed, as the contracts of these
+-- calls say
 pub record IsShared {F : Type 0} (disk : F → Disk) (tells : F → List ℕ → ℕ → Type 0) (shows : LogStore F → EngineState)
     (x : LogSharing F) : Type 0 where
   pub opens : OpensStore disk tells x.shared.opened.config x.found (shows x.shared.opened)
@@ -44,8 +45,8 @@ pub record IsShared {F : Type 0} (disk : F → Disk) (tells : F → List ℕ →
   pub settles : Settles (log_service shows) x.shared
   pub closes : ClosesStore (shows x.shared.settled) (disk x.closed)
 
--- The files `found`, which are opened next, are those that the close left, or a crash image of them. There is no CRC
--- collision in them.
+-- The files `found`, which are opened next, are the files `closed`, or a crash image of them. `closed` can be opened
+-- with voters that are possible after the round `cut` (`left`). There is no CRC collision in `found`.
 abbrev pub IsLeftNext : {F : Type 0} (disk : F → Disk) (home : LogDirectories) (cut : CutRound) (closed found : F)
     → IsLeftAmong home (disk closed) (MayFollow cut) → Type 0
 IsLeftNext disk home cut closed found left = IsCrashOf home left.left.1.lies.state (disk closed) (disk found)
@@ -88,7 +89,7 @@ AreLogOpenings disk tells shows [] = Unit {0}
 AreLogOpenings disk tells shows (x ∷ xs) =
     IsShared disk tells shows x × IsFollowedInLog disk shows x xs × AreLogOpenings disk tells shows xs
 
--- the first opening is that of directories without a log
+-- the first opening found directories without a log
 abbrev pub BeginsBare : {F : Type 0} → (F → Disk) → List (LogSharing F) → Type 0
 BeginsBare disk [] = Unit {0}
 BeginsBare disk (x ∷ xs) = IsSound (disk x.found) × IsBare x.shared.opened.config (disk x.found)

@@ -9,14 +9,15 @@ use Rattle.raft_voter_recovery.specs.declared.unread.Unread.{Unread}
 use Rattle.raft_voter_recovery.specs.declared.unread.Unread.TheVariants.{Memory}
 use Rattle.raft_voter_store.specs.Opening.{FailsToOpenVoters, OpensVoters}
 
--- A store was opened with the settings of `config`. Its engine has the state `t`, and its outlines are `os`.
+-- A store was opened from the files `old`, with the settings of `config`. Its engine has the state `t`. Its outlines,
+-- the voters without their entries' data, are `os`.
 abbrev pub OpensStore :
     {F : Type 0} → (F → Disk) → (F → List ℕ → ℕ → Type 0) → Config → F → EngineState → (ℕ → State) → Type 0
 OpensStore disk tells config old t os =
     (settings : Config) × (settings_of settings ≡ settings_of config) × OpensVoters disk tells settings old t os
 
--- Either memory ran out before the open began, and the file system is unchanged; or the open, with the settings of
--- `config`, failed with `cause`.
+-- Either memory ran out before the open began, and the file system is unchanged. Or the open, with the settings of
+-- `config`, failed with `cause`, and returned the files `new` in place of `old`.
 abbrev pub FailsToOpenStore : {F : Type 0} → (F → Disk) → (F → List ℕ → ℕ → Type 0) → Config → Unread → F → F → Type 0
 FailsToOpenStore disk tells config cause old new = ((cause ≡ Memory) × (new ≡ old))
     ⊎ ((settings : Config) × (settings_of settings ≡ settings_of config)

@@ -1,4 +1,5 @@
--- How the store's loop serves the requests of a round one by one, and how the round ends.
+-- How the store's loop serves the requests of a round one by one, and how the round ends. `s` and `os` are the
+-- engine's state and the outlines before, `t` and `us` those after.
 use Rattle.std.specs.Prelude.{◌≡◌, ◌⊎◌, ◌≤◌, ℕ, Bool, false, List, length, slice_get, Some, take}
 use Rattle.raft_log_fs.specs.Causes.{IsLater}
 use Rattle.raft_log_record_base.specs.declared.errors.Error.{Error}
@@ -15,8 +16,8 @@ use Rattle.raft_voter_durability_laws.specs.Requests.{Broke, TurnedDown}
 use Rattle.raft_voter_durability_laws.specs.Ends.{Answered, GaveUp, Unsynced, Went}
 
 -- The first requests of the round `qs` got the replies `told`, and the next request `q` was rejected with an error. The
--- call ends in the state `t`, whose disk is no earlier than that after `q`: a file call that failed at `q` is counted
--- there too.
+-- round began in the state `s`, with the outlines `os`. It ended in `t`, whose disk is no earlier than that after `q`.
+-- So a file call that failed at `q` is counted there too.
 pub record TurnsDown (qs : List (ℕ × Request)) (told : List Reply) (q : ℕ × Request) (s t : EngineState) (os : ℕ → State)
     : Type 0 where
   pub wrote : Bool
@@ -28,13 +29,14 @@ pub record TurnsDown (qs : List (ℕ × Request)) (told : List Reply) (q : ℕ �
   pub turned : TurnedDown q error mid next outlines
   pub later : IsLater next.pipes.disk t.pipes.disk
 
--- Each reply `Refused` has a reason. Either its request is out of range; or the request was rejected with an error,
--- after the requests before it were served.
+-- Each reply `Refused` in `told` has a reason. Either its request is out of range; or the request was rejected with an
+-- error, after the requests before it were served.
 abbrev pub AreExcused : List (ℕ × Request) → List Reply → EngineState → EngineState → (ℕ → State) → Type 0
 AreExcused qs told s t os = (place : ℕ) (q : ℕ × Request) → slice_get told place ≡ Some Refused
     → slice_get qs place ≡ Some q → (in_range q.1 ≡ false) ⊎ TurnsDown qs (take place told) q s t os
 
--- the first requests of the round `qs` got the replies `told`, and each reply `Refused` has a reason
+-- The first requests of the round `qs` got the replies `told`, and each reply `Refused` has a reason. `wrote` is
+-- false only if no record was written. The state `s` became `t`, and the outlines `os` became `us`.
 pub record Passes (qs : List (ℕ × Request)) (told : List Reply) (wrote : Bool) (s t : EngineState) (os us : ℕ → State)
     : Type 0 where
   pub went : Went qs told wrote s t os us
@@ -67,8 +69,9 @@ pub record CutsRoundOff (qs : List (ℕ × Request)) (refused : List ℕ) (s t :
   pub left : (home : LogDirectories) (V : World) → Keeps home s V → AreOutlines os V
       → GaveUp home V qs told s t ⊎ Unsynced home V qs told s t
 
--- If a round got as far as the request `q`, with the replies `told`, it gets past `q`, with the replies `now`. `wrote`
--- is false only if the round wrote no record before `q`; `more` is false only if it wrote none up to and with `q`.
+-- A round that got as far as the request `q` gets past it. Before `q` it has the replies `told`, the state `t` and
+-- the outlines `us`; after `q` it has `now`, `u` and `ws`. `wrote` is false only if it wrote no record before `q`;
+-- `more` is false only if it wrote none up to and with `q`.
 abbrev pub GoesOn : ℕ × Request → Bool → Bool → List Reply → List Reply → EngineState → EngineState → (ℕ → State) → (ℕ → State) → Type 0
 GoesOn q wrote more told now t u us ws = (qs : List (ℕ × Request)) (s : EngineState) (os : ℕ → State)
     → Passes qs told wrote s t os us → slice_get qs (length told) ≡ Some q → Passes qs now more s u os ws

@@ -16,20 +16,20 @@ use Rattle.raft_voter_store.specs.Rounds.{AreExcused}
 abbrev pub ServesVoters : EngineState → (ℕ → State) → World → Type 0
 ServesVoters s os W = (home : LogDirectories) × Keeps home s W × AreOutlines os W
 
--- The engine's files can be opened, in some directories. Whatever a crash keeps of them has voters that are possible
--- after the round `cut`.
+-- The engine's files can be opened, in some directories. However many of the first pending batches a crash keeps, the
+-- log then stores voters that are possible after the round `cut`.
 abbrev pub LeavesBehind : EngineState → CutRound → Type 0
 LeavesBehind s cut = (home : LogDirectories) × IsLeftAmong home s.pipes.disk (MayFollow cut)
 
 -- What a store with its log in the directories `home` leaves:
 -- - `running`: no round was cut off, and the log stores the voters.
--- - `left`: the engine has failed, and its files can be opened. Whatever a crash keeps of them has voters that are
---   possible after the round `cut`.
+-- - `left`: the engine has failed, and its files can be opened, with voters that are possible after the round `cut`,
+--   as in `LeavesBehind`.
 pub data LeavesAt (home : LogDirectories) (s : EngineState) (cut : CutRound) : Type 0 where
   running : (W : World) → cut ≡ uncut W → Keeps home s W → LeavesAt home s cut
   left : has_failed s ≡ true → IsLeftAmong home s.pipes.disk (MayFollow cut) → LeavesAt home s cut
 
--- `refused` are the positions of the replies `Refused` in some list of replies, and each of these has a reason
+-- `refused` are the positions of the replies `Refused` in some list of replies to the round `qs`, and each has a reason
 abbrev pub MayRefuse : EngineState → EngineState → (ℕ → State) → List (ℕ × Request) → List ℕ → Type 0
 MayRefuse s t os qs refused = (told : List Reply) × (refused ≡ refused_from 0 told) × AreExcused qs told s t os
 

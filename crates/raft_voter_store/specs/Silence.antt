@@ -1,4 +1,4 @@
--- Rounds that leave all voters unchanged.
+-- Rounds whose requests all leave their voters unchanged.
 use Rattle.std.specs.Prelude.{◌≡◌, ℕ, All, List}
 use Rattle.raft_log_engine.specs.raft_log_engine_laws.specs.Fetching.{StaysButBlock}
 use Rattle.raft_log_engine.specs.raft_log_engine_laws.specs.EngineState.{EngineState}
@@ -14,11 +14,12 @@ use Rattle.raft_voter_durability_laws.specs.Standing.{AreOutlines}
 abbrev pub LeavesVoter : World → ℕ × Request → Type 0
 LeavesVoter V q = next (V q.0) q.1 ≡ V q.0
 
--- `P` holds if the voters have the outlines `os`, and the request `q` leaves the voter of its group unchanged
+-- if there are voters with the outlines `os`, and the request `q` leaves that of its group unchanged, `P` holds
 abbrev pub IfVoterStays : (ℕ → State) → ℕ × Request → Type 0 → Type 0
 IfVoterStays os q P = (V : World) → AreOutlines os V → LeavesVoter V q → P
 
--- `P` holds if the voters have the outlines `os`, and each request of the round leaves the voter of its group unchanged
+-- if there are voters with the outlines `os`, and each request of the round `qs` leaves that of its group unchanged,
+-- `P` holds
 abbrev pub IfVotersStay : (ℕ → State) → List (ℕ × Request) → Type 0 → Type 0
 IfVotersStay os qs P = (V : World) → AreOutlines os V → All (LeavesVoter V) qs → P
 
@@ -26,7 +27,7 @@ IfVotersStay os qs P = (V : World) → AreOutlines os V → All (LeavesVoter V) 
 abbrev pub AsksForNone : ℕ × Request → Type 0
 AsksForNone q = (from to : ℕ) → q.1 ≡ Read from to → ⊥
 
--- The call only read: the files, the pending batches and the outlines are unchanged. At most the engine's cached block
--- differs.
+-- The call, from the state `s` to `t`, only read: the files, the pending batches and the outlines are unchanged. At
+-- most the engine's cached block differs.
 abbrev pub ReadsAlone : EngineState → EngineState → Outlines → Outlines → Type 0
 ReadsAlone s t old new = StaysButBlock s t × (new ≡ old)

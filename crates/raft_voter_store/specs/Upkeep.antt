@@ -9,7 +9,7 @@ use Rattle.raft_voter_durability_laws.specs.Calls.{KeepsOrLeaves}
 abbrev pub KeepsVoters : EngineState → EngineState → Type 0
 KeepsVoters s t = (home : LogDirectories) (V : World) → Keeps home s V → Keeps home t V
 
--- After a purge that failed with `error`, the log of `t` stores the voters that the log of `s` stored. Or the engine
--- has failed, and its files can be opened with just these voters.
+-- After a purge that failed with `error`, the log of `t` stores the voters that the log of `s` stored. Or the engine of
+-- `t` has failed, and its files can be opened with just these voters.
 abbrev pub KeepsOrLeavesVoters : Error → EngineState → EngineState → Type 0
 KeepsOrLeavesVoters error s t = (home : LogDirectories) (V : World) → Keeps home s V → KeepsOrLeaves home error t V

@@ -40,14 +40,15 @@ pub data HasItsCause {S F : Type 0} (v : Service S) (Happened : Moment S F → S
       → IsCutOff v old round cause new → HasItsCause v Happened round
   was_idle : (files : F) → Happened (idle round files) (Closed files) → IsIdle round → HasItsCause v Happened round
 
--- Each round in the report of a run has one of these causes.
+-- each round in the report of a run has its cause, as `HasItsCause` says
 abbrev pub EachRoundHasItsCause : {S F : Type 0} → Service S → Upkeep S → Disk S F → Type 0
 EachRoundHasItsCause {S} {F} v u d = (files : F) (events : List Event) (report : WorldReport F)
     → (run : IsRun v u d files events report)
     → All (HasItsCause v (IsOfRun v u d files events report run)) report.transcript.rounds
 
--- Open store `old` was purged, and is `new` afterwards. The purge succeeded and did its work, or failed for a cause
--- that it may have. `new` serves the voters of `old`, unless it has failed.
+-- A purge of the storage `at` left the storage `now`. The open store `old` was purged, and is `new` afterwards. The
+-- purge succeeded and did its work, or failed for the cause `refusal`, which it may have. `new` serves the voters of
+-- `old`, unless it has failed.
 pub record WasPurged {S F : Type 0} (v : Service S) (u : Upkeep S) (purge : Purge) (refusal : Option Cause)
     (at now : Storage S F) : Type 0 where
   pub old : S

@@ -1,5 +1,6 @@
--- A history: a list of moments. Each moment is one thing that happens to a store of voters or its files. An event of a
--- run makes some moments, or none.
+-- A history: a list of moments. Each moment is one thing that happens to a store of voters or its files. An event of
+-- a run makes some moments, or none. Throughout, `v` and `u` are what the store promises for rounds and between them,
+-- and `d` what its disk promises.
 use Rattle.std.specs.Prelude.{◌≡◌, ℕ, ◌≤◌, ◌==◌, Bool, true, false, if◌then◌else◌, List, [], ◌∷◌, length, Option, None, Some, map}
 use Rattle.std.specs.List.{flat_map}
 use Rattle.std.specs.String.{string_bytes}
@@ -130,7 +131,7 @@ Crashes v d (Closed files) gone left =
 Crashes v d (Open store) gone left =
     d.crashes_under store gone left × LeavesUnder v d store left × (d.has_stopped left ≡ false)
 
--- the purge succeeded and did its work, or it failed for this cause
+-- the purge, which changed store `old` into `new`, succeeded and did its work, or it failed for this cause
 abbrev pub EndsPurge : {S : Type 0} → Service S → Upkeep S → Purge → Option Cause → S → S → Type 0
 EndsPurge v u purge None old new = u.purges purge old new × IsAlive (v.is_failed old) (v.is_failed new)
 EndsPurge v u purge (Some cause) old new =

@@ -9,8 +9,8 @@ use Rattle.raft_voter_world.specs.Independent.{AreIndependent}
 
 -- Any two stores.
 
--- Both stores gave the same replies to these rounds. Each group got the replies of a voter that takes only this
--- group's requests. Both stores serve these voters afterwards.
+-- The replies of both stores to these rounds, `told` and `heard`, are the same. Each group got the replies that its
+-- voter in `W` gives to this group's requests alone. The stores, now `new` and `last`, serve the voters after these.
 pub record AnsweredAlike {S T : Type 0} (v : Service S) (w : Service T) (W : World)
     (rounds : List (List (ℕ × Request))) (told heard : List (List Reply)) (new : S) (last : T) : Type 0 where
   pub same : told ≡ heard
@@ -85,7 +85,8 @@ abbrev pub answers_in : List Reply → List Reply
 answers_in [] = []
 answers_in (a ∷ told) = if is_refused a then answers_in told else a ∷ answers_in told
 
--- The model's replies are the store's replies without `Refused`. Both serve the same voters afterwards.
+-- The model's replies `told` are the store's replies `heard` without `Refused`. The model, now `new`, and the store,
+-- now `last`, serve the same voters.
 pub record TellsTaken {S T : Type 0} (model : Service S) (v : Service T) (told heard : List (List Reply)) (new : S)
     (last : T) : Type 0 where
   pub same : told ≡ map answers_in heard

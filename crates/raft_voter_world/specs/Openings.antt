@@ -1,4 +1,5 @@
--- What may come out of an open of a store's files.
+-- What may come out of an open of a store's files. `v`, `u` and `d` are what the store and its disk promise, and
+-- `gone` is what a crash leaves of the unsynced changes.
 use Rattle.std.specs.Prelude.{◌≡◌, ◌⊎◌, ℕ, true, false, List}
 use Rattle.raft_voter_outline.specs.State.{State}
 use Rattle.raft_voter.specs.Service.{Service}
@@ -24,8 +25,8 @@ ComesOf {S} {F} v u d store gone (IsClosed files) =
     ⊎ ((now : S) × StaysAsItWas v store now × (u.has_stopped now ≡ false)
     × d.closes now files × LeavesInFiles v d now files)
 
--- An open of `files` has the outcome `opened`: a store was opened, or the open failed. If the disk had already
--- stopped, nothing was opened, and the files are unchanged.
+-- An open of `files` by this many workers has the outcome `opened`: a store was opened, or the open failed. If the
+-- disk had already stopped, nothing was opened, and the files are unchanged.
 abbrev pub ComesOut : {S F : Type 0} → Service S → Upkeep S → Disk S F → F → ℕ → Left → Opened S F → Type 0
 ComesOut {S} {F} v u d files workers gone opened =
     (((store : S) × (d.has_stopped files ≡ false) × IsOpened v d files workers store × ComesOf v u d store gone opened))

@@ -1,4 +1,5 @@
--- The events of a run that have been played, and how the run ends.
+-- The events of a run that have been played, and how the run ends. `v`, `u` and `d` are what the store and its disk
+-- promise.
 use Rattle.std.specs.Prelude.{◌≡◌, ◌⊎◌, ℕ, true, false, List, ◌++◌}
 use Rattle.raft_voter.specs.Service.{Service}
 use Rattle.raft_voter_world.specs.declared.event.Event.{Event}
@@ -40,8 +41,8 @@ Stands v d files gone kept =
     ((d.has_stopped files ≡ false) × (kept ≡ files))
     ⊎ ((d.has_stopped files ≡ true) × Crashes v d (Closed files) gone kept)
 
--- A run ended in this world, and `report` is its report. A store that was open is closed. For a last round that was
--- cut off with no open after it, the report has the cut 0.
+-- A run ended in this world, and `report` is its report. The moments `closing` closed a store that was open. For a
+-- last round that was cut off with no open after it, the report has the cut 0.
 pub record Ended {S F : Type 0} (v : Service S) (u : Upkeep S) (d : Disk S F) (world : World S F) (report : WorldReport F)
     : Type 0 where
   pub closing : List (Moment S F)

@@ -13,10 +13,9 @@ use Rattle.raft_voter_world.specs.History.Moment.{opened, unread, fell, unopened
 use Rattle.raft_voter_world.specs.Run.{EndsWell, IsRun, Knows, moments_of}
 use Rattle.raft_voter_world.specs.Stores.{Disk, Upkeep}
 
--- What holds for these moments. By the proof `known`, an open of `storage` finds only voters that are possible after
--- `cut`. After each moment this holds for the next storage and cut-off round, and the reader continues with any proof
--- of it. Each open shows such voters and finds their position. `End` is true at the end. After a CRC collision, in
--- files that an open reads or a crash leaves, nothing is claimed.
+-- What holds for these moments, if by the proof `known` an open of `storage` finds only voters that are possible
+-- after `cut`. After each moment the same holds for the next storage and cut-off round, and the reader continues with
+-- any proof of it. The rest is as in `Goes`: what opens show, `End` at the end, and nothing after a CRC collision.
 abbrev pub GoesBy :
     {S F : Type 0}
     → (v : Service S) (d : Disk S F) → (Storage S F → CutRound → Type 0)

@@ -1,4 +1,5 @@
--- A run: the moments that events make, from the first files to the last close, and what holds for them.
+-- A run: the moments that events make, from the first files to the last close, and what holds for them. `v`, `u` and
+-- `d` are as in `History`: what the store and its disk promise.
 use Rattle.std.specs.Prelude.{◌≡◌, ℕ, List, [], ◌∷◌, ◌++◌, IsSome}
 use Rattle.raft_voter.specs.Rounds.{World, Explains, Leads, fresh_world}
 use Rattle.raft_voter.specs.Service.{CutRound, IsOpenAt, MayFollow, Service, uncut}

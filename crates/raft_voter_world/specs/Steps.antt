@@ -1,4 +1,5 @@
--- One event of a run: the moments that it makes, and what the notes have after it.
+-- One event of a run: the moments that it makes, and what the notes have after it. `v`, `u` and `d` are what the
+-- store and its disk promise, and `event` is the event's number.
 use Rattle.std.specs.Prelude.{◌≡◌, ℕ, false, List, ◌++◌, None}
 use Rattle.raft_voter.specs.Service.{Service}
 use Rattle.raft_voter_world.specs.declared.event.Event.{Event}

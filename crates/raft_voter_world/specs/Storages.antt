@@ -1,4 +1,5 @@
--- What calls do to a storage, which is an open store, or the files if no store is open.
+-- What calls do to a storage, which is an open store, or the files if no store is open. `v`, `u` and `d` are what the
+-- store and its disk promise.
 use Rattle.std.specs.Prelude.{◌≡◌, ℕ, List, Option}
 use Rattle.raft_voter_messages.specs.declared.request.Request.{Request}
 use Rattle.raft_voter.specs.Service.{Service, TakesNothing}

@@ -10,9 +10,9 @@ abbrev pub up_to : Option ℕ → ℕ → ℕ
 up_to None end = end
 up_to (Some first) end = min first end
 
--- A queue's files below `end` have left its live range, except those from the first pinned file on. `one` and `other`
--- say from which file on each of two listeners pins files. `held` is the lower of these; it is `None` if neither pins
--- any.
+-- A queue's files below `end` have left its live range, except those from the first pinned file on. The pipes may pin
+-- files (`one`), and so may a listener (`other`). Each pins all files from some number on, or none. `held` is the lower
+-- of the two numbers; it is `None` if neither pins a file.
 pub record PurgesFree (one other : Option ℕ → Type 0) (which : Which) (end : ℕ) (old new : LogPipes)
     : Type 0 where
   pub held : Option ℕ

@@ -21,8 +21,9 @@ abbrev pub plain_place : ℕ → ℕ → ℕ
 plain_place count place = cond (has_sign count place) (place - count) place
 
 -- Where the files of a queue are: the directories, the main one first, and the path of each file. The path depends on
--- the file's place (`has_sign`) and number. `numbered` gives the path of a file with an ordinary name. `reserved` gives
--- the path of a file that is kept for recycling under a reserved name.
+-- the file's place and on its number. The place says in which directory the file is, and whether its name has a plus
+-- sign (`has_sign`). `numbered` gives the path of a file with an ordinary name. `reserved` gives the path of a file
+-- that is kept for recycling under a reserved name.
 pub record FilePaths : Type 0 where
   pub directories : List (List ℕ)
   pub numbered : ℕ → ℕ → List ℕ

@@ -33,7 +33,7 @@ settled q = record q { stale = []; durable = recent q; pending = [] }
 abbrev pub with_room : {R : Type 0} → ℕ → LogFiles R → LogFiles R
 with_room size q = record q { stale = grown size q.stale }
 
--- The queue `q` with a last file that has no record yet. This file has the header, or will get it, and it held `stale`
--- when it got its number.
+-- The queue `q`, except that its last file has just got its number and has no record yet. This file has `header`, or
+-- will get it, and it held `stale` when it got its number.
 abbrev pub begun : {R : Type 0} → List ℕ → List ℕ → LogFiles R → LogFiles R
 begun header stale q = record q { header = header; stale = stale; durable = []; pending = [] }

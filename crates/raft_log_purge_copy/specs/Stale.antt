@@ -46,8 +46,9 @@ pub record FailsToTurn (queue : LogQueue) (error : Error) (s t : EngineState) : 
   pub cause : (home : LogDirectories) (log : LogMap) → HoldsSettled home s log → HasFileReason error s t
 
 -- All stale files were purged. Append was synced, and the owed tombstones were written to Rewrite. Then each queue,
--- Rewrite first, rotated, and the files below its lowest file in use left its live range. The batches that were pending
--- are now in the log's contents, and nothing is pending in either queue.
+-- Rewrite first, rotated, and the files below its lowest file in use left its live range. The memtables `m` say which
+-- files the groups need. The batches that were pending are now in the log's contents, and nothing is pending in either
+-- queue.
 pub record PurgesAllStale (m : MemTables) (s t : EngineState) : Type 0 where
   pub synced : LogPipes
   pub syncs : SyncsQueue InAppend s.pipes synced

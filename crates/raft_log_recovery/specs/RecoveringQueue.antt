@@ -15,8 +15,9 @@ use Rattle.raft_log_recovery.specs.Unaligned.{AreUnaligned, TellsAligned}
 use Rattle.raft_log_recovery.specs.declared.builder.DualPipesBuilder.{DualPipesBuilder}
 use Rattle.raft_log_recovery.specs.declared.recovered_queue.RecoveredQueue.{RecoveredQueue}
 
--- The replay machine has read all files of the queue, and none of them has an alignment. Then the damaged ones were
--- truncated and synced. `after` has the results for the files.
+-- The replay machine has read all files of the queue `q`, or none if `config.concurrency` is 0. Each file that was read
+-- has no alignment: its records follow one another without padding. Then the damaged files were truncated and synced.
+-- `after` has the files of `q`, and the result for each file that was read.
 pub record RecoversFiles {M : Type 0} (reads : LogQueue → List Batch → M → Type 0) (config : RecoveryConfig)
     (machine : M) (q after : RecoveredQueue) (old new : Disk) : Type 0 where
   pub read : HasReadFiles reads config q.files.items old machine after.endings.items

@@ -12,8 +12,8 @@ use Rattle.raft_voter_session.specs.Text.{unreadable_text}
 use Rattle.raft_voter_program.specs.StoreSetup.{Setup}
 use Rattle.raft_voter_program.specs.Run.{WritesRun, settings_refused}
 
--- What may be written for a session, and the status. If files remain, the text is the transcript of a run whose report
--- has these files. If none remain, it says that the settings were rejected, with status 1.
+-- What may be written for a session, and the status. If files remain, the text is the transcript of a run that left
+-- these files (`report.files`). If none remain, it says that the settings were rejected, with status 1.
 abbrev pub WritesLeaving :
     {S F : Type 0} → Service S → Upkeep S → Disk S F → Setup F → Option F → SessionContent → List ℕ → ℕ → Type 0
 WritesLeaving v u d s None session text status =

@@ -127,7 +127,7 @@ fn report_write_fault<G: PipeFormat, F: FileSystem, L: Log>(
 /// Appends a record, and returns its location. The pipe rotates first if the active file has reached the target size.
 ///
 /// - `Io`: the write failed; its bytes were truncated away, and everything before them is durable. The kind is
-///   `StorageFull` only if no directory has any space left.
+///   `StorageFull` only if the file system reports no free space in any directory.
 /// - `TryAgain`: the same for lack of space, and the pipe rotated after it.
 /// - `Memory`, `NumberRange`: the pipe couldn't rotate. The record isn't in the log, and no other one is lost.
 /// - `Failed`: the pipe can't be used any more. The record may be on the disk.

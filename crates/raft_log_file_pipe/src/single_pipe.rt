@@ -129,7 +129,7 @@ impl<G: PipeFormat> SinglePipe<G> {
     /// size.
     ///
     /// - `Io`: the write failed; its bytes were truncated away, and everything before them is durable. The kind is
-    ///   `StorageFull` only if no directory has any space left.
+    ///   `StorageFull` only if the file system reports no free space in any directory.
     /// - `TryAgain`: the same for lack of space, and the pipe rotated after it. The caller may append the record again.
     /// - `Memory`, `NumberRange`: the pipe couldn't rotate. The record isn't in the log, and no other one is lost.
     /// - `Failed`: the pipe has failed, now or before. The record may be on the disk.

@@ -54,7 +54,7 @@ impl Marking {
         }
     }
 
-    /// What the items of a batch say: what its only mark says, `Unmarked` without one.
+    /// The marking of a batch with these items: what its mark says, `Unmarked` without one, `Broken` with several.
     pub fn parse_all(items: &[LogItem]) -> Marking
         ensures { result ≡ marking_of_items items.now }
     {

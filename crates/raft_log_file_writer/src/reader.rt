@@ -45,8 +45,8 @@ pub(crate) fn open_file<F: FileSystem>(
 /// A log file that is open for reading at any offset. Its calls borrow the file system. Each call that reads bytes adds
 /// its receipt to the caller's.
 ///
-/// A read that the file system fails isn't retried. It fails if the file system has stopped, the file was deleted, or a
-/// byte is unreadable.
+/// A failed read isn't retried. A read fails if the file system has stopped, the file was deleted, or a byte is
+/// unreadable.
 #[derive(Clone, Copy, Debug, PartialEq, Eq)]
 pub struct LogFileReader {
     handle: Handle,

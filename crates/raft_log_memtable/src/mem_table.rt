@@ -479,8 +479,8 @@ impl MemTable {
     }
 
     /// Notes that copies of these entries were written to Rewrite. The room for it was prepared. Entries that are still
-    /// there get the new places: the rewritten ones, and with a gate the appended ones after them, up to the first in a
-    /// file past the gate. If the copies begin past the entries in Rewrite, none moves.
+    /// there get the new places: the rewritten ones, and with a gate the appended ones after them, before the first one
+    /// in a file past the gate. If the copies begin past the entries in Rewrite, none moves.
     pub fn rewrite(&mut self, entries: &[EntryIndex], gate: Option<FileSeq>)
         requires run { IsRun entries.now }
         requires room { length entries.now ≤ (promise self.old).moves }

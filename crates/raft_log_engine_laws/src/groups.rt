@@ -1,4 +1,4 @@
-//! Laws of each record of an atomic group: what each exit leaves.
+//! Laws of each record of an atomic group: what its write leaves, whether it succeeds or fails.
 
 ghost use Rattle.raft_log_engine_laws.specs.Ending.{
   RefusedEndsKeepTheMap,
@@ -25,8 +25,8 @@ pub fn written_parts_keep_the_map()
     ensures { WrittenPartsKeepTheMap }
 {}
 
-/// If Rewrite fails to write a part, the map is kept: its group is given up, or continues if nothing was done to the
-/// records.
+/// If Rewrite fails to write a part that begins or continues a group, the map is kept, and the group may be given up.
+/// After `NumberRange` or `Memory` an open group may also continue.
 pub fn refused_parts_keep_the_map()
     ensures { RefusedPartsKeepTheMap }
 {}
@@ -41,20 +41,21 @@ pub fn written_ends_keep_the_map()
     ensures { WrittenEndsKeepTheMap }
 {}
 
-/// If Rewrite fails to write the part that ends a group, the map is kept, whether the part is there or not. The
-/// tables are unchanged.
+/// Suppose Rewrite fails to write the part that ends a group, and the tables don't change. Then the map is kept,
+/// whether the part is there or not.
 pub fn refused_ends_keep_the_map()
     ensures { RefusedEndsKeepTheMap }
 {}
 
-/// A group that is left open never counts. The log is as it was, and later records count as if nothing of the group
-/// were there.
+/// An open group may be given up: the log has the same map. If no later record continues it, the other records count as
+/// if nothing of the group were there.
 pub fn groups_stay_open<E, V>()
     ensures engine { GroupsMayBeGivenUp }
     ensures records { GroupsLeftOpenCountNot E V }
 {}
 
-/// A group whose number is above those of all groups left open completes none of them.
+/// Later records whose groups have higher numbers than all groups left open complete none of these, and count as if
+/// none had been left open.
 pub fn open_groups_count_not<E, V>()
     ensures { NewGroupsEndNoOldOnes E V }
 {}
@@ -89,8 +90,8 @@ pub fn tables_take_whole_groups<E>()
     ensures whole { TablesTakeWholeGroups E }
 {}
 
-/// The end of a group in which a purge rewrites one raft group keeps the map, if the tables took it. The law asks
-/// only for what was written and what the tables did.
+/// The end of a group in which a purge rewrites one raft group keeps the map, if the tables took it. The law requires
+/// only what was written and what the tables did.
 pub fn rewritten_groups_keep_the_map()
     ensures { EndsOverTables }
 {}

@@ -85,8 +85,8 @@ fn rotate_for_space<G: PipeFormat, F: FileSystem, L: Log>(
     }
 }
 
-/// Returns the error to report for a failed write. If the write failed for lack of space, the pipe rotates, unless no
-/// directory has any space left.
+/// Returns the error to report for a failed write. If the write failed for lack of space and was truncated away, the
+/// pipe rotates, unless no directory has any space left.
 fn report_write_fault<G: PipeFormat, F: FileSystem, L: Log>(
     alloc: Global,
     layout: &G,
@@ -126,11 +126,13 @@ fn report_write_fault<G: PipeFormat, F: FileSystem, L: Log>(
 
 /// Appends a record, and returns its location. The pipe rotates first if the active file has reached the target size.
 ///
-/// - `Io`: the write failed; its bytes were truncated away, and everything before them is durable. Its kind is
-///   `StorageFull` if no directory has any space left.
-/// - `TryAgain`: the same for lack of space in one directory, and the pipe rotated.
-/// - `Memory`, `NumberRange`: the pipe couldn't rotate, and nothing is lost.
-/// - `Failed`: the pipe can't be used any more.
+/// - `Io`: the write failed; its bytes were truncated away, and everything before them is durable. The kind is
+///   `StorageFull` only if the file system reports no free space in any directory.
+/// - `TryAgain`: the same for lack of space, and the pipe rotated after it.
+/// - `Memory`, `NumberRange`: the pipe couldn't rotate. The record isn't in the log, and no other one is lost.
+/// - `Failed`: the pipe can't be used any more. The record may be on the disk.
+///
+/// The pipe may also have rotated before a write that failed.
 pub fn append<G: PipeFormat, F: FileSystem, L: Log, B: ReactiveBytes>(
     alloc: Global,
     layout: &G,

@@ -62,7 +62,7 @@ fn greatest_reserved(files: &VecDeque<File>) -> FileSeq
 }
 
 /// Gives a file that is kept for recycling the reserved name after the last one, in the main directory. Returns the
-/// number of the last reserved name then; a failure is logged.
+/// number of the last reserved name then. A rename that fails is logged.
 fn reserve<G: PipeFormat, F: FileSystem, L: Log>(
     alloc: Global,
     layout: &G,

@@ -52,7 +52,8 @@ impl NewFiles {
     }
 }
 
-/// Whether a directory has room for `size` bytes. If its free space can't be read, it has none.
+/// Whether a directory has room for `size` bytes. If its free space can't be read, it has none. Fails only with
+/// `Memory`.
 fn has_room<F: FileSystem>(file_system: &F, directory: &str, size: usize) -> Result<bool>
     ensures ok { IfOk result (TellsRoom (F.tells_space file_system.now) (F.disk file_system.now) size
         directory.now) }
@@ -66,7 +67,7 @@ fn has_room<F: FileSystem>(file_system: &F, directory: &str, size: usize) -> Res
 }
 
 /// The directory for a new file: if there are several, the first that has room for `size` bytes, or the main one if
-/// none has.
+/// none has. Fails only with `Memory`.
 pub fn choose_directory<G: PipeFormat, F: FileSystem>(
     layout: &G,
     file_system: &F,
@@ -87,7 +88,8 @@ pub fn choose_directory<G: PipeFormat, F: FileSystem>(
     Ok(DEFAULT_PATH_ID)
 }
 
-/// Whether no directory has any space left. If memory runs out, that isn't known, and the answer is no.
+/// Whether no directory has any space left. A directory whose free space can't be read has none. If memory runs out,
+/// returns false.
 pub fn is_full<G: PipeFormat, F: FileSystem>(layout: &G, file_system: &F) -> bool
     ensures { IsTrue result → IsFull (F.tells_space file_system.now) (F.disk file_system.now)
         (G.file_paths layout.now) }

@@ -136,11 +136,12 @@ fn reopen_active_file<G: PipeFormat, F: FileSystem, L: Log>(
     }
 }
 
-/// Opens a pipe over what was found of its queue. If there is no file, the queue begins in a file 1. Otherwise it
-/// continues after what was read of its last file, which is truncated there, synced and writable.
+/// Opens a pipe over what was found of its queue. If there is no file, the queue begins with file 1. Otherwise it
+/// continues after what was read of its last file, which is truncated there and synced. If that file has no header, it
+/// gets one of version 1.
 ///
 /// - `Memory`: nothing was done.
-/// - `InvalidArgument`: the last file has an alignment.
+/// - `InvalidArgument`: the last file's format has an alignment, and nothing was done.
 /// - `Io`: a file call failed; all records that were read are still there.
 pub fn open<G: PipeFormat, F: FileSystem, L: Log>(
     alloc: Global,

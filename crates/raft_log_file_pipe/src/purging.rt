@@ -21,7 +21,7 @@ use std::alloc::Global;
 use std::collections::VecDeque;
 use std::io::ErrorKind;
 
-/// Deletes the files at these paths, in their order.
+/// Deletes the files at these paths, in their order, up to the first call that fails.
 fn drop_files<G: PipeFormat, F: FileSystem>(
     layout: &G,
     file_system: &mut F,
@@ -136,10 +136,11 @@ fn not_in_span(alloc: Global, files: &PipeFiles, seq: FileSeq) -> Error
 }
 
 /// Removes the files below a number from the live range, before any file call. From the oldest on, those with signed
-/// records are kept for recycling, as long as the pipe has fewer files than its capacity with them. The others are
-/// deleted. Returns how many left the live range.
+/// records are kept for recycling, until live and recycled files together reach the capacity. The others are deleted.
+/// Returns how many left the live range.
 ///
-/// - `Other` (the number isn't in the live range), `Memory`: nothing was done.
+/// - `Other`: the number isn't in the live range, and nothing was done.
+/// - `Memory`, or `NumberRange` if no name has the number of one of the files: nothing was done.
 /// - `Failed`: a file wasn't deleted, and the pipe can't be used any more.
 pub fn purge<G: PipeFormat, F: FileSystem, L: Log>(
     alloc: Global,

@@ -156,7 +156,7 @@ fn rotate_into_new<G: PipeFormat, F: FileSystem, L: Log>(
 /// Rotates: finishes the active file, and continues in the oldest file kept for recycling, or in a new one if there is
 /// none.
 ///
-/// - `Memory`, `NumberRange`: nothing was done.
+/// - `Memory`, or `NumberRange` if the next number has more than sixteen digits: nothing was done.
 /// - `Failed`: a file call failed, and the pipe can't be used any more.
 pub fn rotate<G: PipeFormat, F: FileSystem, L: Log>(
     alloc: Global,

@@ -41,7 +41,7 @@ pub struct PipeSettings {
     pub queue: LogQueue,
     /// How the pipe's files are begun.
     pub new_files: NewFiles,
-    /// How many files it may have, those of its live range and those kept for recycling, before a purge deletes some.
+    /// A purge keeps a file for recycling only if live and recycled files together are then at most this many.
     pub capacity: usize,
 }
 
@@ -128,11 +128,13 @@ impl<G: PipeFormat> SinglePipe<G> {
     /// Appends a record, and returns its location. The pipe rotates first if the active file has reached the target
     /// size.
     ///
-    /// - `Io`: the write failed; its bytes were truncated away, and everything before them is durable. Its kind is
-    ///   `StorageFull` if no directory has any space left.
-    /// - `TryAgain`: the same for lack of space in one directory, and the pipe rotated.
-    /// - `Memory`, `NumberRange`: the pipe couldn't rotate, and nothing is lost.
-    /// - `Failed`: the pipe has failed.
+    /// - `Io`: the write failed; its bytes were truncated away, and everything before them is durable. The kind is
+    ///   `StorageFull` only if the file system reports no free space in any directory.
+    /// - `TryAgain`: the same for lack of space, and the pipe rotated after it. The caller may append the record again.
+    /// - `Memory`, `NumberRange`: the pipe couldn't rotate. The record isn't in the log, and no other one is lost.
+    /// - `Failed`: the pipe has failed, now or before. The record may be on the disk.
+    ///
+    /// The pipe may also have rotated before a write that failed.
     pub fn append<F: FileSystem, L: Log, B: ReactiveBytes>(
         &mut self,
         alloc: Global,
@@ -227,8 +229,9 @@ impl<G: PipeFormat> SinglePipe<G> {
 
     /// Rotates into the oldest file kept for recycling, or into a new one if there is none.
     ///
-    /// - `Memory`, `NumberRange`: nothing was done.
-    /// - `Failed`: a file call failed.
+    /// - `Memory`: nothing was done.
+    /// - `NumberRange`: the next number has more than sixteen digits, and nothing was done.
+    /// - `Failed`: a file call failed, and the pipe has failed; or it had failed before.
     pub fn rotate<F: FileSystem, L: Log>(
         &mut self,
         alloc: Global,
@@ -277,11 +280,13 @@ impl<G: PipeFormat> SinglePipe<G> {
     }
 
     /// Removes the files below a number from the live range, and returns how many. From the oldest on, those with
-    /// signed records are kept for recycling, as long as the pipe has fewer files than its capacity with them. The
-    /// others are deleted.
+    /// signed records are kept for recycling, until live and recycled files together reach the capacity. The others are
+    /// deleted.
     ///
-    /// - `Other` (the number isn't in the live range), `Memory`: nothing was done.
-    /// - `Failed`: a file wasn't deleted, and the pipe has failed.
+    /// - `Other`: the number isn't in the live range, and nothing was done.
+    /// - `Memory`, or `NumberRange` if no name has the number of one of the files: nothing was done.
+    /// - `Failed`: a file wasn't deleted, and the pipe has failed; or it had failed before. In the first case the files
+    ///   have left the live range.
     pub fn purge_to<F: FileSystem, L: Log>(
         &mut self,
         alloc: Global,
@@ -327,7 +332,7 @@ impl<G: PipeFormat> SinglePipe<G> {
     }
 
     /// The bytes at a location; fewer if the file ends first. Fails with `Corruption` if its file isn't in the live
-    /// range.
+    /// range, with `Io` if the read fails, or with `Memory`.
     pub fn read_bytes<F: FileSystem>(
         &self,
         alloc: Global,
@@ -347,8 +352,8 @@ impl<G: PipeFormat> SinglePipe<G> {
         LogFileReader::open(handle).read(alloc, file_system, block, &mut Receipt::none())
     }
 
-    /// Replaces the contents of `bytes` with the bytes at a location; fewer if the file ends first. Fails with
-    /// `Corruption` if its file isn't in the live range. If it fails, `bytes` may hold anything.
+    /// Replaces the contents of `bytes` with the bytes at a location; fewer if the file ends first. Fails as
+    /// `read_bytes` does; then `bytes` may hold anything.
     pub fn read_over<F: FileSystem>(
         &self,
         alloc: Global,
@@ -375,7 +380,7 @@ impl<G: PipeFormat + Drop> SinglePipe<G> {
     ghost use Rattle.raft_log_file_pipe.specs.Opening.{OpenLeaves, OpensPipe};
     ghost use Rattle.raft_log_file_pipe.specs.Doing.{OpensPipeBy};
 
-    /// Opens a pipe over what was found of its queue. If there is no file, the queue begins in a file 1. Otherwise it
+    /// Opens a pipe over what was found of its queue. If there is no file, the queue begins with file 1. Otherwise it
     /// continues after what was read of its last file, which is truncated there and synced. If that file has no header,
     /// it gets one of version 1.
     ///
@@ -410,11 +415,11 @@ impl<G: PipeFormat + Drop> SinglePipe<G> {
 
     /// Closes the pipe: truncates its active file after its records and syncs it. Then the files that are kept for
     /// recycling get reserved names in the main directory, from the newest down until one has such a name. The numbers
-    /// begin after the greatest reserved one. A failure to give a name is only logged.
+    /// begin after the greatest reserved one. A file that gets no name doesn't fail the close.
     ///
     /// - `Ok`: all records are durable.
     /// - `Io`: the truncation or the sync failed; what was durable still is, and the names were given anyway.
-    /// - `Failed`: the pipe had failed, and nothing was touched.
+    /// - `Failed`: the pipe had failed, and the disk is unchanged.
     pub fn close<F: FileSystem, L: Log>(
         self,
         alloc: Global,
@@ -446,8 +451,8 @@ impl<G: PipeFormat + Drop> SinglePipe<G> {
 
     /// The first half of a close: truncates the active file after its records, and syncs it.
     ///
-    /// - `Io`: the truncation or the sync failed.
-    /// - `Failed`: the pipe had failed, and nothing was touched.
+    /// - `Io`: the truncation or the sync failed; what was durable still is.
+    /// - `Failed`: the pipe had failed, and the disk is unchanged.
     pub fn finish<F: FileSystem, L: Log>(&mut self, rt: &L, file_system: &mut F) -> Result<()>
         ensures held { self.old.failed ≡ false → LeavesClosed (G.format self.old.layout)
             (G.own self.old.layout) (G.file_paths self.old.layout) self.old.files
@@ -473,8 +478,8 @@ impl<G: PipeFormat + Drop> SinglePipe<G> {
         finish(&self.layout, rt, file_system, &mut self.files)
     }
 
-    /// The second half of a close: gives the files that are kept for recycling reserved names, as `close` does.
-    /// Failures are logged. If the pipe has failed, nothing is touched.
+    /// The second half of a close: gives the files that are kept for recycling reserved names, as `close` does. If the
+    /// pipe has failed, the disk is unchanged.
     pub fn reserve_names<F: FileSystem, L: Log>(self, alloc: Global, rt: &L, file_system: &mut F)
         ensures held { self.failed ≡ false → StaysLeft (G.format self.layout) (G.own self.layout)
             self.files.recycled.items (F.disk file_system.old) (F.disk file_system.new) }

@@ -14,7 +14,7 @@ use raft_log_fs::FileSystem;
 use std::io::ErrorKind;
 
 /// Appends a record to the active file, and returns its offset in bytes. If the write fails, the file is truncated to
-/// what was written before, and synced.
+/// what was written before, and synced. The fault says whether that succeeded.
 pub fn add<G: PipeFormat, F: FileSystem, L: Log>(
     layout: &G,
     rt: &L,
@@ -44,7 +44,7 @@ pub fn add<G: PipeFormat, F: FileSystem, L: Log>(
     Ok(at)
 }
 
-/// Makes all records durable.
+/// Makes all records durable. Returns the error of a sync that fails.
 pub fn sync<G: PipeFormat, F: FileSystem>(
     layout: &G,
     file_system: &mut F,

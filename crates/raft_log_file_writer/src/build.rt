@@ -16,10 +16,13 @@ use raft_log_record_base::Result;
 use std::alloc::Global;
 
 /// Creates or opens a file, and returns a writer that appends to it. A new file gets the format's header, and so does a
-/// file that is shorter than the header. The header is built before any call is made.
+/// file that is shorter than the header.
 ///
+/// - `InvalidArgument`: the format has no header (`build_header`), and no call was made.
+/// - `Memory`: no file was created or changed.
 /// - `Io(AlreadyExists)`: the file should be created, and the path is taken.
 /// - `Io(NotFound)`: the file should be opened, and doesn't exist.
+/// - `Io`: a file call failed. If that was the header's write, a file that was created is still there.
 pub fn build_file_writer<F: FileSystem, L: Log>(
     rt: &L,
     alloc: Global,
@@ -52,7 +55,8 @@ pub fn build_file_writer<F: FileSystem, L: Log>(
     Ok(LogFileWriter::open(rt, file_system, handle, &header, create)?)
 }
 
-/// The bytes of a format's header. Fails with an invalid argument for version 1 with an alignment, which has no header.
+/// The bytes of a format's header. Fails with `InvalidArgument` for version 1 with an alignment, which has no header,
+/// or with `Memory`.
 pub fn build_header(alloc: Global, format: &LogFileFormat) -> Result<Vec<u8>>
     ensures ok { IfOk result (λ header. HasWrittenHeader format.now × (header.items ≡ header_bytes format.now)) }
     ensures spelled { IfOk result (λ header. IsFileHeader header.items format.now) }

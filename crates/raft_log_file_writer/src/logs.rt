@@ -22,8 +22,8 @@ pub fn log_of_files_is_readable<G: LogFormat>()
     ensures { IsFormat G.format → QueueIsReadable G.format }
 {}
 
-/// What a stop without a CRC collision leaves of a log of several files is such a log again. It meets the premise at
-/// the next stop.
+/// What a stop without a CRC collision leaves of a log of several files is such a log again. The next stop leaves no
+/// CRC collision in it.
 pub fn log_of_files_restarts<G: LogFormat>()
     ensures { IsFormat G.format → QueueRestarts G.format }
 {}

@@ -15,7 +15,8 @@ use std::io::ErrorKind;
 /// The length of the longest header in bytes.
 const MAX_HEADER_LEN: usize = 69;
 
-/// Opens a file for reading. Fails with `Io(NotFound)` if no file has the path.
+/// Opens a file for reading. Fails with `Io(NotFound)` if no file has the path, with `Io` if the file system has
+/// stopped, or with `Memory`.
 pub fn build_file_reader<F: FileSystem>(file_system: &F, path: &str) -> Result<LogFileReader>
     ensures ok { IfOk result (λ reader. IsOpened path.now Permission.ReadOnly reader.handle
         (F.disk file_system.now)) }
@@ -44,8 +45,8 @@ pub(crate) fn open_file<F: FileSystem>(
 /// A log file that is open for reading at any offset. Its calls borrow the file system. Each call that reads bytes adds
 /// its receipt to the caller's.
 ///
-/// A read that the file system fails isn't retried, as it would fail again: the file system has stopped, the file was
-/// deleted, or a byte is unreadable.
+/// A failed read isn't retried. A read fails if the file system has stopped, the file was deleted, or a byte is
+/// unreadable.
 #[derive(Clone, Copy, Debug, PartialEq, Eq)]
 pub struct LogFileReader {
     handle: Handle,
@@ -60,7 +61,8 @@ impl LogFileReader {
     }
 
     /// Reads the format from the header. If the file begins with no header, fails on the first of these: other magic
-    /// bytes, a truncated version number (a codec error), an unknown version, a truncated alignment.
+    /// bytes, a truncated version number (`Codec`), an unknown version, a truncated alignment. It can also fail with
+    /// `Io` or `Memory`.
     pub fn parse_format<F: FileSystem>(
         &self,
         alloc: Global,
@@ -81,7 +83,7 @@ impl LogFileReader {
         LogFileFormat::decode(alloc, &mut source)
     }
 
-    /// The bytes of a block; fewer if the file ends before the block does.
+    /// The bytes of a block; fewer if the file ends before the block does. Fails with `Io` or `Memory`.
     pub fn read<F: FileSystem>(
         &self,
         alloc: Global,
@@ -100,8 +102,8 @@ impl LogFileReader {
         Ok(bytes)
     }
 
-    /// Replaces the contents of `bytes` with the bytes of a block; fewer if the file ends before the block does. If it
-    /// fails, `bytes` may hold anything.
+    /// Replaces the contents of `bytes` with the bytes of a block; fewer if the file ends before the block does. Fails
+    /// with `Io` or `Memory`; then `bytes` may hold anything.
     pub fn read_over<F: FileSystem>(
         &self,
         file_system: &F,
@@ -121,7 +123,7 @@ impl LogFileReader {
         Ok(())
     }
 
-    /// Reads bytes from an offset on until the room is full or the file ends. Returns how many.
+    /// Reads bytes from an offset on until the room is full or the file ends. Returns how many. Fails only with `Io`.
     pub fn read_to<F: FileSystem>(
         &self,
         file_system: &F,
@@ -143,7 +145,7 @@ impl LogFileReader {
         Ok(read.count)
     }
 
-    /// The size of the file in bytes.
+    /// The size of the file in bytes. Fails only with `Io`.
     pub fn file_size<F: FileSystem>(&self, file_system: &F) -> Result<usize>
         ensures ok { IfOk result (λ size. IsSize self.now.handle.file (F.disk file_system.now) size) }
         ensures err { IfErr result (λ error. IsSizeRefusal self.now.handle (F.disk file_system.now) error) }

@@ -30,7 +30,7 @@ impl LogFileWriter {
     ghost use Rattle.raft_log_file_writer.specs.Writer.{Closes, CutsBehind, DurableStays, FailsToClose, FailsToCutBehind, FailsToTakeUp, FailsToWriteNext, CanBeTakenUp, IsWriterAt, IsClosed, IsSynced, IsTakenUp, AreItsBytes, IsWritten, KeepsWritten, MakesRoom, TakesUp, WritesNext, reach};
 
     /// Opens a writer at the end of a file. If the file is shorter than the header, or `force_reset` is set, it writes
-    /// the header at the front, whatever the file holds. It allocates no memory.
+    /// the header at the front. It then continues after the header, whatever the file holds.
     pub fn open<F: FileSystem, L: Log>(
         rt: &L,
         file_system: &mut F,
@@ -104,7 +104,8 @@ impl LogFileWriter {
         Ok(())
     }
 
-    /// Truncates the file to what was written, if it may be longer. If it fails, the file may still be longer.
+    /// Truncates the file to what was written, if it may be longer. It doesn't sync. If it fails, the file may still be
+    /// longer.
     pub fn truncate<F: FileSystem>(&mut self, file_system: &mut F) -> Result<(), ErrorKind>
         ensures ok { OnOk result (CutsBehind self.old self.new
             (F.disk file_system.old) (F.disk file_system.new)) }

@@ -1,5 +1,5 @@
 //! A file system in memory, for tests and simulated crashes. Calls can be made to fail, whole or in part; it can stop
-//! at any call; places of its files can be made unreadable. After a stop it gives what a crash leaves.
+//! at any call; places of its files can be made unreadable. `remainder` returns what a crash leaves.
 #![tactic(auto)]
 
 pub mod memory;

@@ -67,8 +67,8 @@ impl MemoryFileSystem {
         self.failures
     }
 
-    /// The file system that a restart finds after a crash now; `what` chooses what is left of the unsynced changes.
-    /// Fails only if memory runs out.
+    /// The file system that a restart finds after a crash now, whether this one has stopped or not. `what` chooses what
+    /// is left of the unsynced changes. Fails only if memory runs out.
     /// - The names are unchanged, and a gap before what is left of a write is zeros.
     /// - No fault is armed, each place can be read, no space is set, and no failure is counted.
     pub fn remainder(&self, what: &Remainder) -> Result<MemoryFileSystem, AllocError>

@@ -4,7 +4,8 @@ use std::io;
 use std::io::ErrorKind;
 use thiserror::Error;
 
-/// Why directories weren't opened. No byte and no name of a file in them was changed.
+/// Why directories weren't opened. No byte and no name of a log file was changed, but `LOCK` and `RESERVE` may have
+/// been made.
 #[derive(Debug, Drop, Error)]
 pub enum DirectoryFault {
     /// Nothing is at the path.
@@ -13,19 +14,20 @@ pub enum DirectoryFault {
     /// The path is no directory.
     #[error("{0:?} is no directory")]
     NoDirectory(String),
-    /// Another log has the directory open, or its file `LOCK` locked, in this or another process.
+    /// Another open has a lock on the directory or on its file `LOCK`, in this or another process. Also if both paths
+    /// of an open for writing name one directory, spelled differently.
     #[error("{0:?} is in use by another log")]
     InUse(String),
     /// An entry with the name of a log file is no regular file, but for example a link or a directory.
     #[error("{0:?} has the name of a log file and is no regular file")]
     Irregular(String),
-    /// The same directory was given twice.
+    /// The same path was given for both directories.
     #[error("{0:?} is named twice")]
     Twice(String),
     /// The operating system failed a call, for example for lack of permission.
     #[error("{path:?}: {error}")]
     Refused {
-        /// The path of the call.
+        /// The path of the call. If a file couldn't be synced or read, that of its directory.
         path: String,
         /// The error that the operating system returned.
         error: io::Error,

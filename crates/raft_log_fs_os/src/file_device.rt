@@ -41,22 +41,22 @@ const UNDONE_WRITE: u64 = 9;
 const UNDONE_GROWTH: u64 = 10;
 
 /// The most bytes that one system call writes, and the size of the buffer of zeros for growing files. Some systems keep
-/// a longer write as one long piece in memory: each short write into that piece, and each sync after it, goes over the
-/// whole piece.
+/// a longer write as one long piece in memory. Each short write into that piece, and each sync after it, then takes
+/// time in the whole piece.
 pub(crate) const PIECE: usize = 1 << 16;
 
 /// The operating system's files, as a device.
 /// - Each file that has a name is open; the directories stay open and locked until the device is dropped.
-/// - A method makes one system call, or, for a write or a growth, one for each piece of its bytes. It then notes the
-///   call; only clauses read the notes.
-/// - A growth, and a write of several pieces that makes the file longer, is also synced.
+/// - A method makes one change on the device; a write and a growth make it piece by piece. It then notes the call; only
+///   clauses read the notes.
+/// - A growth is also synced, and so is a write that makes the file longer by more than a piece.
 /// - If a file that becomes longer finds no space, it is truncated to its old length. The first time, and the first
 ///   time after there was space again, that is printed to standard error, with the directory and the path.
 /// - A header and a record of Rewrite that find no space are tried once more, in the space that the directory keeps in
-///   reserve. So is the making of a file.
-/// - A call that fails is printed to standard error, with the path.
-/// - A directory is only made if the log's own files are only read, for a copy: nobody locks it. While a log is
-///   written, each of its directories has to be one that was opened.
+///   reserve. So is the making of a file. A deletion in the directory fills the reserve again.
+/// - A system call that fails is printed to standard error, with the path.
+/// - A directory is only made if the log's own files are only read, for a copy: nobody locks it. If they are written,
+///   this fails with `NotFound`.
 #[derive(Drop)]
 pub struct FileDevice<R> {
     rt: R,

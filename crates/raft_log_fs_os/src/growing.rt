@@ -1,10 +1,12 @@
-//! Makes files longer, and makes their new pages durable before anything else is written into them.
+//! Makes files longer. Zeros, and writes of more than 64 KiB past the end, are durable before anything else is written
+//! there.
 //!
 //! On ext4 with its default mount options, a page that was new at a failed sync loses later writes. They and their
-//! syncs succeed, but after the next mount the page reads as zeros. Truncating the page away ends that. A file that
-//! becomes longer is therefore synced at once, before a record is written there; if that fails, it is truncated.
+//! syncs succeed, but after the next mount the page reads as zeros. Truncating the page away ends that. A growth is
+//! therefore synced at once, before a record is written there. So is a write that makes its file longer by more than 64
+//! KiB. If the write or its sync fails, the file is truncated to its old length.
 //!
-//! A file that becomes longer may find no space. It is then truncated to its old length, so that its bytes are known.
+//! For lack of space the file is truncated too, so that its bytes are known.
 use super::file_device::PIECE;
 use raft_log_fs_traced::Attempt;
 use std::fs::File;
@@ -22,7 +24,7 @@ pub(crate) fn write_pieces(opened: &File, offset: usize, bytes: &[u8]) -> io::Re
 }
 
 /// Writes bytes into a file from an offset on, past its end. Those past the end come first, so that a lack of space
-/// leaves the file's own bytes as they are. If they are longer than a piece, they are synced.
+/// leaves the file's own bytes as they are. If those past the end are longer than a piece, they are synced.
 pub(crate) fn extend(opened: &File, offset: usize, bytes: &[u8]) -> io::Result<Attempt> {
     let length = opened.metadata()?.len();
     let inside = bytes

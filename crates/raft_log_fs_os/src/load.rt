@@ -54,8 +54,8 @@ impl Found {
         }
     }
 
-    /// Locks a directory, and adds it without its files. Readers share the lock. Fails if the directory was already
-    /// added, or if another log has it open.
+    /// Locks a directory, and adds it without its files. Readers share the lock. Fails with `NotADirectory`, with
+    /// `AlreadyExists` if the path was added before, or with `WouldBlock` if another open has the lock.
     pub fn add_directory<R: Files<File = File>>(
         &mut self,
         rt: &R,

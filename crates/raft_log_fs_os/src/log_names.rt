@@ -19,10 +19,11 @@ pub(crate) struct ListedFile {
     pub id: Option<FileId>,
 }
 
-/// The files in a directory that have names of log files; entries with other names are skipped. Both errors name the
-/// path:
+/// The files in a directory that have names of log files; entries with other names are skipped. The first two errors
+/// name the path:
 /// - `Irregular`: an entry with a log file's name is no regular file.
 /// - `Refused`: the operating system failed a call.
+/// - `Memory`: memory ran out.
 pub(crate) fn list_files<R: Files<File = File> + AllocGlobal + Clone>(
     rt: &R,
     directory: &str,

@@ -21,18 +21,20 @@ use std::{fs, io};
 
 /// Opens a log's main directory, and its second one if it has one, and returns the file system over them.
 ///
-/// - Both directories must exist. Each is locked until the file system is dropped, and so is the file `LOCK` in it, which
-///   is made if it isn't there. That file keeps out programs built on raft-engine.
-/// - Each directory gets a file `RESERVE` of 256 KiB, if there is room. A full disk gives its space to the header of a new
-///   file and to records of Rewrite.
-/// - Each regular file with a log file's name is synced and read, several in parallel. Entries with other names are
-///   ignored.
+/// - Both directories must exist. Each is locked until the file system is dropped, and so is the file `LOCK` in it.
+/// - The file `LOCK` is made if it isn't there. It keeps out programs built on raft-engine.
+/// - Each directory gets a file `RESERVE` of 256 KiB, if there is room. On a full disk its space is used for a new file
+///   with its header, and for records of Rewrite.
+/// - Each file with a log file's name is synced and read, several in parallel. If such an entry is no regular file, the
+///   open fails with `Irregular`. Entries with other names are ignored.
 /// - The last file of either queue is written back with the same bytes and synced; then the directories are synced.
 ///   What the file system shows is therefore durable, even if a sync failed earlier in this boot of the machine.
-/// - Paths are those of the operating system; the log's settings must spell them the same. No other directory is made:
-///   it would have no lock.
+///   `CALLING.md` lists two exceptions.
+/// - Paths are those of the operating system; the log's settings must spell them the same. The file system makes no
+///   other directory, as that would have no lock.
 ///
-/// If it fails, no byte of a file and no name has changed, but files `LOCK` and `RESERVE` may have been made.
+/// If it fails, no byte of a log file and no name has changed, but files `LOCK` and `RESERVE` may have been made. The
+/// contract has clauses only for success.
 pub fn open_directories<
     R: Files<File = File> + Threads + Eprint + AllocGlobal + Clone + Sync + Drop,
 >(
@@ -70,11 +72,15 @@ pub fn open_directories<
     Ok(DirectoryFileSystem::new(storage, device))
 }
 
-/// Opens the directories of a log only for reading, for a check or a copy: nothing is synced or written. This also
-/// opens a log in a file system that is mounted read-only.
+/// Opens the directories of a log only for reading, for a check or a copy. The open syncs and writes nothing, so it
+/// also works on a read-only mount.
 ///
-/// Several readers may have a log open at once, but no writer. A call that changes a file that was found stops the file
-/// system; new files may be made in other directories. This fails as `open_directories` does.
+/// Several readers may have a log open at once, but no writer. This fails as `open_directories` does, and makes no
+/// file.
+///
+/// - A write, growth or truncation that would change a file that was found fails and stops the file system.
+/// - Deletions and renames of such files aren't prevented. A deletion in one of the directories also makes `RESERVE`.
+/// - Files and directories may be made.
 pub fn open_directories_for_reading<
     R: Files<File = File> + Threads + Eprint + AllocGlobal + Clone + Sync + Drop,
 >(
@@ -111,6 +117,9 @@ pub fn open_directories_for_reading<
 
 /// Makes a directory if nothing has the path, and syncs its parent directory, so that no crash removes it. The parent
 /// is synced even if the path exists: a process that made it may have been killed before its sync.
+///
+/// A fault names `directory`. It is `Missing` or `NoDirectory` if the parent isn't there or is no directory. If the
+/// path is a file's, the call succeeds.
 pub fn make_directory<R: Files<File = File> + AllocGlobal>(
     rt: &R,
     directory: &str,

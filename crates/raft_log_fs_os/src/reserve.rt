@@ -1,9 +1,10 @@
-//! Space that a log still has on a full disk. Each directory of an open log has a file of zeros, which is truncated to
-//! nothing when its space is needed.
+//! Space that a log still has on a full disk. Each directory of a log that is open for writing has a file of zeros, if
+//! there was room. It is truncated to nothing when its space is needed, and filled again after a deletion in the
+//! directory.
 //!
 //! Two kinds of writes may use that space. A queue that begins a file has to write the file's header, and can't go back
 //! to the file before it. A purge has to write what is live into Rewrite before it deletes files, and only that makes
-//! space. Writes of users may not: they fail, and the log runs on.
+//! space. Records of users may not use it: they fail, and the log runs on.
 use super::file_device::PIECE;
 use super::growing::{extend, grow};
 use super::locked_directory::LockedDirectory;
@@ -38,7 +39,7 @@ impl Reserve {
         }
     }
 
-    /// Fills the reserve, unless it is full. If there is no room for it, or a call fails, the directory goes without it.
+    /// Fills the reserve, unless it is full. If there is no room for it, or a call fails, the directory has none.
     pub fn fill<R: Files<File = File>>(&mut self, rt: &R, zeros: &[u8]) {
         if !self.is_filled {
             self.is_filled = matches!(self.grown(rt, zeros), Ok(Attempt::Made));
@@ -54,7 +55,7 @@ impl Reserve {
         grow(&opened, zeros, SIZE)
     }
 
-    /// Gives the reserve's space away. Returns whether there was any.
+    /// Gives the reserve's space away. Returns whether there was any and the file was truncated.
     fn give<R: Files<File = File>>(&mut self, rt: &R) -> bool {
         let was_filled = self.is_filled;
         self.is_filled = false;
@@ -137,7 +138,7 @@ pub(crate) fn fill_beside<R: Files<File = File>>(
     }
 }
 
-/// Gives away the reserve of a file's directory. Returns whether there was any.
+/// Gives away the reserve of a file's directory. Returns whether there was any and its file was truncated.
 fn give<R: Files<File = File>>(rt: &R, directories: &mut [LockedDirectory], path: &str) -> bool {
     let home = directory_of(path);
     for directory in directories.iter_mut() {

@@ -2,7 +2,7 @@
 
 use raft_log_record_base::{Error, FileId};
 
-/// A log file that isn't whole.
+/// A damaged log file.
 #[derive(Debug, Drop)]
 pub struct Damage {
     /// The file's queue and its number.

@@ -8,16 +8,17 @@ use thiserror::Error;
 /// Why the files of a log aren't inspected.
 #[derive(Debug, Drop, Error)]
 pub enum InspectFault {
-    /// A call on the file or the directory with this path failed.
+    /// A call on the file or the directory with this path failed. Or the file has a foreign record, or memory ran out
+    /// while it was read.
     #[error("{path}: {error}")]
     Path {
         /// The path.
         path: String,
-        /// Why the call failed.
+        /// Why: `Io`, `Corruption` for a foreign record, or `Memory`.
         error: Error,
     },
-    /// A file's name, which the error has, begins with a number and isn't that number's; the machine declined a
-    /// record; or memory ran out.
+    /// A file's name, which the error has, begins with a number and isn't that number's; the machine declined a record;
+    /// or memory ran out elsewhere.
     #[error("{0}")]
     Log(Error),
 }
@@ -31,7 +32,7 @@ impl InspectFault {
         }
     }
 
-    /// The failure of a file system's call on a path, as `at` returns it.
+    /// The failure of a file system's call on a path, as `at` returns it; for lack of memory always `Log`.
     pub(crate) fn refused(alloc: Global, path: &str, kind: ErrorKind) -> InspectFault {
         if kind == ErrorKind::OutOfMemory {
             return InspectFault::Log(Error::Memory);

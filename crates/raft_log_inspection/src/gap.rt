@@ -7,8 +7,8 @@ use raft_log_record_base::FileSeq;
 use raft_log_recovery_scan::scanning::found::FoundFile;
 use std::alloc::{AllocError, Global};
 
-/// Two files that are neighbors in the order of their numbers, and whose numbers aren't consecutive. An open keeps
-/// the files from the second one on.
+/// Two files that are neighbors in the order of their numbers, and whose numbers aren't consecutive. An open keeps only
+/// the files from the second one of the last gap on.
 #[derive(Clone, Copy, Debug, PartialEq, Eq)]
 pub struct Gap {
     /// The number of the first file.

@@ -34,20 +34,25 @@ pub struct QueueInspection {
 /// and returns what is wrong with them. Changes nothing.
 ///
 /// A file is damaged if it doesn't begin with a header, or if what follows its last whole record isn't one.
-/// - Each file that an open would truncate or fail on is damaged.
+/// - Each file in which an open would find damage is damaged, except for zeros as below.
 /// - A file with a broken entry block is damaged. An open checks these only in a queue's last file and at the end of
 ///   the others.
 /// - Only zeros at the end of a queue's last file are no damage, since a log grows its files ahead of its records. An
 ///   empty last file isn't damaged either.
 /// - A header with an alignment and no record after it counts as torn.
 ///
-/// The machine is handed the records before the damage.
+/// The machine is handed the records before the damage. The contract says only what no gap and no damage in the result
+/// mean.
 ///
-/// Fails with `Path` if a directory isn't listed, if a file isn't opened or read, or if a foreign record follows a
-/// file's last good one: an open fails on it too. Fails with `Log`:
+/// Fails with `Path`:
+/// - if a directory isn't listed, or a file isn't opened or read
+/// - if a foreign record follows a file's last good one: an open fails on it too
+/// - with `Memory`, if memory runs out while a file is read
+///
+/// Fails with `Log`:
 /// - if a file's name begins with a number and isn't that number's
 /// - if the machine declines a record
-/// - if memory runs out
+/// - if memory runs out elsewhere
 pub fn inspect_queue<F: FileSystem, M: ReplayMachine>(
     alloc: Global,
     files: &F,

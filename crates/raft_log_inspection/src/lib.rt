@@ -1,5 +1,5 @@
-//! What is wrong with the files of a log that nobody has open: gaps in their numbers, and damage. Each file is read
-//! as an open reads it, and nothing is changed.
+//! What is wrong with the files of a log that nobody has open: gaps in their numbers, and damage. Each file is read as
+//! an open reads a queue's last one, and nothing is changed.
 //!
 //! [`inspect_queue`] reads the files of a queue, hands their records to a machine, and returns what is wrong.
 #![tactic(auto)]

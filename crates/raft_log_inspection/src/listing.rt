@@ -15,11 +15,11 @@ use raft_log_recovery_scan::scanning::found::{FoundFile, find_files};
 use raft_log_recovery_scan::{FileKind, FileName};
 use std::alloc::Global;
 
-/// The log files of a queue in these directories, in the order of their numbers. If two have one number, the one in
-/// the earlier directory comes first; in one directory, the one without a sign.
+/// The log files of a queue in these directories, in the order of their numbers. If two have one number, the one in the
+/// earlier directory comes first; in one directory, the one without a sign.
 ///
-/// Fails with `Path` if a directory isn't listed, or with `Log` if a file's name begins with a number and isn't that
-/// number's.
+/// Fails with `Path` if a directory isn't listed. Fails with `Log` if a file's name begins with a number and isn't that
+/// number's, or if memory runs out.
 pub(crate) fn find_queue<F: FileSystem>(
     alloc: Global,
     files: &F,

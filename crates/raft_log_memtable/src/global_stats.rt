@@ -9,9 +9,9 @@ use raft_log_record_base::LogQueue;
 pub struct GlobalStats {
     /// Live entries in Append.
     pub live_append_entries: u64,
-    /// Entries that were written to Rewrite, since the counters were reset.
+    /// Entries that were written to Rewrite. A reset leaves those that are live.
     pub rewrite_entries: u64,
-    /// Entries that were written to Rewrite since then, and aren't live any more.
+    /// Those of them that aren't live any more. A reset makes this 0.
     pub deleted_rewrite_entries: u64,
 }
 
@@ -65,7 +65,7 @@ impl GlobalStats {
         }
     }
 
-    /// The number of entries that were written to Rewrite.
+    /// The number of entries that were written to Rewrite, as the field of this name counts them.
     pub fn rewrite_entries(&self) -> u64
         ensures { result ≡ self.now.rewrite_entries }
     {

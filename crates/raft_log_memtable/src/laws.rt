@@ -32,8 +32,9 @@ pub fn ready_takes_all()
         (xs : List (Item Place (List ℕ))) → IsReady v q (x ∷ xs) → IsReady (stepped n v x) (kept q x) xs }
 {}
 
-/// If `min_file` returns a file for a queue, it is at or below the file of everything that is stored there. For Rewrite
-/// it is the start of the least such file, with the noted groups. If it returns none, nothing is stored there.
+/// Suppose that in each queue the file of the table's first entry is the least of its entries there. If `min_file` then
+/// returns a file, it is at or below the file of everything that is stored in that queue. For Rewrite it is the start
+/// of the least such file, with the noted groups. If it returns none, nothing is stored there.
 pub fn least_file_in_use()
     ensures append { (t : Raw) (n : ℕ) → FrontIsLeast (shown t) → min_file Append t ≡ Some n
         → IsLeastInAppend (shown t) n }
@@ -52,8 +53,7 @@ pub fn least_file_in_use()
 {}
 
 /// Suppose all that is stored in Rewrite is in files past a certain one, and the noted groups begin past it or end no
-/// later than it. Then the least file in use is past it too. This holds once all was restated there. A group that
-/// begins past it and then ends keeps this true.
+/// later than it. Then the least file in use is past it too. A group that begins past it and then ends keeps this true.
 pub fn rewritten_begins_past()
     ensures begins { (v : Shown) (n file : ℕ) → IsLeastInRewrite v (n + 1) → ArePast n v.noted
         → IsMinFile Rewrite v (Some file) → n < file }

@@ -1,7 +1,7 @@
 //! The memtable of one group: where its entries and keys are stored.
 //!
-//! All calls that may need memory (`prepare_..`) are made before a batch is written. What is done after the write can't
-//! fail.
+//! For a batch that is to be written, all calls that may need memory (`prepare_..`) are made before the write. What is
+//! done after the write can't fail. Replays and merges allocate as they read.
 #![tactic(auto)]
 
 pub mod ends;

@@ -32,8 +32,9 @@ use std::marker::Model;
 
 /// Where the entries and keys of one group are stored, and which tombstones are owed to Rewrite.
 ///
-/// Its state in contracts (`shown`) changes only in calls that can't fail. The memory for these is allocated before, in
-/// `prepare_..`, which doesn't change `shown`.
+/// A call that fails doesn't change its state in contracts (`shown`). What applies a written batch can't fail:
+/// `prepare_..` allocated the memory before, without a change of `shown`. Room is promised for entries, for moves to
+/// Rewrite, and for keys. If nothing is promised any more, keys keep their room.
 #[derive(Drop)]
 pub struct MemTable {
     first: u64,
@@ -147,7 +148,7 @@ impl MemTable {
         Some(self.first + (self.places.len() as u64 - 1))
     }
 
-    /// The value of a key, if it has one, and where it is stored.
+    /// The value of a key and where it is stored, if the key has a value.
     pub fn get(&self, key: &[u8]) -> Option<&HeldValue>
         ensures { shown_value (option_copied result) ≡ (shown self.now).held key.now }
     {
@@ -171,11 +172,14 @@ impl MemTable {
         Some(entry_of(queue, index, place))
     }
 
-    /// Adds the entries from `begin` on, below `end`, and returns how many. The first is always added, and the list
-    /// ends before the sum of lengths passes `max_size`. If the range is empty, nothing is added.
+    /// Adds the entries from `begin` on, below `end`, and returns how many. The first is always added. More are added
+    /// as long as the sum of the lengths is at most `max_size` bytes. An empty range adds nothing and never fails.
     ///
-    /// Fails with `EntryNotFound` if the table has no entries or the last one isn't there, with `EntryCompacted` if
-    /// `begin` is below the first one. If it fails, nothing is added.
+    /// - `EntryNotFound`: the table has no entries, or they end before `end`.
+    /// - `EntryCompacted`: the first entry is after `begin`.
+    /// - `Memory`: memory ran out.
+    ///
+    /// If it fails, nothing is added.
     pub fn fetch_entries_to(
         &self,
         begin: u64,
@@ -226,8 +230,8 @@ impl MemTable {
     }
 
     /// Finds at most `limit` entries, from this index on, that follow one another in one block. Returns that block, and
-    /// where each of them starts and ends there. Nothing is copied. They are looked for at the hint first; then the
-    /// hint is where the next ones are.
+    /// where each of them starts and ends there. Nothing is copied. `limit` isn't 0, and the table has that many
+    /// entries from the index on. The hint is the run to look at first; it becomes the run of the next entries.
     pub fn bounds(
         &self,
         index: u64,
@@ -278,8 +282,8 @@ impl MemTable {
 
     /// Makes room for the entries of a batch that is to be written, after all that is prepared already.
     ///
-    /// Fails with `Hole` if they start past the index after the last, or with `Memory`. Whether it succeeds or fails,
-    /// `shown` stays.
+    /// Fails with `Hole` if there are entries after all that is prepared, and these start past their end. Otherwise it
+    /// can fail with `Memory`. Whether it succeeds or fails, `shown` stays.
     pub fn prepare_append(&mut self, entries: &[EntryIndex]) -> Result<()>
         requires { IsRun entries.now }
         ensures shows { shown self.new ≡ shown self.old }
@@ -329,7 +333,7 @@ impl MemTable {
         self.ahead = self.ahead.after_compact(index);
     }
 
-    /// Prepares a Clean. It frees no room: what follows it in the batch already has its room. `shown` stays.
+    /// Prepares a Clean: what follows it in the batch may begin at any index. Promised room stays. `shown` stays.
     pub fn prepare_clean(&mut self)
         ensures shows { shown self.new ≡ shown self.old }
         ensures ok { promise self.new ≡ promised {E = Place} {V = List ℕ} (promise self.old) Clean }
@@ -338,7 +342,8 @@ impl MemTable {
         self.ahead = Ends { first: 0, end: 0 };
     }
 
-    /// Takes back what was promised to a batch that isn't written. `shown` stays.
+    /// Takes back the room for entries and moves that was promised to a batch that isn't written. `shown` stays, and
+    /// keys keep their room.
     pub fn take_back(&mut self)
         ensures shows { shown self.new ≡ shown self.old }
         ensures room { promise self.new ≡ taken_back (promise self.old) (span (shown self.old)) }
@@ -349,7 +354,8 @@ impl MemTable {
         self.ahead = self.span();
     }
 
-    /// Appends these entries, which are in Append. They replace all entries from the first one's index on.
+    /// Appends these entries, which are in Append, in room that was prepared. They replace all entries from the first
+    /// one's index on.
     pub fn append(&mut self, entries: &[EntryIndex])
         requires run { IsRun entries.now }
         requires room { CanTake (shown self.old) (promise self.old) (run_of entries.now) }
@@ -370,7 +376,7 @@ impl MemTable {
         self.places.push(entries);
     }
 
-    /// Sets the key's value, which is in this file of Append.
+    /// Sets the key's value, which is in this file of Append. The key must have room.
     pub fn put(&mut self, key: &[u8], bytes: Bytes, file: FileSeq)
         requires { (promise self.old).has key.now ≡ true }
         ensures shows { shown self.new ≡ with_put file (shown self.old) key.now bytes }
@@ -385,7 +391,7 @@ impl MemTable {
         self.keys.put(key, value);
     }
 
-    /// Deletes the key: it has no value then, and a tombstone, whether it had a value or not.
+    /// Deletes the key, which must have room: it has no value then, and a tombstone, whether it had a value or not.
     pub fn delete(&mut self, key: &[u8])
         requires { (promise self.old).has key.now ≡ true }
         ensures shows { shown self.new ≡ with_del (shown self.old) key.now }
@@ -395,7 +401,7 @@ impl MemTable {
         self.keys.delete(key);
     }
 
-    /// Drops the entries below an index, and returns how many.
+    /// Drops the entries below an index, and returns how many. A Compact is owed then, even if none was dropped.
     pub fn compact_to(&mut self, index: u64) -> usize
         ensures shows { shown self.new ≡ with_compact (shown self.old) index }
         ensures count { result ≡ min (index - (shown self.old).first) (length (shown self.old).places) }
@@ -411,7 +417,8 @@ impl MemTable {
         count
     }
 
-    /// Drops all entries and values. Keys keep their tombstones, and what is promised stays.
+    /// Drops all entries, values and noted files. A Clean is owed then, and no Compact. Keys keep their tombstones, and
+    /// what is promised stays.
     pub fn clean(&mut self)
         ensures shows { shown self.new ≡ with_clean (shown self.old) }
         ensures room { promise self.new ≡ promise self.old }
@@ -435,7 +442,7 @@ impl MemTable {
         self.keys.rewrite(key, file);
     }
 
-    /// Notes that a copy of the key was written to Rewrite. Its value is there from now on, if it was in Rewrite
+    /// Notes that a copy of the key was written to Rewrite. Its value is then in this file, if it was in Rewrite
     /// before, or, with a gate, in a file of Append up to it.
     pub fn rewrite_key(&mut self, key: &[u8], gate: Option<FileSeq>, file: FileSeq)
         ensures shows { shown self.new ≡ key_rewritten gate (shown self.old) key.now file }
@@ -451,7 +458,9 @@ impl MemTable {
         }
     }
 
-    /// Moves the entries from the first one's index on, and all below, to Rewrite: these to the places of their copies.
+    /// Notes that these entries were copied to Rewrite: they get the places of their copies. The table must have them
+    /// all, and room for the moves. They must begin in Rewrite or right after its entries, and end no earlier than
+    /// these.
     pub fn move_run(&mut self, entries: &[EntryIndex])
         requires run { IsRun entries.now }
         requires within { RunStandsIn (shown self.old) (run_of entries.now) }
@@ -470,8 +479,8 @@ impl MemTable {
     }
 
     /// Notes that copies of these entries were written to Rewrite. The room for it was prepared. Entries that are still
-    /// there get the new places: the rewritten ones, and with a gate the appended ones after them, up to the first in a
-    /// file past the gate.
+    /// there get the new places: the rewritten ones, and with a gate the appended ones after them, before the first one
+    /// in a file past the gate. If the copies begin past the entries in Rewrite, none moves.
     pub fn rewrite(&mut self, entries: &[EntryIndex], gate: Option<FileSeq>)
         requires run { IsRun entries.now }
         requires room { length entries.now ≤ (promise self.old).moves }
@@ -516,7 +525,8 @@ impl MemTable {
         self.keys.clear_marks();
     }
 
-    /// Whether the table is like a new one: no entries, values or tombstones, no noted files, and nothing promised.
+    /// Whether the table is like a new one: it begins at 0, has no entries, values, tombstones or noted files, and
+    /// promises nothing, not even room for a key.
     pub fn is_vacant(&self) -> bool
         ensures { IsTrue result ↔ IsVacant (shown self.now) (promise self.now) }
     {
@@ -553,7 +563,7 @@ impl MemTable {
     }
 
     /// The index of the Compact that is owed to Rewrite, if one is: the first entry's if there are rewritten ones, else
-    /// past every index.
+    /// 2^64 - 1, which is past every index.
     #[tactic(auto, unfolding(raft_log_machine_laws::specs::Whereabouts::top))]
     pub fn owed_compact(&self) -> Option<u64>
         ensures { result ≡ owed_compact (shown self.now) }

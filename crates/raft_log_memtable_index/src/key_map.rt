@@ -40,7 +40,7 @@ pub struct HeldValue {
     pub file: FileSeq,
 }
 
-/// The state of a key. A slot without a value and without a tombstone is room for a value to come.
+/// The state of a key. A slot without a value and without a tombstone is room for what is to come.
 #[derive(Debug, Drop)]
 pub struct KeySlot {
     /// The value, if the key has one.
@@ -206,7 +206,8 @@ impl KeyMap {
         }
     }
 
-    /// Makes room for all keys of a later map. Whether it succeeds or fails, no value and no tombstone changes.
+    /// Makes room for all keys of a later map. Whether it succeeds or fails, no value and no tombstone changes. If it
+    /// fails, some keys may have got room.
     pub fn make_room_for(&mut self, later: &KeyMap) -> Result<(), AllocError>
         ensures values { (keys_of self.new).values ≡ (keys_of self.old).values }
         ensures deleted { (keys_of self.new).deleted ≡ (keys_of self.old).deleted }
@@ -288,7 +289,7 @@ impl KeyMap {
         self.spare = true;
     }
 
-    /// The least file of the values in Append, or of those in Rewrite.
+    /// The least file of the values in Append if `appended`, else of those in Rewrite; none if there is no such value.
     pub fn least_file(&self, appended: bool) -> Option<FileSeq>
         ensures exact { IsLeastValue appended (keys_of self.now).values result }
         ensures slots { result ≡ least_value appended self.now }

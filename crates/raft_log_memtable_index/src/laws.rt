@@ -98,8 +98,7 @@ pub fn batch_is_noted<E>()
 
 /// Copies put nothing into Append. The slots that they put into Rewrite are slots that they say something of. Each is
 /// noted no later than the file of the plain record, or the first file of the atomic group once the group is noted. All
-/// other slots are noted no later than before. The groups noted before stay noted while something is in a file up to
-/// their last one.
+/// other slots are noted no later than before.
 pub fn copies_are_noted<E>()
     ensures append { (at : Located → E) (v : Shown) (xs : List Move) → IsOrderly v → CanAllMove at v xs
         → AppendedShrink v (all_moved v xs) }
@@ -111,8 +110,8 @@ pub fn copies_are_noted<E>()
         → RewrittenCarry (items_of at v xs) files.from v (with_note (all_moved v xs) least files) }
 {}
 
-/// Rewrite may begin at the least file in use, counted with the noted groups: no slot stored there is noted in a later
-/// file.
+/// Rewrite may begin at the least file in use, counted with the noted groups: no slot stored there is noted in an
+/// earlier file.
 pub fn least_file_is_noted()
     ensures { (v : Shown) (least : ℕ) → IsLeastInRewrite v least → (s : Slot) → IsInRewrite (whereabouts v) s
         → (content (table_of v) s ≡ None) ⊎ (start_of least v.noted ≤ noted_at v s) }

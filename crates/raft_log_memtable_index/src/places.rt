@@ -64,7 +64,8 @@ impl Places {
         self.runs.run_count()
     }
 
-    /// The number of starts.
+    /// The number of starts, which say where entries of different lengths begin in their block, or keep the place of an
+    /// entry that came alone.
     pub fn start_count(&self) -> usize
         ensures { result ≡ self.now.starts }
     {
@@ -91,8 +92,8 @@ impl Places {
         self.runs.at(position, hint)
     }
 
-    /// Adds the entries of `count` places from this position on. The vector must have room for them. They are in files
-    /// of this queue, and the first has this index.
+    /// Adds the entries of `count` places from this position on, which must be there. The vector must have room for
+    /// them. They get this queue, and indexes from `index` on.
     pub fn copy_entries(
         &self,
         queue: LogQueue,
@@ -114,8 +115,8 @@ impl Places {
     }
 
     /// Finds at most `limit` entries, from this position on, that follow one another in one run. Returns their block,
-    /// and where each of them starts and ends there. Nothing is copied. The run is looked for at the hint first; then
-    /// the hint is the next run.
+    /// and where each of them starts and ends there. Nothing is copied. `limit` isn't 0, and there are that many places
+    /// from the position on. The run is looked for at the hint first; then the hint is the next run.
     pub fn bounds(&self, position: usize, limit: usize, hint: &mut usize) -> (Place, Bounds<'_>)
         requires within { position + limit ≤ length self.now.items }
         requires some { 0 < limit }
@@ -251,7 +252,8 @@ impl Places {
         self.runs.drop_front(count);
     }
 
-    /// Replaces as many places, from this position on, with those of these entries. The room for it was promised.
+    /// Replaces as many places, from this position on, with those of these entries. The places must be there, and the
+    /// room for it promised.
     pub fn replace(&mut self, position: usize, entries: &[EntryIndex])
         requires within { position + length entries.now ≤ length self.old.items }
         requires room { length entries.now ≤ self.old.moves }
@@ -267,8 +269,7 @@ impl Places {
         self.give_back();
     }
 
-    /// The number of places in files up to the gate, from this position on: at most `limit`, and up to the first place
-    /// that isn't.
+    /// The number of places from this position on, at most `limit`, before the first one in a file past the gate.
     pub fn count_up_to(&self, position: usize, limit: usize, gate: FileSeq) -> usize
         requires { position ≤ length self.now.items }
         ensures count { result ≡ passing gate (take limit (drop position self.now.items)) }
@@ -285,7 +286,7 @@ impl Places {
     }
 
     /// How many of `count` entries from this position on a reader gets: always the first one, and more as long as the
-    /// sum of their lengths is at most `max_size`.
+    /// sum of their lengths is at most `max_size` bytes.
     pub fn sized(&self, position: usize, count: usize, max_size: Option<u64>) -> usize
         requires { position + count ≤ length self.now.items }
         ensures count { result ≡ sized max_size (take count (drop position self.now.items)) }

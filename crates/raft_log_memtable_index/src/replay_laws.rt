@@ -39,10 +39,10 @@ pub fn replay_is_a_summary()
         → FitsOn (span z.table) x }
 {}
 
-/// Two segments of a queue, read apart and joined, equal both read as one. That is also true if atomic groups that a
-/// border completes have items between them. If no run leaves a hole, no join fails. Two readings of one list have the
-/// same entries and values, with their places and files. Joining is therefore associative, and cutting a queue into
-/// segments changes nothing.
+/// Suppose no run of a queue leaves a hole. Two segments that are read apart and joined then equal both read as one.
+/// That is also true if atomic groups that a border completes have items between them. No join fails with `Hole`. Two
+/// readings of one list have the same entries and values, with their places and files. Joining is therefore
+/// associative, and cutting a queue into segments changes nothing.
 pub fn joined_segments()
     ensures joined { (q : Bool) (xs ys : List (Item Located KeyValue)) (a z : Replayed) → IsReplayed q xs a
         → IsReplayed q ys z → NoHole nothing (xs ++ ys) → IsReplayed q (xs ++ ys) (joined a z) }
@@ -94,9 +94,9 @@ pub fn one_queue_is_recovered<E>()
         (whereabouts z.table) }
 {}
 
-/// What counts with a file is found from the noted atomic groups. After two segments are joined, or Append is put over
-/// Rewrite, it begins in no later file than in the later table. If that has no Clean, it also begins in no later file
-/// than in the earlier one.
+/// The noted atomic groups say which file must stay for what is in file `n` to count. After two segments are joined, or
+/// Append is put over Rewrite, it is no later one than for the later table. If that has no Clean, it is also no later
+/// one than for the earlier table.
 pub fn joins_are_noted()
     ensures joined { (a z : Replayed) (n : ℕ)
         → (start_of n (joined a z).table.noted ≤ start_of n z.table.noted)

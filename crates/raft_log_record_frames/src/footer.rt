@@ -40,8 +40,8 @@ fn fills(len: u64, block_len: usize) -> bool
     }
 }
 
-/// Fails unless nothing follows the items and their entries fill a block of this length. `len` is the entries' length,
-/// or 2^64 - 1 if they are longer.
+/// Fails with `Corruption`, or with `Memory`, unless nothing follows the items and their entries fill a block of this
+/// length. `len` is the entries' length, or 2^64 - 1 if they are longer.
 #[tactic(auto, unfolding(crate::specs::Record::whole_of))]
 fn check_whole(alloc: Global, rest: &[u8], len: u64, block_len: usize) -> Result<()>
     ensures { TellsWhole result block_len len rest.now }
@@ -58,7 +58,7 @@ fn check_whole(alloc: Global, rest: &[u8], len: u64, block_len: usize) -> Result
     Ok(())
 }
 
-/// The bytes of a footer before its checksum, which has this signature.
+/// The bytes of a footer before its checksum. Fails with `Corruption` if the checksum isn't theirs with this signature.
 #[tactic(auto, unfolding(crate::specs::Record::body_of))]
 fn open_footer(alloc: Global, bytes: &[u8], signature: Option<u32>) -> Result<&[u8]>
     ensures { GivesSlice result (body_of signature bytes.now) }
@@ -76,8 +76,10 @@ fn open_footer(alloc: Global, bytes: &[u8], signature: Option<u32>) -> Result<&[
 
 /// The items of a whole footer with this signature, whose entries fill a block of this length.
 ///
-/// Fails with `Corruption` for fewer than five bytes, a wrong checksum, bytes after the last item, or lengths that
-/// don't add up. Else it fails with the first fault of the items.
+/// Fails with the first of these, or with `Memory`:
+/// - `Corruption` for fewer than five bytes or a wrong checksum;
+/// - the first fault of the items;
+/// - `Corruption` for bytes after the last item, or for entries that don't fill the block.
 #[tactic(auto, unfolding(crate::specs::Record::footer_of, crate::specs::Record::whole_items))]
 pub fn decode_footer(
     alloc: Global,

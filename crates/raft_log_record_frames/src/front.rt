@@ -10,8 +10,8 @@ use std::alloc::Global;
 /// The frame at the front of these bytes: its length, its items, and its entry block, which is neither checked nor
 /// copied. What follows it doesn't matter.
 ///
-/// Fails as `decode_header` does; else with `Corruption` if the record doesn't end within the bytes; else as
-/// `decode_footer` does.
+/// Fails as `decode_header` does; else with `Corruption`, or `Memory`, if the record doesn't end within the bytes; else
+/// as `decode_footer` does.
 #[tactic(auto, unfolding(crate::specs::Record::frame_at, crate::specs::Record::frame_of))]
 pub fn decode_frame<'a>(
     alloc: Global,

@@ -68,8 +68,8 @@ pub fn decode_header(
     Ok(header)
 }
 
-/// The entries' bytes of a whole entry block, which are not copied. No bytes are a block without entries.
-/// Fails with `Corruption` for one to three bytes and for a wrong checksum. A checksum alone is a block too, which is
+/// The entries' bytes of a whole entry block, which are not copied. No bytes are a block without entries. Fails with
+/// `Corruption` for one to three bytes and for a wrong checksum. The checksum of no bytes is a block too, which is
 /// never written. Only an error's text takes memory, so a good block is always returned.
 #[tactic(auto, unfolding(crate::specs::Record::block_of))]
 pub fn decode_entries_block<'a>(

@@ -28,8 +28,8 @@ pub fn signature_separates_files()
     ensures { SignatureSeparatesFiles }
 {}
 
-/// At one place of a file there is at most one record. No header, footer, frame or record begins another one, and none
-/// has two contents. A block has no end of its own, so there is at most one of each length.
+/// At one place of a file there is at most one record. No header, footer, frame or record is the beginning of another
+/// one, and none has two contents. A block has no end of its own, so there is at most one of each length.
 pub fn one_record_at_a_place()
     ensures headers { OneHeaderAtAPlace }
     ensures footers { OneFooterAtAPlace }
@@ -38,8 +38,8 @@ pub fn one_record_at_a_place()
     ensures records { OneRecordAtAPlace }
 {}
 
-/// A record is a frame, which is a header and a footer that fit together, with an entry block that is read. Each takes
-/// at least 21 bytes.
+/// A record is a frame, which is a header and a footer that fit together, with an entry block that is read. A frame has
+/// at least 21 bytes more than its block.
 pub fn record_is_a_frame_with_a_block()
     ensures parts { RecordIsFrameAndBlock }
     ensures bytes { FramesTakeBytes }

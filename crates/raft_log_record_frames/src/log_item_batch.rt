@@ -180,7 +180,7 @@ impl LogItemBatch {
         self.items.push_reserved(item);
     }
 
-    /// Lays out the items from `first` on, from this offset in their block on.
+    /// Lays out the items from `first` on, from this offset in their block on. Their entries must end below 2^32.
     pub fn lay_out_rest(&mut self, first: usize, offset: u32)
         requires inside { first ≤ length self.old.items }
         requires fits { offset + entries_len (drop first self.old.items) < 2 ^ 32 }

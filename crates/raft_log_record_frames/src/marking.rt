@@ -21,7 +21,7 @@ pub enum Marking {
     Unmarked,
     /// The batch is this part of the atomic group with this number.
     Part(u64, AtomicGroupStatus),
-    /// There are two marks, or one whose value is invalid: the record is broken.
+    /// There are several marks, or one whose value is invalid: the record is broken.
     Broken,
 }
 
@@ -54,7 +54,7 @@ impl Marking {
         }
     }
 
-    /// What the items of a batch say.
+    /// The marking of a batch with these items: what its mark says, `Unmarked` without one, `Broken` with several.
     pub fn parse_all(items: &[LogItem]) -> Marking
         ensures { result ≡ marking_of_items items.now }
     {

@@ -33,7 +33,7 @@ fn write_header(bytes: &mut [u8], len: u64, offset: u64)
     second.copy_from_slice(&offset.to_be_bytes());
 }
 
-/// Overwrites the last four bytes with a checksum.
+/// Overwrites the last four bytes, which must be there, with a checksum.
 #[tactic(auto, unfolding(raft_log_record_base::specs::Number::u32_le_bytes))]
 pub fn write_checksum(bytes: &mut [u8], checksum: u32)
     requires { 4 ≤ length bytes.old }
@@ -80,7 +80,11 @@ pub fn append_footer(buf: &mut Vec<u8>, items: &[LogItem]) -> Result<u32, AllocE
 const MAX_RECORD_LEN: u64 = (1 << 56) - 1;
 
 /// Makes the record of the entries' bytes, which are in the buffer after room for the header, and of these items.
-/// Returns the checksum of the items. If it fails, the old bytes are still there, maybe with more after them.
+/// Returns the checksum of the items. The record isn't signed. Whether the entries' lengths add up to the bytes isn't
+/// checked.
+///
+/// Fails with `Full` if the record would have 2^56 bytes or more, or with `Memory`. Then the old bytes are still there,
+/// maybe with more after them.
 pub fn fill_record(buf: &mut Vec<u8>, items: &[LogItem]) -> Result<u32>
     requires { 16 ≤ length buf.old.items }
     ensures ok { IfOk result (λ checksum. MakesRecord buf.old.items buf.new.items checksum items.now) }

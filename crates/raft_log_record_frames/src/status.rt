@@ -1,8 +1,8 @@
-//! Which part of an atomic group a batch is.
+//! Which part of an atomic group a batch is. A mark has the number as its last byte.
 ghost use Rattle.std.specs.Prelude.{◌≡◌};
 ghost use Rattle.raft_log_record_frames.specs.Marking.{status_of};
 
-/// Which part of an atomic group a batch is.
+/// Which part of an atomic group a batch is. A mark has the number as its last byte.
 #[derive(Clone, Copy, Debug, PartialEq, Eq)]
 pub enum AtomicGroupStatus {
     Begin = 0,

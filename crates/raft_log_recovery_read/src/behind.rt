@@ -1,5 +1,5 @@
-//! Reads what follows the header of a log file. Passes each record on after the next one is read, so that at most two
-//! records are held.
+//! Reads what follows the header of a log file. In a queue's last file, each record is passed on once its entry block
+//! is checked. In the others, each is passed on after the next one is read, so that at most two records are held.
 
 ghost use Rattle.std.specs.Prelude.{◌≡◌, ℕ, false, true, List, Option, Some, IfOk, IfErr, IsTrue};
 ghost use Rattle.raft_log_fs.specs.Receipts.{Collects};
@@ -29,11 +29,11 @@ use std::alloc::Global;
 pub(crate) struct Behind {
     /// The end of the last good record, or of the header.
     pub(crate) end: usize,
-    /// What is wrong there.
+    /// What is wrong there, if anything is.
     pub(crate) fault: Option<Error>,
     /// Whether no good record was found; set only for the last file of a queue.
     pub(crate) is_bare: bool,
-    /// The error with which the machine declined a record.
+    /// The error with which the machine declined a record, if it declined one.
     pub(crate) declined: Option<Error>,
 }
 

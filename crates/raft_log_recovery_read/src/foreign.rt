@@ -1,4 +1,4 @@
-//! Files in which a foreign record follows the last good one are refused.
+//! Reading a file fails if a foreign record follows the last good one.
 
 ghost use Rattle.std.specs.Prelude.{◌≡◌, ◌⊎◌, ℕ, Some, IfErr, IfOk, IsTrue, OnOk};
 ghost use Rattle.std.specs.String.{string_bytes};
@@ -16,7 +16,7 @@ use raft_log_record_base::{Error, FileId, LogQueue, Result};
 use std::alloc::{AllocError, Global};
 
 /// Fails with `Corruption` if the record of the open file after this offset is foreign. The error names the file, where
-/// the record begins, and its compression type.
+/// the record begins, and its compression type. Fails with `Io` or `Memory` if that can't be read.
 pub(crate) fn refuse_foreign<F: FileSystem>(
     alloc: Global,
     file_system: &F,

@@ -23,7 +23,7 @@ pub struct QueueSegments<'a, F: FileSystem> {
     pub file_system: &'a F,
     /// Which queue.
     pub queue: LogQueue,
-    /// What is done about damaged files.
+    /// Which damaged files are tolerated.
     pub mode: RecoveryMode,
     /// How many bytes of a file are read at a time.
     pub read_block_size: usize,
@@ -84,7 +84,7 @@ impl<'a, F: FileSystem> QueueSegments<'a, F> {
     ghost use Rattle.std.specs.Prelude.{◌<◌, length, IfOk, IfErr};
     ghost use Rattle.raft_log_recovery_read.specs.Segments.{IsSegment, RefusesFile};
 
-    /// Reads the file in this place, and hands a machine its records.
+    /// Reads the file in this place, and hands a machine its records. Fails as `read_found` does.
     fn read_segment<M: ReplayMachine>(&self, index: usize, machine: &mut M) -> Result<FoundFile>
         requires { index < length self.now.files.now }
         ensures ok { IfOk result (IsSegment self.now.mode self.now.queue self.now.files.now

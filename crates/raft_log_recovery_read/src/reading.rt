@@ -25,18 +25,18 @@ use raft_log_record_base::{Error, FileId, Result};
 use raft_log_replay::ReplayMachine;
 use std::alloc::Global;
 
-/// Reads a log file, and hands a machine its records up to its end, or to the first damaged one. Hands each on after
-/// the next one is read. Changes nothing.
+/// Reads a log file, and hands a machine its records up to its end, or to the first damaged one. Changes no file.
 ///
-/// In the last file of a queue, it checks each record's entry block. In the others, it checks only the last record's,
-/// since their records were durable before the next file began.
+/// In the last file of a queue, it checks each record's entry block, and then hands the record on. In the others, it
+/// hands each on after the next one is read, and checks only the last one's entry block. Their records were durable
+/// before the next file began.
 ///
 /// A last file whose header has an alignment, and no record after it, reads as one without a header. A power failure
-/// tore the header's write.
+/// may have torn the header's write.
 ///
 /// Fails with `Io` if a read fails, which is never reported as damage, or with `Memory`. Fails with `Corruption` if a
-/// foreign record follows the last good one: whole, but with a compression that isn't read. An error of the machine is
-/// returned in `declined`.
+/// foreign record follows the last good one: whole, but with a compression that isn't read. If it fails, the machine
+/// may have been handed records. An error of the machine is returned in `declined`.
 pub fn read_file<F: FileSystem, M: ReplayMachine>(
     alloc: Global,
     file_system: &F,

@@ -22,11 +22,11 @@ pub(crate) enum Next {
     Batch(Vec<LogItem>),
     /// Nothing more.
     End,
-    /// What is wrong there.
+    /// What is wrong with the next record.
     Fault(Error),
 }
 
-/// Reads what follows what was read. The entry block isn't checked.
+/// Reads the next record. Its entry block isn't checked. Fails only with `Io` or `Memory`.
 pub(crate) fn next_batch<F: FileSystem>(
     alloc: Global,
     file_system: &F,
@@ -49,7 +49,8 @@ pub(crate) fn next_batch<F: FileSystem>(
     }
 }
 
-/// Checks the entry block of a record that was read, and returns what is wrong with it.
+/// Checks the entry block of a record that was read, and returns what is wrong with it. Fails only with `Io` or
+/// `Memory`.
 pub(crate) fn check_block<F: FileSystem>(
     alloc: Global,
     file_system: &F,
@@ -74,7 +75,7 @@ pub(crate) fn check_block<F: FileSystem>(
     }
 }
 
-/// Reads what follows what was read, with its entry block.
+/// Reads the next record, and checks its entry block. Fails only with `Io` or `Memory`.
 pub(crate) fn next_record<F: FileSystem>(
     alloc: Global,
     file_system: &F,

@@ -26,10 +26,14 @@ pub fn tolerates(mode: RecoveryMode, is_last: bool) -> bool
     }
 }
 
-/// Reads a log file, and hands a machine its records up to its end, or to the first damaged one. Changes nothing.
+/// Reads a log file as `read_file` does, and hands a machine its records up to its end, or to the first damaged one.
 ///
-/// Fails with `Io` if a read fails, which is never reported as damage; with `Corruption` if a foreign record follows
-/// the last good one, in every mode; with `Corruption` or `Codec` for damage that isn't tolerated; or with `Memory`. An error of the machine is returned in `declined`.
+/// - `Io`: a read failed, which is never reported as damage.
+/// - `Corruption`: a foreign record follows the last good one; no mode tolerates that.
+/// - `Corruption`, `Codec`: the file is damaged, and `mode` doesn't tolerate it (`tolerates`).
+/// - `Memory`: memory ran out.
+///
+/// If it fails, the machine may have been handed records. An error of the machine is returned in `declined`.
 pub fn read_found<F: FileSystem, M: ReplayMachine>(
     alloc: Global,
     file_system: &F,

@@ -55,8 +55,8 @@ pub fn repeat_is_idempotent()
 {}
 
 /// After an Append whose reply is `Matched`, the voter has an entry at each index above the base and up to the matched
-/// one. The Append or an earlier request brought it. It stays until a later Append brings another term at or below it.
-/// A compaction, an Install or a Retire may remove it too.
+/// one. It stays until a later Append brings another term at or below it. A compaction, an Install or a Retire may
+/// remove it too.
 pub fn matched_is_acknowledged()
     ensures { MatchedIsAcknowledged }
 {}

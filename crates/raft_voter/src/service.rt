@@ -9,13 +9,14 @@ use thiserror::Error;
 /// The most requests of a round.
 pub const MAX_ROUND_REQUESTS: usize = 4096;
 
-/// Why a round was cut off. `TooLong`, `Failed` and `Memory` are checked in this order, before any request is taken.
+/// Why a round was cut off, or an open failed. For a round, `TooLong`, `Failed` and `Memory` are checked in this order,
+/// before any request is taken.
 #[derive(Clone, Copy, Debug, PartialEq, Eq, Error)]
 pub enum Cause {
-    /// A write failed. Some of the first requests may have been taken, and the service has failed.
+    /// A file call failed. Some of the first requests may have been taken, and the service has failed.
     #[error("the file system failed")]
     FileSystem,
-    /// There is no memory for the replies. No request was taken.
+    /// Memory ran out. No request was taken.
     #[error("out of memory")]
     Memory,
     /// The service failed before and must be opened again. No request was taken.
@@ -30,7 +31,7 @@ pub enum Cause {
 #[derive(Debug, Drop, Error)]
 #[error("round cut off: {cause}")]
 pub struct RoundFault {
-    /// The places that weren't taken, in rising order. Empty unless the file system failed.
+    /// The refused places, in rising order: their requests weren't taken. Empty unless the cause is `FileSystem`.
     pub refused: Items<usize>,
     /// The cause.
     pub cause: Cause,
@@ -76,11 +77,12 @@ pub trait RoundService<R> {
     ghost service: { Service Self };
 
     /// The voters take the requests in order, except those at refused places. The call returns replies only after all
-    /// changes of the voters are durable, so a crash leaves the voters that gave them.
+    /// changes of the voters are durable, so a crash leaves the voters that gave them. A round may have at most 4,096
+    /// requests.
     ///
     /// An `Err` returns no reply, and its cause says whether any request was taken. If it is `FileSystem`, a file call
-    /// failed in the round. The voters may have taken the requests below one place, except those at refused places, and
-    /// the next open finds them so. For any other cause the voters are unchanged.
+    /// failed in the round. The service has failed then. The voters took the requests below some place, except those at
+    /// refused places, and the next open finds only such voters. For any other cause the voters are unchanged.
     fn serve(&mut self, rt: &R, requests: &[(u64, Request)]) -> Result<Items<Reply>, RoundFault>
         ensures ok { IfOk result (λ told. AnswersRound service requests.now told self.old self.new) }
         ensures refused { IfOk result (λ told.

@@ -23,8 +23,10 @@ pub trait StoreFiles<R, S: RoundService<R>>: Sized {
     /// for which causes an open may fail.
     ghost files: { Files S Self };
 
-    /// Opens the store; a store that was just opened hasn't failed. Fails if memory runs out, the file system fails, or
-    /// the files can't be read. The error returns the files, which may be opened again.
+    /// Opens the store. Without a CRC collision it serves the voters that the files kept, or voters that are possible
+    /// after their cut-off round. A store that was just opened hasn't failed.
+    ///
+    /// Fails only with `Memory` or `FileSystem`. The error returns the files, which may be opened again.
     fn open(self, rt: &R, alloc: Global) -> Result<S, FilesRefused<Self>>
         ensures opens { IfOk result (λ store. files.opens self store) }
         ensures finds { IfOk result (FindsVoters S.service files self) }
@@ -33,7 +35,7 @@ pub trait StoreFiles<R, S: RoundService<R>>: Sized {
         ensures stands { IfErr result (λ refused. LeavesStanding files self self refused.files) }
         ensures errors { IfErr result (λ refused. IsFromOutside refused.cause) };
 
-    /// Closes the store, whether it has failed or not.
+    /// Closes the store, whether it has failed or not. An open of the files finds only voters that the store leaves.
     fn close(store: S, rt: &R) -> Self
         ensures closes { files.closes store result }
         ensures stands { LeavesInFiles S.service files store result };

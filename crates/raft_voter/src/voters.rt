@@ -82,9 +82,9 @@ impl Voters {
         }
     }
 
-    /// The voters take the requests of a round in order, except those at the refused places, which rise. Returns their
-    /// replies, and `Refused` at each refused place. If memory runs out, only some of the first requests were taken. It
-    /// can't run out if there are no requests.
+    /// The voters take the requests of a round in order, except those at the refused places, which must rise. Returns
+    /// their replies, and `Refused` at each refused place. If memory runs out, they have taken only the requests before
+    /// some place. It can't run out if there are no requests.
     pub fn serve(
         &mut self,
         requests: &[(u64, Request)],

@@ -3,8 +3,8 @@
 //!
 //! No code here depends on what a voter does with a request. `Request::in_range` decides which requests a voter takes
 //! at all. Replies print themselves as transcripts show them: `Granted 5`, `Entries 3:2:00ff`. `read_state` and
-//! `read_entry` read what `state_bytes` and `entry_bytes` write; `read_state` reads an older form too. They fail on any
-//! other bytes with the first fault.
+//! `read_entry` read what `state_bytes` and `entry_bytes` write for values in range; `read_state` reads an older form
+//! too. They fail on any other bytes with the first fault.
 #![tactic(auto)]
 
 mod display;

@@ -1,8 +1,8 @@
-//! The only error of these calls: memory runs out.
+//! The error of calls that fail only for lack of memory.
 use std::alloc::{AllocError, AllocFailed};
 use thiserror::Error;
 
-/// An allocation failed. The call that returns this error changed nothing.
+/// An allocation failed. Each call that returns this error says what it leaves.
 #[derive(Clone, Copy, Debug, PartialEq, Eq, Drop, Error)]
 #[error("out of memory")]
 pub struct Memory;

@@ -36,22 +36,22 @@ pub struct VoterState {
 pub enum Reply {
     /// The vote is the candidate's, in this term.
     Granted(u64),
-    /// The vote isn't the candidate's; the voter's term.
+    /// The vote isn't the candidate's. The value is the voter's term.
     Denied(u64),
     /// The log agrees with the leader's up to this index.
     Matched(u64),
     /// The log doesn't have the leader's entry right before those sent. The value is a hint: an index at which the logs
     /// may agree.
     Mismatch(u64),
-    /// The leader's term is over; the voter's term.
+    /// The leader's term is below the voter's, which is the value.
     Stale(u64),
     /// The index up to which the log was compacted.
     Base(u64),
     /// The entries that were asked for.
     Entries(Items<Entry>),
-    /// The base's index: the first index that was asked for is not above it.
+    /// The first index that was asked for is not above the base's. The value is the base's index.
     Gone(u64),
-    /// The last index: the last index that was asked for is above it.
+    /// The last index that was asked for is above that of the log. The value is the log's last index.
     Unknown(u64),
     /// The voter's state.
     Status(VoterState),

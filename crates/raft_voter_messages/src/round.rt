@@ -15,7 +15,8 @@ pub enum Outcome {
 pub struct Round {
     /// The requests with their groups, in the order in which they are served. Places count from 0.
     pub requests: Items<(u64, Request)>,
-    /// The places of the requests that weren't taken, in rising order.
+    /// The places of the refused requests, in rising order. Nothing of them is taken, and in `Answered` their reply is
+    /// `Refused`.
     pub refused: Items<usize>,
     /// The outcome of the round.
     pub outcome: Outcome,

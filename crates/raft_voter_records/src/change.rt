@@ -20,9 +20,9 @@ pub const VOTER_KEY: [u8; 5] = *b"voter";
 
 /// Fills a batch with the change that an outline decided for a request of a group, whose voter has this outline. It is
 /// the entries from the first that differs or is new, or a Compact, and then the new state. If the voter is retired, it
-/// is a Clean.
+/// is a Clean. The batch must be empty.
 ///
-/// Fails only for lack of memory, and then the batch is empty.
+/// Fails only with `Memory`, and then the batch is empty.
 pub fn fill_change(
     batch: &mut LogBatch,
     alloc: Global,

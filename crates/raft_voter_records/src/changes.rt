@@ -9,7 +9,8 @@ pub fn records_lead()
 {}
 
 /// What is written, found from the old voter and the new one, is what an outline decides, the same for all voters with
-/// that outline. It is the entries from the first that differs or is new, a Compact, or a Clean, and then the state.
+/// that outline. It is the entries from the first that differs or is new, or a Compact, and then the state. For a
+/// Retire it is only a Clean.
 pub fn decisions_are_written()
     ensures { DecisionsAreWritten }
 {}

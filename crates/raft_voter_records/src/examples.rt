@@ -19,7 +19,7 @@ ghost use Rattle.raft_voter_records.specs.Examples.{
 };
 
 /// A first Append is written whole. One of another leader is written from the first entry that differs. One whose
-/// entries are all there with their terms changes nothing, whatever their bytes.
+/// entries are all there with their terms changes nothing, whatever their bytes. Nor does one of a past term.
 pub fn appends()
     ensures first { change_items fresh (Append 1 0 0 1 (of_terms (1 ∷ [])))
         ≡ Run 1 (stored_entry 1 (1, []) ∷ [])
@@ -38,8 +38,8 @@ pub fn states_alone()
         ≡ put_state (next two_entries (Append 1 2 1 2 [])) ∷ [] }
 {}
 
-/// Entries that go are written as a Compact of the index after the new base. If none stays, it is the index after the
-/// last entry. If there was none, only the state is written.
+/// Entries that are deleted are written as a Compact of the index after the new base. If none stays, it is the index
+/// after the last entry. If there was none, only the state is written.
 pub fn entries_go()
     ensures some { change_items three_entries (Compact 2) ≡ CompactItem 3 ∷ put_state compacted_voter ∷ [] }
     ensures to_the_last { change_items compacted_voter (Compact 3)
@@ -51,7 +51,7 @@ pub fn entries_go()
     ensures none { change_items fresh (Install 2 7 2) ≡ put_state (next fresh (Install 2 7 2)) ∷ [] }
 {}
 
-/// If a voter is retired, all of it goes: a Clean is written.
+/// If a voter is retired, only a Clean is written.
 pub fn retires()
     ensures { change_items three_entries Retire ≡ Clean ∷ [] }
 {}

@@ -5,7 +5,7 @@ use raft_log_record_batches::EntryWriter;
 use raft_voter_messages::{Items, append_entry};
 use std::alloc::AllocError;
 
-/// Entries of a voter, the first with an index and each other one with the next. Each is written in its stored form.
+/// Entries of a voter with consecutive indexes. Each is written in its stored form.
 #[derive(Clone, Copy)]
 pub struct StoredEntries<'a> {
     first: u64,
@@ -14,7 +14,8 @@ pub struct StoredEntries<'a> {
 }
 
 impl<'a> StoredEntries<'a> {
-    /// These entries, each with its term and its bytes.
+    /// These entries, each with its term and its bytes, at the indexes from `first` on. The index after the last must
+    /// be below 2^64.
     pub fn new(first: u64, entries: &'a [(u64, Items<u8>)]) -> StoredEntries<'a>
         requires { first + length entries.now < 2 ^ 64 }
         ensures first { result.first ≡ first }

@@ -17,13 +17,13 @@ pub fn empty_maps_are_fresh()
     ensures { EmptyMapsAreFresh }
 {}
 
-/// Two maps with the same content mean the same voters. A purge keeps the map, so it changes no voter.
+/// Two maps with the same content mean the same voters.
 pub fn same_maps_mean_the_same()
     ensures { SameMapsMeanTheSame }
 {}
 
-/// A group holds the voter of a state and entries if its one key is read as that state, and its entries are read after
-/// its base.
+/// Suppose a group's only key is read as a state, and its entries are read from right after the state's base on. If the
+/// last index is below 2^63, the group holds the voter with this state and these entries.
 pub fn read_groups_hold_voters()
     ensures { ReadGroupsHoldVoters }
 {}

@@ -1,7 +1,7 @@
 //! Draws a session: reads it from standard input, runs it as `raftvoters` does, and writes a picture of the run, as
 //! SVG, to standard output. `raftvoters_timeline --help` prints the usage.
 //!
-//! The status is 0 if there is a picture. Else standard error says why, and the status is:
+//! The status is 0 if the picture was written, or for `--help`. Else standard error says why, and the status is:
 //! - 1 for settings that are rejected;
 //! - 2 for an unreadable line or for other arguments;
 //! - 3 if memory, reading or writing failed.

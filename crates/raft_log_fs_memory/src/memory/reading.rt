@@ -11,8 +11,9 @@ impl MemoryFileSystem {
     ghost use Rattle.raft_log_fs_memory.specs.Memory.{disk_of, unsynced};
     ghost use Rattle.raft_log_fs_memory.specs.Turns.{armed};
 
-    /// Makes a place of the file at a path unreadable: a read that asks for it fails. The mark stays with the file,
-    /// even if it is renamed or written. If the path names no file, nothing changes. Fails only if memory runs out.
+    /// Makes the byte at an offset, `place`, of the file at a path unreadable: a read that asks for it fails with
+    /// `Other`. The mark stays with the file, even if it is renamed or written. If the path names no file, nothing
+    /// changes. Fails only if memory runs out.
     pub fn deny_read(&mut self, name: &str, place: usize) -> Result<(), AllocError>
         ensures same { armed self.new ≡ armed self.old }
         ensures order { unsynced self.new ≡ unsynced self.old }

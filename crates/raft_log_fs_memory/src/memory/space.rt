@@ -13,8 +13,8 @@ impl MemoryFileSystem {
     ghost use Rattle.raft_log_fs_memory.specs.Turns.{armed, with_space};
 
     /// Limits the files of a directory to so many bytes in all, replacing an earlier limit. A write or an allocation
-    /// that would make them grow past it fails with `StorageFull`, is counted, and nothing of it is done. Fails only if
-    /// memory runs out.
+    /// that would make them grow past it fails with `StorageFull`, is counted, and nothing of it is done. Files that
+    /// are longer already keep their bytes. Fails only if memory runs out.
     pub fn set_space(&mut self, directory: &str, bytes: u64) -> Result<(), AllocError>
         ensures same { disk_of self.new ≡ disk_of self.old }
         ensures order { unsynced self.new ≡ unsynced self.old }

@@ -16,8 +16,8 @@ impl MemoryFileSystem {
     ghost use Rattle.raft_log_fs_memory.specs.Turns.{armed, armed_with, call_later, IsSpared, PartFalls, StopsAfter, ArmedRefusalFell, IsCallEnded, IsChangeEnded};
     ghost use Rattle.raft_log_fs_memory.specs.Answers.{HasRefused, HasFallen, RunsWithDirectory, LacksDirectory, RunsWithFile, LacksFile, RunsWithWriter, LacksWriter};
 
-    /// Makes the n-th changing call from now fail; it changes nothing. Failures that are already armed stay. 0 arms
-    /// none. Fails only if memory runs out.
+    /// Makes the n-th changing call from now fail with `Other`; it changes nothing. Calls with a wrong argument don't
+    /// count. Failures that are already armed stay. 0 arms none. Fails only if memory runs out.
     pub fn refuse_call(&mut self, n: u64) -> Result<(), AllocError>
         ensures same { disk_of self.new ≡ disk_of self.old }
         ensures order { unsynced self.new ≡ unsynced self.old }
@@ -31,9 +31,11 @@ impl MemoryFileSystem {
     }
 
     /// Makes the n-th changing call from now fail in part: a write writes its first `count` bytes, or all if it has
-    /// fewer, and they aren't synced; any other call changes nothing. Failures that are already armed stay. If several
-    /// fall at one call, one of `refuse_call` comes first, then the one that was armed first. 0 arms none. Fails only
-    /// if memory runs out.
+    /// fewer, and they aren't synced. Any other call changes nothing. The error is `Other`; if the write lacks room,
+    /// the kind for that.
+    ///
+    /// Failures that are already armed stay. If several fall at one call, a stop comes first, then `refuse_call`, then
+    /// the one that was armed first. 0 arms none. Fails only if memory runs out.
     pub fn refuse_in_part(&mut self, n: u64, count: usize) -> Result<(), AllocError>
         ensures same { disk_of self.new ≡ disk_of self.old }
         ensures order { unsynced self.new ≡ unsynced self.old }
@@ -47,8 +49,9 @@ impl MemoryFileSystem {
         Ok(())
     }
 
-    /// Makes the file system stop at the n-th changing call from now, replacing an armed stop. A write, a truncation or
-    /// an allocation there is made, but not synced; any other call hasn't happened. 0 changes nothing.
+    /// Makes the file system stop at the n-th changing call from now, replacing an armed stop. That call fails. A
+    /// write, a truncation or an allocation there is made, but not synced, unless there is no room for it. Any other
+    /// call isn't made. 0 changes nothing.
     pub fn stop_at(&mut self, n: u64)
         ensures same { disk_of self.new ≡ disk_of self.old }
         ensures order { unsynced self.new ≡ unsynced self.old }
@@ -60,8 +63,8 @@ impl MemoryFileSystem {
         }
     }
 
-    /// Makes the file system stop after the n-th changing call from now, replacing an armed stop. That call is done,
-    /// and fails. 0 changes nothing.
+    /// Makes the file system stop after the n-th changing call from now, replacing an armed stop. That call fails, and
+    /// is made unless there is no room for it. 0 changes nothing.
     pub fn stop_after(&mut self, n: u64)
         ensures same { disk_of self.new ≡ disk_of self.old }
         ensures order { unsynced self.new ≡ unsynced self.old }

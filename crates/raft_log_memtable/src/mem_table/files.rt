@@ -9,9 +9,10 @@ use raft_log_memtable_index::{GroupFiles, lesser};
 use raft_log_record_base::{FileSeq, LogQueue};
 
 impl MemTable {
-    /// The least file of a queue in use, if there is one. For Append it is the file of the first appended entry or of a
-    /// value. For Rewrite it is the same, or the first file of the noted groups if they may reach to it. Files don't
-    /// fall along the entries of a queue.
+    /// The least file of a queue in use, if there is one. For Append it is the file of the first appended entry, or
+    /// that of a value if this is lower. For Rewrite it is the same, or the first file of the noted groups if they may
+    /// reach to it. Of the entries in a queue only the first one's file is looked at: file numbers must not fall along
+    /// them.
     pub fn min_file_seq(&self, queue: LogQueue) -> Option<FileSeq>
         ensures exact { IsMinFile queue (shown self.now) result }
         ensures slots { result ≡ min_file queue self.now }
@@ -28,7 +29,8 @@ impl MemTable {
         }
     }
 
-    /// The file of the first rewritten entry or of a rewritten value, the lesser of them, if there is one.
+    /// The file of the first rewritten entry or the least one of a rewritten value, the lesser of them, if there is
+    /// one.
     fn least_rewritten(&self) -> Option<FileSeq>
         ensures exact { IsLeastRewritten (shown self.now) result }
         ensures slots { result ≡ least_rewritten self.now }

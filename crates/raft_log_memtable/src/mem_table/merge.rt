@@ -28,7 +28,8 @@ impl MemTable {
     /// its own over them, and its keys over these. If it has a Clean, only it counts.
     ///
     /// Fails with `Hole` if its entries, in Append, start past the end of those that stay, or with `Memory`. In Rewrite
-    /// such entries replace all. Whether it succeeds or fails, nothing is promised any more.
+    /// such entries replace all. Whether it succeeds or fails, nothing is promised any more. If it fails, nothing else
+    /// changes.
     pub fn merge_newer_neighbor(&mut self, newer: MemTable) -> Result<()>
         ensures ok { OnOk result (replay_of self.new ≡ joined (replay_of self.old) (replay_of newer)) }
         ensures fits { OnOk result (LeavesHole (shown self.old) (replay_of newer) → ⊥) }
@@ -75,7 +76,8 @@ impl MemTable {
 
     /// Merges a table that was read from all of Append over this one, which was read from all of Rewrite. The
     /// tombstones of this one aren't owed any more. If the entries of Append start past the end of those that stay
-    /// here, none of these stays. Whether it succeeds or fails, nothing is promised any more.
+    /// here, none of these stays. Whether it succeeds or fails, nothing is promised any more. If it fails, nothing else
+    /// changes.
     pub fn merge_append_table(&mut self, append: MemTable) -> Result<(), AllocError>
         ensures ok { OnOk result (shown self.new ≡ merged (shown self.old) (replay_of append)) }
         ensures err { OnErr result (replay_of self.new ≡ replay_of self.old) }

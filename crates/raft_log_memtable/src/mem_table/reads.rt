@@ -11,8 +11,8 @@ use raft_log_record_items::{Bytes, EntryIndex};
 use std::alloc::AllocError;
 
 impl MemTable {
-    /// Adds the entries in Append from the first on, up to the first in a file past the gate. If it fails, nothing is
-    /// added.
+    /// Adds the entries in Append from the first on, before the first one in a file past the gate. If it fails, nothing
+    /// is added.
     pub fn fetch_entry_indexes_before(
         &self,
         gate: FileSeq,
@@ -73,8 +73,8 @@ impl MemTable {
         (self.rewritten as u64).saturating_add(self.keys.rewritten_count())
     }
 
-    /// Whether there are `count` entries, and the last of these is in a file up to the gate. Each file of Append is
-    /// past all of Rewrite.
+    /// Whether there are `count` entries, and the last of the first `count` is in a file up to the gate; true if
+    /// `count` is 0. Each file of Append is past all of Rewrite.
     pub fn has_at_least_some_entries_before(&self, gate: FileId, count: usize) -> bool
         ensures { result ≡ has_before (shown self.now) gate count }
     {
@@ -93,8 +93,8 @@ impl MemTable {
     }
 
     /// Calls back with each key that isn't below the start and is below the end, if these are given, and with its
-    /// value. It goes through the keys in the order of their bytes, or backwards if `reverse`, up to the first call
-    /// that returns false. It takes time in the keys between the bounds, those without a value included.
+    /// value. Keys are visited in the order of their bytes, or backwards if `reverse`, up to the first call that
+    /// returns false. It takes time in the number of keys between the bounds, those without a value included.
     pub fn scan<F: FnMut(&[u8], &[u8]) -> bool>(
         &self,
         start: Option<&[u8]>,
@@ -112,8 +112,8 @@ impl MemTable {
     }
 
     /// Adds the keys from the start on and below the end, if these are given, and their values, in the order of the
-    /// keys. If it fails, nothing is added. It takes time in the keys between the bounds, those without a value
-    /// included.
+    /// keys. If it fails, nothing is added. It takes time in the number of keys between the bounds, those without a
+    /// value included.
     pub fn fetch_kvs_within(
         &self,
         start: Option<&[u8]>,

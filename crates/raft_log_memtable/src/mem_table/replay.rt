@@ -18,7 +18,7 @@ use std::alloc::AllocError;
 
 impl MemTable {
     /// Applies entries that were read from Append. Fails with `Hole` if they start past the index after the last, or
-    /// with `Memory`. Whether it succeeds or fails, nothing is promised any more.
+    /// with `Memory`; then the table has what it had. Whether it succeeds or fails, nothing is promised any more.
     pub fn replay_append(&mut self, entries: &[EntryIndex]) -> Result<()>
         requires { IsRun entries.now }
         ensures ok { (n : ℕ)

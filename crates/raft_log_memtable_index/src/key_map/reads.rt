@@ -119,8 +119,8 @@ impl KeyMap {
     }
 
     /// Calls back with each key that isn't below the start and is below the end, if these are given, and with its
-    /// value. It goes through the keys in the order of their bytes, or backwards if `reverse`, up to the first call
-    /// that returns false.
+    /// value. Keys are visited in the order of their bytes, or backwards if `reverse`, up to the first call that
+    /// returns false.
     pub fn scan<F: FnMut(&[u8], &[u8]) -> bool>(
         &self,
         start: Option<&[u8]>,

@@ -11,9 +11,11 @@ use raft_voter_outline::Outline;
 use std::alloc::Global;
 
 impl Voter {
-    /// Restores the voter with this state and these entries. Ignores the last entry that the state names. Fails first
-    /// for a number out of range or an entry that is too long, then for entries that are not consecutive from the base
-    /// on.
+    /// Restores the voter with this state and these entries. Ignores the last entry that the state names. Fails with
+    /// the first of these:
+    /// - `Range`: a number is out of range, an entry is too long, or the base is above the commit.
+    /// - `Order`: the entries are not consecutive from the base on.
+    /// - `Memory`: memory ran out.
     pub fn restore(
         alloc: Global,
         state: VoterState,

@@ -16,7 +16,7 @@ const FORM_1_NUMBERS: usize = 2 * NUMBER_BYTES;
 /// How many bytes are written before an entry's own bytes.
 pub const ENTRY_HEAD_BYTES: usize = 1 + FORM_1_NUMBERS;
 
-/// Encodes an entry in form 1. Fails only for lack of memory.
+/// Encodes an entry in form 1, also one out of range, which `read_entry` doesn't read. Fails only for lack of memory.
 pub fn entry_bytes(alloc: Global, entry: &Entry) -> Result<Items<u8>, Memory>
     ensures { IfOk result (λ bytes. bytes ≡ entry_text entry.now) }
 {

@@ -24,7 +24,7 @@ const FORM_2_BYTES: usize = FORM_1_BYTES + NUMBER_BYTES;
 /// How many bytes are written for a state.
 pub const STATE_BYTES: usize = 1 + FORM_2_BYTES;
 
-/// Encodes a state in form 2. Fails only for lack of memory.
+/// Encodes a state in form 2, also one out of range, which `read_state` doesn't read. Fails only for lack of memory.
 pub fn state_bytes(alloc: Global, state: &VoterState) -> Result<Items<u8>, Memory>
     ensures { IfOk result (λ bytes. bytes ≡ state_text state.now) }
 {
@@ -67,7 +67,8 @@ pub fn read_state(bytes: &[u8]) -> Result<VoterState, StoredFault>
     }
 }
 
-/// Whether a state's numbers are in range, and its base is at most its commit.
+/// Whether a state's term, vote, base and commit are in range, and its base is at most its commit. Its last entry isn't
+/// looked at.
 pub fn state_fits(state: &VoterState) -> bool
     ensures { result ≡ state_fits state.now }
 {

@@ -8,7 +8,7 @@ use Rattle.raft_voter_world.specs.declared.event.Left.TheVariants.{All, First, L
 use Rattle.raft_voter_world.specs.declared.faults.Fault.{Fault}
 use Rattle.raft_voter_world.specs.declared.faults.Fault.TheVariants.{Refuse, Stop}
 
--- the fault of the file system that stands for this fault of the simulated world
+-- the fault of the file system that implements this fault of the simulated world
 abbrev pub fault_of : Fault → DiskFault
 fault_of (Stop calls) = faults.StopAt calls
 fault_of (Refuse calls) = faults.Refuse calls

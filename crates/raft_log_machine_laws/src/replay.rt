@@ -1,5 +1,5 @@
-//! What a reading requires in addition to the meaning: no run leaves a hole in either queue, and atomic groups are
-//! whole. A recovery can thus read whatever a crash leaves.
+//! What a reading requires in addition to the meaning: no run leaves a hole in either queue, and no other record comes
+//! between those of an atomic group. A recovery can thus read whatever a crash leaves.
 
 ghost use Rattle.std.specs.Prelude.{ℕ, ◌+◌, length, List, ◌∷◌, ◌++◌};
 ghost use Rattle.raft_log_model_laws.specs.Item.Item.{Run};

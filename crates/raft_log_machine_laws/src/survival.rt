@@ -82,8 +82,8 @@ pub fn directory_reopens<E, V>()
 {}
 
 /// How an engine shows what the records that stay in Rewrite say. If a plain record that stays, or an atomic group that
-/// stays from its BEGIN on, touches a slot, then what stays touches it. What stays then says of the slot what the whole
-/// live range said.
+/// stays from its BEGIN on, touches a slot, then what stays touches it. If the records are unbroken, what stays then
+/// says of the slot what the whole live range said.
 pub fn what_stays_in_rewrite_says<E, V>()
     ensures plain { (g : ℕ) (s : Slot) (xs zs : List (Record E V)) (ys : List (Tagged E V))
         → IsSpoken (says s (of_group g ys)) → IsSpoken (says s (rewritten g (xs ++ Plain ys ∷ zs))) }

@@ -30,7 +30,7 @@ impl MemTables {
     /// That lets the batches of an atomic group be prepared one after another.
     ///
     /// Whether it succeeds or fails, the tables show the same, and what was promised to other groups stays. If it
-    /// fails, nothing is prepared for its groups any more.
+    /// fails, all that was promised to its groups is taken back, even by earlier calls.
     pub fn prepare_rewrite(&mut self, items: &[LogItem]) -> Result<(), AllocError>
         ensures shows { ShowsSame self.old self.new }
         ensures ok { OnOk result (PromisesMoves self.old self.new (tagged_items (λ e. e) items.now)) }

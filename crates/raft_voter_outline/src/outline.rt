@@ -117,7 +117,7 @@ impl Outline {
         }
     }
 
-    /// Returns the term of the entry at an index, or of the base.
+    /// Returns the term of the entry at an index, or of the base. Returns `None` if the voter has neither there.
     pub fn term_at(&self, index: u64) -> Option<u64>
         ensures value { result ≡ term_at self.now.voter index }
     {

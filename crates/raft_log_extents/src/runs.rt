@@ -27,8 +27,8 @@ const FIRST: usize = 0x8000_0000_0000_0000;
 
 const FIRST_START: usize = 0x4000_0000_0000_0000;
 
-/// The places of consecutive entries, as runs. In their order, the starts have where each entry of a run with different
-/// lengths starts, and the whole place of each entry that came alone, as eight starts.
+/// The places of consecutive entries, as runs. The starts are in the runs' order. A run with different lengths has one
+/// for each entry: where it starts. Each entry that came alone has eight, which are its whole place.
 #[derive(Drop)]
 pub struct Runs {
     pub(crate) runs: VecDeque<Run>,

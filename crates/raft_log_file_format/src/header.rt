@@ -58,9 +58,9 @@ impl LogFileFormat {
 
     /// Reads a header from the front of a file's bytes, and consumes its bytes, or none if it fails.
     ///
-    /// Fails on the first of these: with `Corruption` for other magic bytes, with `Codec` for a truncated version
-    /// number, with `Corruption` for an unknown version or a truncated alignment. Only the text of an error allocates;
-    /// without memory for it, the error is `Memory`.
+    /// Fails on the first of these: other magic bytes, a truncated version number, an unknown version, a truncated
+    /// alignment. The error is `Codec` for a truncated version number, otherwise `Corruption`. Only the text of an
+    /// error allocates; without memory for it, the error is `Memory`.
     pub fn decode(alloc: Global, source: &mut BytesSlice<'_>) -> Result<LogFileFormat>
         ensures decodes { DecodesOrMemory IsFileHeader result source.old.now source.new.now }
         ensures exact { ReadsOrMemory result source.old.now source.new.now (header_at source.old.now) }

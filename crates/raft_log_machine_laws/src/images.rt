@@ -19,7 +19,7 @@ ghost use Rattle.raft_log_machine_laws.specs.Replay.{IsReplayable};
 ghost use Rattle.raft_log_machine_laws.specs.Whereabouts.{top, Whereabouts};
 ghost use Rattle.raft_log_machine_laws.specs.WrongRules.{entry_1, entry_3, failed_on};
 
-/// In each image the entries of a group are one run, and none has the index 2^64 - 1: they are so after each prefix of
+/// In each image the entries of a group are one run, and none has the index 2^64 - 1. This is so after each prefix of
 /// the pending batches. Each event keeps this, even a failure and an open, so it holds after every schedule.
 pub fn each_image_has_one_run<E, V>()
     ensures fresh { HasRuns (fresh_machine {E = E} {V = V}) }
@@ -47,8 +47,8 @@ pub fn tables_tell_the_whereabouts<E, V>()
         → IsRecovered m append u }
 {}
 
-/// What an open read determines the whereabouts: any two that it may make have the same entries in Rewrite and in
-/// Append, the same keys in Append, and both or neither owe a Clean. The index of a group without entries may differ,
+/// What an open read determines the whereabouts. Any two that it may make have the same entries in Rewrite and in
+/// Append, and the same keys in Append. Both or neither owe a Clean. The index of a group without entries may differ,
 /// and so may an owed Compact or Del.
 pub fn an_open_has_no_choice<E, V>()
     ensures { (m : Slot → Option (Content E V)) (append : List (Item E V))
@@ -71,7 +71,7 @@ pub fn intervals_say_the_same_of_images<E, V>()
 {}
 
 /// That the directory has a meaning and can be read isn't enough for an open. Rewrite has entry 1, Append entry 3.
-/// Neither queue has a hole, nothing was lost, and entries 1 and 3 are there, but no step opens it: no whereabouts have
+/// Neither queue has a hole, nothing was lost, and entries 1 and 3 are there, but no step opens it. No whereabouts have
 /// an empty index between two entries. `directory_by_intervals` drops entry 1.
 pub fn meaning_and_reading_are_too_little()
     ensures kept { IsKept (failed_on (entry_1 ∷ []) (entry_3 ∷ [])) }

@@ -20,8 +20,8 @@ pub fn each_step_replays<E, V>()
     ensures { (e : Event E V) (w v : Machine E V) → Step e w v → IsKept w → IsReplayable w → IsReplayable v }
 {}
 
-/// If the invariants hold, each start of each queue can be read, with each prefix of its unsynced records: no hole in
-/// Append, none in Rewrite, and no broken atomic group.
+/// If the invariants hold, each queue can be read from each start, with each prefix of its unsynced records. There is
+/// no hole in either queue, and no other record comes between those of an atomic group.
 pub fn kept_machine_replays<E, V>()
     ensures { (w : Machine E V) → IsKept w → IsReplayable w → ReadsThrough w.store }
 {}

@@ -19,8 +19,9 @@ use raft_log_record_frames::{AtomicGroupStatus, Marking};
 use raft_log_record_items::LogItem;
 use std::alloc::Global;
 
-/// The state of a worker that reads one segment of a queue: the tables of all groups, and the pieces of atomic groups
-/// that the segment's two ends cut. If a call fails, drop the context: no clause then says which records it has read.
+/// The state of a worker that reads one segment of a queue. It has the tables of all groups, and the pieces of atomic
+/// groups that the segment's two ends cut. If a call fails, drop the context: no clause then says which records it has
+/// read.
 #[derive(Drop)]
 pub struct MemTableRecoverContext {
     alloc: Global,

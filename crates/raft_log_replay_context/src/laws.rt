@@ -40,9 +40,9 @@ pub fn append_counts_at_once()
         → counted g rs ≡ appended g (records_of rs) }
 {}
 
-/// If each segment holds one list of batches, two readings of all segments, with any numbers of workers, have read the
-/// same records, and the segments' endings are the same. If the records are in order, the readings hold the same
-/// entries and values of each group, in the same places and files, and the same groups count.
+/// Suppose each segment holds one list of batches. Two readings of all segments, with any numbers of workers, have then
+/// read the same records, with the same endings of segments. If the records are in order, both hold the same entries
+/// and values of each group, in the same places and files, and the same groups count.
 pub fn workers_show_the_same<S: ReplaySource>()
     ensures { (source : S) → HoldsOne (S.holds source) → (count : ℕ) (m n : MemTableRecoverContext)
         (es fs : List S.Ending)

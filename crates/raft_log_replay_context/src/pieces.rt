@@ -29,8 +29,8 @@ use std::alloc::{AllocError, Global};
 use std::collections::BTreeMap;
 use std::mem;
 
-/// The pieces of atomic groups that the two ends of a segment cut: what the segment does with each group that is open
-/// before it, by its number; and the groups that it leaves open, in the order of their begins.
+/// The pieces of atomic groups that the two ends of a segment cut. They are what the segment does with each group that
+/// is open before it, by its number, and the groups that it leaves open, in the order of their begins.
 #[derive(Drop)]
 pub(crate) struct GroupPieces {
     alloc: Global,

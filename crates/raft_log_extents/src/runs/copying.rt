@@ -116,8 +116,9 @@ impl Runs {
         count
     }
 
-    /// Adds the first of `count` entries that are alone in their blocks, whose places are in the starts from this
-    /// position on, and returns how many: those up to where the deque wraps to the front of its buffer, at least one.
+    /// Adds the first of `count` entries that are alone in their blocks, and returns how many: at least one. Their
+    /// places are in the starts from this position on. It adds those up to where the deque wraps to the front of its
+    /// buffer.
     fn copy_alone(
         &self,
         from: usize,

@@ -46,9 +46,9 @@ impl MemTables {
         prepared
     }
 
-    /// Applies a batch that was prepared, and then written to this file of Rewrite: entries and values that are still
-    /// there are in that file from now on. With a gate, this includes what is in Append in a file up to it; without
-    /// one, nothing in Append. Tombstones and marks of atomic groups change nothing.
+    /// Applies a batch that was prepared, and then written to this file of Rewrite. Its entries and values that are
+    /// still there are in that file from now on. With a gate, this includes what is in Append in a file up to it;
+    /// without one, nothing in Append. Tombstones and marks of atomic groups change nothing.
     ///
     /// The batches of an atomic group are applied once its last one is written, and not before.
     pub fn apply_rewrite_writes(&mut self, items: &[LogItem], gate: Option<FileSeq>, file: FileSeq)

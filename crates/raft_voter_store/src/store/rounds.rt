@@ -48,7 +48,7 @@ impl<P: PipeLog> LogVoterStore<P> {
         ensures errors { IfErr result (λ fault. FailsAs fault.cause (length requests.now)
             (has_failed (shows_of P.shown self.old.engine)) (has_failed (shows_of P.shown self.new.engine))) }
 
-        // A round that changes no voter only reads: it writes and syncs no file, so the files, what is pending in them
+        // A round that changes no voter only reads: it writes and syncs no file. So the files, what is pending in them
         // and the failures that were counted are unchanged. If it also requests no entries, it leaves the whole store
         // unchanged, with its file system.
         ensures quiet { IfVotersStay (outlines_in self.old.outlines) requests.now

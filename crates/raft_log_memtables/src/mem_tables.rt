@@ -49,8 +49,8 @@ use std::collections::BTreeMap;
 
 /// The memtables of all groups.
 ///
-/// All memory for a batch is allocated in `prepare`, before the write, which doesn't change what the tables show.
-/// `apply_append_writes` comes after the write, and can't fail.
+/// `prepare` allocates all memory for a batch before it is written, and changes nothing of what the tables show.
+/// `apply_append_writes` follows the write, and can't fail.
 #[derive(Drop)]
 pub struct MemTables {
     alloc: Global,

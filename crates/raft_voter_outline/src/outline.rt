@@ -20,7 +20,8 @@ use std::marker::Model;
 use term_runs::TermRuns;
 
 /// A voter without its entries: its state, and the terms of its log as runs of equal terms. It decides the voter's
-/// reply and next state. Contracts see it as a `State` whose entries have no bytes.
+/// reply and next state. Contracts see it as a `State` whose entries have no bytes, and the room for more runs
+/// (`Outlined`).
 #[derive(Debug, Drop)]
 pub struct Outline {
     alloc: Global,

@@ -19,8 +19,8 @@ impl<P: PipeLog> LogVoterStore<P> {
     ghost use Rattle.raft_voter_store.specs.Silence.{AsksForNone, IfVoterStays, IfVotersStay, ReadsAlone};
 
     /// Serves the requests in order, and returns one reply for each. The reply is `Refused` for a request that is out
-    /// of range or was rejected. It returns the replies after all that was written is synced; if nothing was written
-    /// it doesn't sync.
+    /// of range or was rejected. It returns the replies after all that was written is synced; if nothing was written it
+    /// doesn't sync.
     ///
     /// Checks for `TooLong`, `Failed` and `Memory`, in this order, before it serves anything. It fails with
     /// `FileSystem` if the engine failed at a request, or the sync failed; some of the first requests may be taken

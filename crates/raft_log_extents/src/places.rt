@@ -23,7 +23,7 @@ pub fn place_of(entry: &EntryIndex) -> Place
     }
 }
 
-/// The entry with this index at this place, in a file of this queue.
+/// The entry with this index at this place, in a file of this queue. Its compression type is `None`.
 pub fn entry_of(queue: LogQueue, index: u64, place: Place) -> EntryIndex
     ensures { result ≡ entry_of queue index place }
 {

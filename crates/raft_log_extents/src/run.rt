@@ -29,7 +29,8 @@ pub struct Run {
     pub size: u32,
     /// The number of entries after them that came alone.
     pub alone: u32,
-    /// Whether all entries in the block have one length. If not, the list of runs keeps where each of them starts.
+    /// If true, all entries in the block have one length, and their offsets fit into 32 bits. If false, the list of
+    /// runs keeps where each of them starts.
     pub even: bool,
 }
 

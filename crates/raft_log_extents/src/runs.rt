@@ -27,8 +27,8 @@ const FIRST: usize = 0x8000_0000_0000_0000;
 
 const FIRST_START: usize = 0x4000_0000_0000_0000;
 
-/// The places of consecutive entries, as runs. In their order, the starts have where each entry of a run with different
-/// lengths starts, and the whole place of each entry that came alone, as eight starts.
+/// The places of consecutive entries, as runs. The starts are in the runs' order. A run with different lengths has one
+/// for each entry: where it starts. Each entry that came alone has eight, which are its whole place.
 #[derive(Drop)]
 pub struct Runs {
     pub(crate) runs: VecDeque<Run>,
@@ -109,7 +109,8 @@ impl Runs {
         }
     }
 
-    /// Makes room for `count` more entries, wherever they are stored. If it fails, nothing changes.
+    /// Makes room for `count` more entries, wherever they are stored. Fails if memory runs out, or if entries or starts
+    /// would get a number above 2^64 - 1. Then the places stay, and so does the room that there was.
     pub fn reserve(&mut self, count: usize) -> Result<(), AllocError>
         ensures items { places self.new ≡ places self.old }
         ensures sizes { (deque_len self.new.runs ≡ deque_len self.old.runs)
@@ -134,7 +135,8 @@ impl Runs {
         make_room(&mut self.starts, starts, spare)
     }
 
-    /// Gives back memory if there is much more room than for `count` more entries.
+    /// Gives back memory if there is much more room than for `count` more entries. There must be room for these, and it
+    /// stays.
     pub fn give_back(&mut self, count: usize)
         requires { HasRoom self.old count }
         ensures items { places self.new ≡ places self.old }
@@ -146,8 +148,9 @@ impl Runs {
         shrink(&mut self.starts, count * 8, 32);
     }
 
-    /// Appends the places of these entries, for which there must be room. An entry that came alone is kept with the
-    /// last run. Otherwise each piece of entries that follow one another in a block is a run.
+    /// Appends the places of these entries, for which there must be room. A single entry is kept with the last run, if
+    /// there is one that can have one more. Otherwise each piece of entries that follow one another in a block is a
+    /// run.
     pub fn push(&mut self, entries: &[EntryIndex])
         requires { HasRoom self.old (length entries.now) }
         ensures items { places self.new ≡ places self.old ++ map place_of entries.now }
@@ -194,7 +197,7 @@ impl Runs {
         self.len = count;
     }
 
-    /// Drops the first `count` entries.
+    /// Drops the first `count` entries, which must be there.
     pub fn drop_front(&mut self, count: usize)
         requires { count ≤ length (places self.old) }
         ensures items { places self.new ≡ drop count (places self.old) }

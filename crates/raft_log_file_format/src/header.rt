@@ -58,8 +58,9 @@ impl LogFileFormat {
 
     /// Reads a header from the front of a file's bytes, and consumes its bytes, or none if it fails.
     ///
-    /// Fails on the first of these: other magic bytes, a truncated version number (a codec error), an unknown version,
-    /// a truncated alignment. Only the text of an error allocates.
+    /// Fails on the first of these: other magic bytes, a truncated version number, an unknown version, a truncated
+    /// alignment. The error is `Codec` for a truncated version number, otherwise `Corruption`. Only the text of an
+    /// error allocates; without memory for it, the error is `Memory`.
     pub fn decode(alloc: Global, source: &mut BytesSlice<'_>) -> Result<LogFileFormat>
         ensures decodes { DecodesOrMemory IsFileHeader result source.old.now source.new.now }
         ensures exact { ReadsOrMemory result source.old.now source.new.now (header_at source.old.now) }
@@ -67,8 +68,8 @@ impl LogFileFormat {
         read_format(alloc, source)
     }
 
-    /// Appends the header. Fails with an invalid argument if a format of version 1 has an alignment. If it fails, the
-    /// buffer is unchanged.
+    /// Appends the header. Fails with `InvalidArgument` if a format of version 1 has an alignment, or with `Memory`. If
+    /// it fails, the buffer is unchanged.
     pub fn encode(&self, alloc: Global, out: &mut Vec<u8>) -> Result<()>
         ensures ok { OnOk result (HasWrittenHeader self.now
             × (out.new.items ≡ out.old.items ++ header_bytes self.now)) }

@@ -31,12 +31,13 @@ pub trait FileNameExt: Sized {
     /// The file's number.
     ghost number: { Self → ℕ };
 
-    /// The file with this name. The name must be longer than sixteen bytes: the first sixteen are a number (a leading
-    /// `+` is allowed), and the suffix is that of one of the two queues.
+    /// The file with this name, or `None` if it isn't a log file's. The name must be longer than sixteen bytes. The
+    /// first sixteen are a number (a leading `+` is allowed), and the suffix is that of one of the two queues. More
+    /// bytes may be between the two.
     fn parse_file_name(file_name: &str) -> Option<Self>
         ensures { (id : Self) → (result ≡ Some id) ↔ named file_name.now id };
 
-    /// The file's name. Fails with `NumberRange` if the number has more than sixteen digits.
+    /// The file's name. Fails with `NumberRange` if the number has more than sixteen digits, or with `Memory`.
     fn build_file_name(&self, alloc: Global) -> Result<String>
         ensures ok { IfOk result (λ name. named (string_bytes name) self.now) }
         ensures err { IfErr result (λ error. IsNameRefusal (number self.now) error) };
@@ -155,8 +156,9 @@ impl FileNameExt for FileId {
     }
 }
 
-/// The name of a file with a plus sign in front of the number; it is read as the name without one. A number of sixteen
-/// digits leaves no room for the sign and has the name without one. Fails with `NumberRange` if the number is longer.
+/// The name of a file with a plus sign in front of the number, which is parsed as without the sign. A number of sixteen
+/// digits leaves no room for the sign and has the name without one. Fails with `NumberRange` if the number is longer,
+/// or with `Memory`.
 pub fn build_signed_file_name(alloc: Global, id: FileId) -> Result<String>
     ensures ok { IfOk result (λ name.
         string_bytes name ≡ number_text true id.seq ++ suffix_of id.queue) }
@@ -190,14 +192,15 @@ fn path_to(alloc: Global, dir: &str, name: &str) -> Result<String>
     }
 }
 
-/// The number of the file with this name, if the name is that of a file that is kept for recycling.
+/// The number of the file with this name, or `None` unless the name is that of a file that is kept for recycling.
 pub fn parse_reserved_file_name(file_name: &str) -> Option<FileSeq>
     ensures { (n : ℕ) → (result ≡ Some n) ↔ IsNamed reserved_suffix file_name.now n }
 {
     parse_seq_before(file_name, LOG_APPEND_RESERVED_SUFFIX)
 }
 
-/// The name of a file that is kept for recycling. Fails with `NumberRange` if the number has more than sixteen digits.
+/// The name of a file that is kept for recycling. Fails with `NumberRange` if the number has more than sixteen digits,
+/// or with `Memory`.
 pub fn build_reserved_file_name(alloc: Global, seq: FileSeq) -> Result<String>
     ensures ok { IfOk result (λ name. IsNamed reserved_suffix (string_bytes name) seq) }
     ensures exact { IfOk result (λ name. string_bytes name ≡ sixteen_digits seq ++ reserved_suffix) }
@@ -208,7 +211,7 @@ pub fn build_reserved_file_name(alloc: Global, seq: FileSeq) -> Result<String>
 }
 
 /// The name of a file that is kept for recycling, with a plus sign in front of the number if that leaves room for one.
-/// Fails with `NumberRange` if the number has more than sixteen digits.
+/// Fails as `build_reserved_file_name` does.
 pub fn build_signed_reserved_file_name(alloc: Global, seq: FileSeq) -> Result<String>
     ensures ok { IfOk result (λ name. string_bytes name ≡ number_text true seq ++ reserved_suffix) }
     ensures err { IfErr result (λ error. IsNameRefusal seq error) }

@@ -27,7 +27,7 @@ pub trait EventListener: Send + Drop {
     fn on_append_log_file(&mut self, handle: FileBlockHandle)
         ensures { hears (RecordWritten handle) self.old self.new };
 
-    /// The last record of this file was applied to the tables.
+    /// A record of this file was applied to the tables.
     fn post_apply_memtables(&mut self, file_id: FileId)
         ensures { hears (RecordApplied file_id) self.old self.new };
 

@@ -10,8 +10,9 @@ use std::alloc::Global;
 use std::collections::VecDeque;
 use std::marker::Model;
 
-/// Counts, for each active file of Append, the records that were written and aren't in the tables yet. No purge may
-/// delete such a file, though no table names it. Rewrite isn't counted, since only a purge writes to it.
+/// Lists the files of Append, and counts for each the records that were written and aren't in the tables yet.
+/// `purge_expired_files` doesn't delete a file with such records, though no table names it. Files of Rewrite aren't
+/// listed, since only a purge writes to them.
 #[derive(Drop)]
 pub struct PurgeHook {
     first: FileSeq,
@@ -45,7 +46,7 @@ impl PurgeHook {
 
     /// A file was begun, or found at an open: one of Append is listed after the others.
     ///
-    /// Fails with `Hole` if its number isn't the next one, with `NumberRange` for the greatest number that there is,
+    /// Fails with `Hole` if its number isn't the one after the last listed file, with `NumberRange` if it is 2^64 - 1,
     /// or with `Memory`. If it fails, nothing changes.
     pub fn post_new_log_file(&mut self, file_id: FileId) -> Result<()>
         ensures ok { OnOk result (ListsFile file_id.queue file_id.seq self.old self.new) }
@@ -120,7 +121,7 @@ impl PurgeHook {
         None
     }
 
-    /// The number of the first file of a queue that must not be purged yet, if there is one.
+    /// The number from which on the hook pins files of a queue, if it pins any. It pins none of Rewrite.
     pub fn first_file_not_ready_for_purge(&self, queue: LogQueue) -> Option<FileSeq>
         ensures { result ≡ first_held queue self.now }
     {

@@ -156,7 +156,7 @@ impl<P: PipeLog, E: EventListener> PipeLog for ToldPipes<P, E> {
         self.pipes.sync(rt, queue)
     }
 
-    /// Notifies the listener of the file that the queue rotated to.
+    /// Notifies the listener of each file that the queue rotated to, even if the call fails.
     fn rotate<L: Log>(&mut self, alloc: Global, rt: &L, queue: LogQueue) -> Result<()> {
         let before = self.pipes.file_span(queue).1;
         let answer = self.pipes.rotate(alloc, rt, queue);
@@ -166,7 +166,7 @@ impl<P: PipeLog, E: EventListener> PipeLog for ToldPipes<P, E> {
         answer
     }
 
-    /// Notifies the listener of the last file that left the live range, if one did.
+    /// If the call succeeds and files left the live range, notifies the listener of the last one.
     fn purge_to<L: Log>(&mut self, alloc: Global, rt: &L, file_id: FileId) -> Result<usize> {
         let answer = self.pipes.purge_to(alloc, rt, file_id);
         if let Ok(count) = &answer {

@@ -9,7 +9,9 @@ use raft_log_record_base::Result;
 use raft_log_record_items::LogItem;
 use std::alloc::Global;
 
-/// Returns the items of a directory's log files in order, and for each file that isn't read the error.
+/// Returns the items of a directory's log files in order. If a file can't be read to its end, its error is in place of
+/// the rest of its items. Fails with `Io` if the file system has stopped, with `InvalidArgument` if the path isn't a
+/// directory's, or with `Memory`.
 pub fn answers_of<F: FileSystem>(
     alloc: Global,
     file_system: &F,

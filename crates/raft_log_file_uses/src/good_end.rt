@@ -10,7 +10,8 @@ use std::alloc::Global;
 /// How many bytes are read at once.
 const READ_BLOCK_SIZE: usize = 16_384;
 
-/// Returns the offset at which the good records of a log file end: the file ends there, or its next record is broken.
+/// Returns the offset at which the good records of a log file end. From there on the file has at most padding, or its
+/// next record is broken. Fails if the file can't be opened or read, or if memory runs out.
 pub fn good_end<F: FileSystem>(
     alloc: Global,
     file_system: &F,

@@ -14,7 +14,7 @@ pub enum Attempt {
     Undone(ErrorKind),
 }
 
-/// What keeps files and directories, as an operating system does. Each method makes one call.
+/// What keeps files and directories, as an operating system does. Each method except `close` is one call in the trace.
 ///
 /// A successful call is in the trace. A failed call may or may not have been made: the caller has to be right in both
 /// cases. Files are named by the numbers that they were created with.

@@ -16,9 +16,11 @@ use raft_log_fs_state::Storage;
 use std::collections::BTreeMap;
 
 /// A file system over a device, whose files are also in memory, each byte once. A change is made in memory first, and
-/// then on the device; if names changed, the device is synced. Reads come from memory. If a device call fails, the file
-/// system stops. A file is made longer on the device first: if there is no room for that, the file keeps its bytes, and
-/// the call fails, and the file system runs on.
+/// then on the device. Directories whose names changed are synced at once. Reads come from memory. If a device call
+/// fails, the file system stops.
+///
+/// A file is made longer on the device first. If there is no room for that, the call fails, and the failure is counted.
+/// The file keeps its bytes, and the file system doesn't stop.
 #[derive(Drop)]
 pub struct DirectoryFileSystem<D: Device> {
     storage: Storage,
@@ -42,7 +44,8 @@ impl<D: Device> DirectoryFileSystem<D> {
     ghost use Rattle.raft_log_fs_traced.specs.Device.{settled};
     ghost use Rattle.raft_log_fs_traced.specs.Directory.{calls_of, disk_of};
 
-    /// The file system over a device. The model must hold what the device does, and no directory may have to be synced.
+    /// The file system over a device. The model must be sound and hold what the device does, and no directory may have
+    /// to be synced.
     pub fn new(storage: Storage, device: D) -> DirectoryFileSystem<D>
         requires whole { IsStorageSound storage }
         requires follows { held_by (D.Device.trace device) ≡ settled (contents_of storage) }

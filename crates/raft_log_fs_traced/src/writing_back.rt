@@ -10,8 +10,12 @@ use crate::device::Device;
 use raft_log_fs_state::Storage;
 use std::io::ErrorKind;
 
-/// Writes the bytes of a file again and syncs them, as many at a time as the room holds. The device must have the same
-/// bytes as the model. If a device call fails, this returns its error. At no moment does a crash leave other bytes.
+/// Writes the bytes of a file again, as many at a time as the room holds, which must not be empty, and then syncs them.
+/// The file must exist, with all its bytes synced. The device must hold what the model does, and no directory may have
+/// to be synced.
+///
+/// If a device call fails, this returns its error. Whether it succeeds or fails, later calls and a crash find the same
+/// bytes as before.
 pub fn write_back<D: Device>(
     device: &mut D,
     storage: &Storage,

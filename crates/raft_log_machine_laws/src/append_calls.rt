@@ -12,8 +12,7 @@ ghost use Rattle.raft_log_machine_laws.specs.Tables.{GrowsTo};
 
 use crate::pipes::TiedFiles;
 
-/// After a write, the batch is pending, after the other pending batches. If the write rotated, some of these may be
-/// synced.
+/// After a write, the log has the batch after the batches that were pending. A prefix of them all may be synced.
 pub fn written_batch_is_pending<P: TiedFiles>()
     ensures { (s t : P) (v : View P.Entry P.Value) (m : Map P.Entry P.Value)
         (pending : List (Record P.Entry P.Value)) → IsAt (P.ties s) v m pending
@@ -32,7 +31,8 @@ pub fn refused_batch_leaves_no_trace<P: TiedFiles>()
         → LeavesOut P.ties InAppend s t → ViewEndsAt (P.ties t) v m pending }
 {}
 
-/// If the pipe fails while it writes a batch, the log ends with that batch or without it.
+/// If the pipe fails while it writes a batch, the log ends with that batch or without it. A prefix of the pending
+/// batches may be synced.
 pub fn batch_of_a_failed_pipe_may_be_there<P: TiedFiles>()
     ensures { (s t : P) (v : View P.Entry P.Value) (m : Map P.Entry P.Value)
         (pending : List (Record P.Entry P.Value)) → IsAt (P.ties s) v m pending

@@ -1,5 +1,5 @@
 //! A schedule that can happen: one group's entries and key are written, copied into Rewrite by two purges, and read
-//! again from recycled files after a crash. It shows that the requirements of the events can be met, one after the
+//! again from recycled files after a crash. It shows that the requirements of these events can be met, one after the
 //! other.
 
 ghost use Rattle.std.specs.Prelude.{◌≡◌, ℕ};

@@ -21,7 +21,8 @@ ghost use Rattle.raft_log_machine_laws.specs.Queue.{left, raised, reread, synced
 ghost use Rattle.raft_log_machine_laws.specs.Survival.{Survives};
 
 /// A recovery may begin at any file up to the first of the live range, as long as no number is missing. It reads a
-/// suffix of the gone records, then all of the live range. It never reads files before a gap.
+/// suffix of the records below the live range, then the synced ones in it, then the pending ones that the image kept.
+/// It never reads files before a gap.
 pub fn reading_is_an_end<E, V>()
     ensures { (n : ℕ) (q : FileQueue E V) (kept : List (Record E V)) (s : ℕ) (files : List (LogFile E V))
         → IsNumbered n q → IsRead n q kept s files
@@ -36,8 +37,8 @@ pub fn records_survive_in_files<E, V>()
         → Survives (store_of r a) m batches → SurvivesInFiles n r k a m batches }
 {}
 
-/// Numbers stay in order whatever happens to a queue's files, and the number from which they continue never falls. A
-/// gap thus remains, and files before it never come back.
+/// Each change of a queue's files keeps their numbers in order: consecutive after the last gap, and lower before it.
+/// The first number after the last gap, `numbered_from`, never falls.
 pub fn numbers_stay_in_order<E, V>()
     ensures { (e : FileEvent E V) (n : ℕ) (q p : FileQueue E V) → FileStep e q p → IsNumbered n q
         → IsNumbered (numbered_from n e) p }
@@ -78,7 +79,7 @@ pub fn loss_of_files<E, V>()
         × ((records_of before ++ file.records) ++ records_of rest ≡ (queue_of q).gone) }
 {}
 
-/// For the records, what an open reads of an image and syncs is the reading of an image from a start.
+/// For the records, an open that reads the files `again` and the live range of an image is a `reread`.
 pub fn reading_of_files<E, V>()
     ensures { (q : FileQueue E V) (below again : List (LogFile E V)) (kept : List (Record E V))
         → below ++ again ≡ q.gone

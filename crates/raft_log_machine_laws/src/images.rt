@@ -1,5 +1,5 @@
-//! Every image that a crash leaves: the entries of a group are one run in it, and it can be opened. The wording by
-//! intervals means the same as the last word.
+//! Every image that a crash leaves: the entries of a group are one run in it, and it can be opened. For the entries,
+//! `directory_by_intervals` gives the same as the last item that touches an index.
 
 ghost use Rattle.std.specs.Prelude.{◌≡◌, ℕ, ◌≤◌, false, List, [], ◌∷◌, None, Option, Some};
 ghost use Rattle.raft_log_model_laws.specs.Groups.{appended, directory_meaning, rewritten, taken};
@@ -19,7 +19,7 @@ ghost use Rattle.raft_log_machine_laws.specs.Replay.{IsReplayable};
 ghost use Rattle.raft_log_machine_laws.specs.Whereabouts.{top, Whereabouts};
 ghost use Rattle.raft_log_machine_laws.specs.WrongRules.{entry_1, entry_3, failed_on};
 
-/// In each image the entries of a group are one run, and none has the index 2^64 - 1: they are so after each prefix of
+/// In each image the entries of a group are one run, and none has the index 2^64 - 1. This is so after each prefix of
 /// the pending batches. Each event keeps this, even a failure and an open, so it holds after every schedule.
 pub fn each_image_has_one_run<E, V>()
     ensures fresh { HasRuns (fresh_machine {E = E} {V = V}) }
@@ -47,23 +47,23 @@ pub fn tables_tell_the_whereabouts<E, V>()
         → IsRecovered m append u }
 {}
 
-/// What an open read determines the whereabouts: any two that it may make have the same entries in Rewrite and in
-/// Append, and the same keys. Only three things may differ: the index of a group without entries, tombstones in
-/// addition to a Clean, and an additional Compact.
+/// What an open read determines the whereabouts. Any two that it may make have the same entries in Rewrite and in
+/// Append, and the same keys in Append. Both or neither owe a Clean. The index of a group without entries may differ,
+/// and so may an owed Compact or Del.
 pub fn an_open_has_no_choice<E, V>()
     ensures { (m : Slot → Option (Content E V)) (append : List (Item E V))
         → ((s : Slot) (v : Option (Content E V)) → says s append ≡ Some v → m s ≡ v)
         → (t u : Whereabouts) → IsRecovered m append t → IsRecovered m append u → StandAlike t u }
 {}
 
-/// For each image, read from any starts, even of a failed engine, the wording by intervals gives the map after the
-/// batches that were kept. By intervals, Rewrite keeps what Append's Cleans, greatest Compact and least start of a run
-/// leave of it, and nothing if there is a gap. The rules on holes and gaps never take effect.
+/// For each image, read from any starts, even of a failed engine, `directory_by_intervals` gives the entries of the map
+/// after the batches that were kept. By intervals, Rewrite keeps what Append's Cleans, greatest Compact and least start
+/// of a run leave of it, and nothing if there is a gap.
 pub fn intervals_say_the_same_of_images<E, V>()
     ensures all { (w : Machine E V) (r : Recovery w.store) → IsKept w → IsReplayable w → HasRuns w → (g i : ℕ)
         → directory_by_intervals i (rewritten g (rewrite_read w.store r)) (appended g (append_read w.store r))
         ≡ taken w.map r.a_kept g (Index i) }
-    // for an engine that has not failed, if nothing of Append is lost, its whereabouts are enough
+    // if the engine has not failed and nothing of Append is lost, `HasRuns` isn't needed
     ensures running { (w : Machine E V) (r : Recovery w.store) → IsKept w → IsReplayable w → w.failed ≡ false
         → r.a_kept ≡ w.store.append.pending → (g i : ℕ)
         → directory_by_intervals i (rewritten g (rewrite_read w.store r)) (appended g (append_read w.store r))
@@ -71,8 +71,8 @@ pub fn intervals_say_the_same_of_images<E, V>()
 {}
 
 /// That the directory has a meaning and can be read isn't enough for an open. Rewrite has entry 1, Append entry 3.
-/// Neither queue has a hole, nothing was lost, and entries 1 and 3 are there, but no step opens it: no whereabouts have
-/// an empty index between two entries. The wording by intervals would drop entry 1.
+/// Neither queue has a hole, nothing was lost, and entries 1 and 3 are there, but no step opens it. No whereabouts have
+/// an empty index between two entries. `directory_by_intervals` drops entry 1.
 pub fn meaning_and_reading_are_too_little()
     ensures kept { IsKept (failed_on (entry_1 ∷ []) (entry_3 ∷ [])) }
     ensures replay { IsReplayable (failed_on (entry_1 ∷ []) (entry_3 ∷ [])) }

@@ -5,6 +5,9 @@
 //! * [`survival`]: what a directory holds, step by step, in terms of the records of the two queues;
 //! * [`machine`]: the queues with the engine's whereabouts, each event, and every schedule of them;
 //! * [`files`]: the same for numbered files, from every file at which a recovery may begin;
+//! * [`append_calls`], [`rewrite_calls`], [`open`]: what each call on a queue, and each open, keeps of an engine's log;
+//! * [`moves`], [`writes`], [`notes`]: how an engine's view and its noted files follow what happens to the files;
+//! * [`log`]: what a log promises about the images that a crash may leave;
 //! * [`replay`]: whatever a crash leaves can be read: no holes, and no broken atomic groups;
 //! * [`images`]: in whatever image a crash leaves, the entries are one run, and it can be opened;
 //! * [`purge`]: a purge changes nothing of what the directory means;

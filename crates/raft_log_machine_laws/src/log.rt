@@ -17,7 +17,7 @@ ghost use Rattle.raft_log_machine_laws.specs.Log.{IsAt, IsLog, IsLogOf, View};
 use crate::file_system::LogImages;
 use crate::pipes::TiedFiles;
 
-/// A file system without log files is an empty log.
+/// A file system is an empty log if no image that a crash may leave of it has a log.
 pub fn no_files_are_the_log_of_nothing<D: LogImages>()
     ensures { (d : D) → ((image : D) → D.readings.leaves d image → ReadsNothing D.readings image)
         → IsLogOf D.readings d nothing_stands [] }
@@ -31,16 +31,16 @@ pub fn crash_keeps_what_is_synced<D: LogImages>()
         → (k : ℕ) × (k ≤ length pending) × Means D.readings image (taken m (take k pending)) }
 {}
 
-/// An image that is its own only image is a log itself. Its map is the one after a prefix of the pending batches, and
-/// nothing is pending.
+/// An image is a log itself if it is its own image (`IsOwnImage`): then another crash adds nothing to read. Its map is
+/// the one after a prefix of the pending batches, and nothing is pending.
 pub fn image_is_a_log<D: LogImages>()
     ensures { (d : D) (m : Map D.Entry D.Value) (pending : List (Record D.Entry D.Value)) (image : D)
         → IsLogOf D.readings d m pending → D.readings.leaves d image → IsOwnImage D.readings image
         → (k : ℕ) × (k ≤ length pending) × IsLogOf D.readings image (taken m (take k pending)) [] }
 {}
 
-/// If the images of a file system show no more than those of another one, it is the same log. An open that fails leaves
-/// such a file system.
+/// If the images of a file system show no more than those of another one, it is the same log. Each of its images then
+/// means what some image of the other one means.
 pub fn no_more_images_are_the_same_log<D: LogImages>()
     ensures log { (old new : D) (m : Map D.Entry D.Value) (pending : List (Record D.Entry D.Value))
         → ShowsNoMore D.readings old new
@@ -55,7 +55,8 @@ pub fn promise_is_kept_later<D: LogImages>()
         → (k : ℕ) × (k ≤ length pending) × Means D.readings image (taken m (take k pending)) }
 {}
 
-/// A fork is the same log as its source, if the source is its own only image.
+/// A copy is the same log as its source, if what may be read of each of its images may be read of the source. The
+/// source must be its own image (`IsOwnImage`).
 pub fn fork_is_the_same_log<D: LogImages>()
     ensures { (source copy : D) (m : Map D.Entry D.Value) (pending : List (Record D.Entry D.Value))
         → IsOwnImage D.readings source
@@ -63,7 +64,7 @@ pub fn fork_is_the_same_log<D: LogImages>()
         → IsLogOf D.readings source m pending → IsLogOf D.readings copy m pending }
 {}
 
-/// An engine's log is what remains without its tables.
+/// The files of a running engine are a log, with the same map and the same pending batches.
 pub fn engine_is_a_log<P: TiedFiles>()
     ensures { (s : P) (v : View P.Entry P.Value) (m : Map P.Entry P.Value)
         (pending : List (Record P.Entry P.Value))

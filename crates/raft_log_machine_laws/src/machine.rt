@@ -1,6 +1,6 @@
 //! The engine as a machine: its two queues, what they mean, and the whereabouts of each group. The whereabouts are
-//! where things are, and which tombstones are still owed to Rewrite. The requirements of an event on groups concern
-//! only the whereabouts.
+//! where things are, and which tombstones are still owed to Rewrite. What an event requires of groups is stated with
+//! their whereabouts.
 
 ghost use Rattle.std.specs.Prelude.{◌≡◌, ℕ, List, map};
 ghost use Rattle.raft_log_model_laws.specs.Groups.{taken, Map};
@@ -45,8 +45,8 @@ pub fn map_is_what_was_taken<E, V>()
         × ((g : ℕ) (s : Slot) → v.map g s ≡ taken nothing_stands (history events).synced g s) }
 {}
 
-/// If a group has no entries, its index in the whereabouts is free. It may become any index at any time, and the
-/// invariants hold.
+/// If a group has no entries, its index in the whereabouts is free. It may become any index up to 2^64 - 1 at any time,
+/// and the invariants hold.
 pub fn renumbered_sound<E, V>()
     ensures kept { (w : Machine E V) (next : ℕ → Whereabouts)
         → ((g : ℕ) → IsRenumbered (w.whereabouts g) (next g))

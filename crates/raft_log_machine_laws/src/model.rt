@@ -12,8 +12,8 @@ pub fn fresh_model_is_sound<E, V>()
     ensures { IsModelSound (fresh_model {E = E} {V = V}) }
 {}
 
-/// The `whereabouts` of a group without entries may begin at any index at any time. The model stays sound, and the
-/// view stays true.
+/// The `whereabouts` of a group without entries may begin at any index up to 2^64 - 1 at any time. The model stays
+/// sound, and the view stays true.
 pub fn renumbered_groups_are_sound<E, V>()
     ensures model { (f : Files E V) (m : Map E V) (whereabouts next : ℕ → Whereabouts)
         → ((g : ℕ) → IsRenumbered (whereabouts g) (next g))

@@ -33,7 +33,7 @@ pub fn what_speaks_goes_on<E, V>()
 {}
 
 /// If Append begins at the least file noted for it, or before it, the records that stay hold all that is stored in
-/// Append. Its first files may then leave the live range.
+/// Append. Nothing may be pending in it.
 pub fn noted_files_have_what_is_appended<E, V>()
     ensures { (f : Files E V) (m : Map E V) (whereabouts : ℕ → Whereabouts) (notes : Notes) (n : ℕ)
         (out stay : List (LogFile E V)) → IsModelSound (running f m whereabouts) → f.append.pending ≡ []
@@ -42,8 +42,8 @@ pub fn noted_files_have_what_is_appended<E, V>()
         → (g : ℕ) → HasAppended (whereabouts g) (appended g (records_of stay ++ f.append.synced)) }
 {}
 
-/// Suppose Rewrite begins at the least file noted for it, or before that. Then what counts of the records that stay
-/// holds all that is stored there, atomic groups too.
+/// Suppose Rewrite begins at the least file noted for it, or before that, and nothing is pending in either queue. Then
+/// what counts of the records that stay holds all that is stored there, atomic groups too.
 pub fn noted_files_have_what_is_rewritten<E, V>()
     ensures { (f : Files E V) (m : Map E V) (whereabouts : ℕ → Whereabouts) (notes : Notes) (n : ℕ)
         (out stay : List (LogFile E V)) → IsModelSound (running f m whereabouts) → f.append.pending ≡ []
@@ -52,8 +52,8 @@ pub fn noted_files_have_what_is_rewritten<E, V>()
         → (g : ℕ) → HasRewritten (m g) (whereabouts g) (rewritten g (records_of stay ++ f.rewrite.synced)) }
 {}
 
-/// The view stays true after either queue is raised to a file at or below the least noted one. For Append nothing may
-/// be pending in either queue and no tombstone owed; for Rewrite nothing may be pending.
+/// The view stays true after either queue is raised to a file at or below the least noted one. Nothing may be pending
+/// in either queue; for Append no tombstone may be owed either.
 pub fn raises_are_followed<E, V>()
     ensures append { (v : View E V) (f : Files E V) (m : Map E V) (n : ℕ) (out stay : List (LogFile E V))
         → f.rewrite.pending ≡ [] → out ++ stay ≡ f.append.full → AllBelow n out

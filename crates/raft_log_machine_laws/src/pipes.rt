@@ -36,7 +36,8 @@ pub trait TiedFiles {
     ghost ties_allow: { (s : Self) (f : Files Self.Entry Self.Value) → ties s f → allows s f };
 }
 
-/// None of the definitions of a pipe's calls is empty: a pipe that is nothing but its files satisfies each.
+/// The definitions of a pipe's calls can be met: a pipe that is nothing but its files appends, truncates, rotates,
+/// fails, syncs and raises as they say.
 pub fn words_on_pipes_can_be_met<E, V>()
     ensures appends { (which : Which) (f : Files E V) (y : Record E V)
         → Appends IsExactly which y (queue_at which f).last f

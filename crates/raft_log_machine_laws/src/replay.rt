@@ -1,5 +1,5 @@
-//! What a reading requires in addition to the meaning: no run leaves a hole in either queue, and atomic groups are
-//! whole. A recovery can thus read whatever a crash leaves.
+//! What a reading requires in addition to the meaning: no run leaves a hole in either queue, and no other record comes
+//! between those of an atomic group. A recovery can thus read whatever a crash leaves.
 
 ghost use Rattle.std.specs.Prelude.{ℕ, ◌+◌, length, List, ◌∷◌, ◌++◌};
 ghost use Rattle.raft_log_model_laws.specs.Item.Item.{Run};
@@ -20,8 +20,8 @@ pub fn each_step_replays<E, V>()
     ensures { (e : Event E V) (w v : Machine E V) → Step e w v → IsKept w → IsReplayable w → IsReplayable v }
 {}
 
-/// If the invariants hold, each start of each queue can be read, with each prefix of its unsynced records: no hole in
-/// Append, none in Rewrite, and no broken atomic group.
+/// If the invariants hold, each queue can be read from each start, with each prefix of its unsynced records. There is
+/// no hole in either queue, and no other record comes between those of an atomic group.
 pub fn kept_machine_replays<E, V>()
     ensures { (w : Machine E V) → IsKept w → IsReplayable w → ReadsThrough w.store }
 {}

@@ -14,7 +14,8 @@ ghost use Rattle.raft_log_machine_laws.specs.Tables.{CarriesTo, EndsGroupTo};
 
 use crate::pipes::TiedFiles;
 
-/// A sync of Rewrite changes nothing, and neither does a record that fails there.
+/// A sync of Rewrite keeps the map and the pending batches, and so does a record that isn't written there. If no batch
+/// is pending, the log is settled after the sync.
 pub fn refused_record_of_rewrite_changes_nothing<P: TiedFiles>()
     ensures sync { (s t : P) (v : View P.Entry P.Value) (m : Map P.Entry P.Value)
         (pending : List (Record P.Entry P.Value)) → IsAt (P.ties s) v m pending
@@ -29,7 +30,8 @@ pub fn refused_record_of_rewrite_changes_nothing<P: TiedFiles>()
         → LeavesOut P.ties InRewrite s t → IsAt (P.ties t) v m pending }
 {}
 
-/// Tombstones, copies and restated records keep the map, whether the record is certainly there or may be.
+/// Tombstones, copies and restated records keep the map, if no batch is pending. This holds whether the record is
+/// written or the pipe fails.
 pub fn carried_record_keeps_the_map<P: TiedFiles>()
     ensures answered { (s t : P) (v : View P.Entry P.Value) (m : Map P.Entry P.Value)
         (u : View P.Entry P.Value) (xs : List (Tagged P.Entry P.Value)) (n : ℕ)
@@ -41,7 +43,8 @@ pub fn carried_record_keeps_the_map<P: TiedFiles>()
         → IsAt (P.ties s) v m [] → IsLog (P.allows t) m [] }
 {}
 
-/// The begin of an atomic group: the group is stored from that record's file on.
+/// The begin of an atomic group keeps the map and the pending batches, even if the pipe fails. If it is written, the
+/// group's records are in files from that record's file on.
 pub fn begun_group_keeps_the_map<P: TiedFiles>()
     ensures answered { (s t : P) (v : View P.Entry P.Value) (m : Map P.Entry P.Value)
         (pending : List (Record P.Entry P.Value)) → IsAt (P.ties s) v m pending
@@ -54,8 +57,8 @@ pub fn begun_group_keeps_the_map<P: TiedFiles>()
         → MayAppend P.ties P.allows InRewrite (Part (Begin n) xs) s t → IsLog (P.allows t) m pending }
 {}
 
-/// A middle of an atomic group, rotations between its records, and a group that is given up: nothing of the group
-/// counts.
+/// A middle of an atomic group, rotations between its records, and a group that is given up keep the map and the
+/// pending batches. Nothing of the group counts yet.
 pub fn unended_group_keeps_the_map<P: TiedFiles>()
     ensures answered { (s t : P) (v : View P.Entry P.Value) (m : Map P.Entry P.Value) (from n : ℕ)
         (first : List (Tagged P.Entry P.Value)) (more : List (List (Tagged P.Entry P.Value)))
@@ -79,7 +82,8 @@ pub fn unended_group_keeps_the_map<P: TiedFiles>()
         → IsAt (P.ties s) v m pending }
 {}
 
-/// The end of an atomic group: the whole group counts at once, and the map stays.
+/// The end of an atomic group, if no batch is pending: the whole group counts at once, and the map stays. The map also
+/// stays if the pipe fails.
 pub fn ended_group_keeps_the_map<P: TiedFiles>()
     ensures answered { (s t : P) (v : View P.Entry P.Value) (m : Map P.Entry P.Value) (from n : ℕ)
         (first : List (Tagged P.Entry P.Value)) (more : List (List (Tagged P.Entry P.Value)))
@@ -93,7 +97,8 @@ pub fn ended_group_keeps_the_map<P: TiedFiles>()
         → IsInGroup (P.ties s) v m [] from n first more → IsLog (P.allows t) m [] }
 {}
 
-/// Once nothing is pending, Rewrite may begin at the least file noted for it, or before it. The map stays.
+/// Once nothing is pending in either queue, Rewrite may begin at the least file noted for it, or before it. The map
+/// stays, even if the pipe fails.
 pub fn raised_rewrite_keeps_the_map<P: TiedFiles>()
     ensures answered { (s t : P) (v : View P.Entry P.Value) (m : Map P.Entry P.Value) (n : ℕ)
         → IsSettled (P.ties s) v m → Raises P.ties P.ties InRewrite n s t

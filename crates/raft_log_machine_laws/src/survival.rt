@@ -1,6 +1,6 @@
-//! What two queues of records hold, and that each step keeps it. `HoldsMap q m` says: from every start at which a
-//! recovery may begin, and with every prefix of Rewrite's unsynced records, the synced records of Append mean the map
-//! m.
+//! What two queues of records hold, and that each step keeps it. `HoldsMap q m`: a recovery that reads Append's synced
+//! records, but no pending ones, gets the map `m`. This is so from every start in both queues, and for every prefix of
+//! Rewrite's unsynced records.
 
 ghost use Rattle.std.specs.Prelude.{◌≡◌, ℕ, List, [], ◌∷◌, ◌++◌};
 ghost use Rattle.raft_log_model_laws.specs.Groups.{appended, of_group, rewritten, taken, Map};
@@ -38,8 +38,8 @@ pub fn rewrite_syncs<E, V>()
     ensures { (q : Store E V) (m : Map E V) → HoldsMap q m → HoldsMap (with_rewrite q (synced q.rewrite)) m }
 {}
 
-/// Rewrite may take a record if, from each start, it makes only harmless words count: restated content, or words that
-/// Append's synced records override.
+/// Rewrite may take a record if, from each start, it makes only harmless items count: they restate content, or Append's
+/// synced records override them.
 pub fn rewrite_takes<E, V>()
     ensures { (q : Store E V) (m : Map E V) (y : Record E V) → MayRewrite q m y → HoldsMap q m
         → HoldsMap (with_rewrite q (takes q.rewrite y)) m }
@@ -82,8 +82,8 @@ pub fn directory_reopens<E, V>()
 {}
 
 /// How an engine shows what the records that stay in Rewrite say. If a plain record that stays, or an atomic group that
-/// stays from its BEGIN on, touches a slot, then what stays touches it. What stays then says of the slot what the whole
-/// live range said.
+/// stays from its BEGIN on, touches a slot, then what stays touches it. If the records are unbroken, what stays then
+/// says of the slot what the whole live range said.
 pub fn what_stays_in_rewrite_says<E, V>()
     ensures plain { (g : ℕ) (s : Slot) (xs zs : List (Record E V)) (ys : List (Tagged E V))
         → IsSpoken (says s (of_group g ys)) → IsSpoken (says s (rewritten g (xs ++ Plain ys ∷ zs))) }

@@ -38,7 +38,8 @@ pub fn unended_group_is_followed<E, V>()
         → Stands v (with_rewrite f f.rewrite_from (grown f.rewrite (Part (Middle n) xs))) m pending }
 {}
 
-/// At its end an atomic group counts as one record would. What it puts into Rewrite is noted in the file of its begin.
+/// At its end an atomic group counts as one record would, if no batch is pending. What it puts into Rewrite is noted in
+/// the file of its begin.
 pub fn ended_group_is_followed<E, V>()
     ensures { (v u : View E V) (f : Files E V) (m : Map E V) (from n : ℕ) (first : List (Tagged E V))
         (more : List (List (Tagged E V))) (xs : List (Tagged E V))

@@ -38,7 +38,7 @@ use std::alloc::{AllocError, Global};
 pub struct GroupTable {
     /// The table.
     pub(crate) table: MemTable,
-    /// Whether an item of the group came after its last Clean.
+    /// Whether the group has had items, and the last one wasn't a Clean.
     pub(crate) counts: bool,
     ghost bare: { counts ≡ false → HasNothing (shown table) },
 }
@@ -70,7 +70,8 @@ impl GroupTable {
         &self.table
     }
 
-    /// Makes room for an item that is to be written. Whether it succeeds or fails, `shown` stays.
+    /// Makes room for an item that is to be written. Fails with `Hole` if its run leaves a hole or ends past 2^64 - 1,
+    /// otherwise with `Memory`; then the promise stays. Whether it succeeds or fails, `shown` stays.
     pub(crate) fn prepare(&mut self, content: &LogItemContent) -> Result<()>
         ensures shows { shown self.new.table ≡ shown self.old.table }
         ensures counts { self.new.counts ≡ self.old.counts }
@@ -99,7 +100,8 @@ impl GroupTable {
         }
     }
 
-    /// Makes room to move the entries of an item to Rewrite. Whether it succeeds or fails, `shown` stays.
+    /// Makes room to move the entries of an item to Rewrite. Whether it succeeds or fails, `shown` stays. If it fails,
+    /// the promise stays too.
     pub(crate) fn prepare_rewrite(&mut self, content: &LogItemContent) -> Result<(), AllocError>
         ensures shows { shown self.new.table ≡ shown self.old.table }
         ensures counts { self.new.counts ≡ self.old.counts }
@@ -150,8 +152,9 @@ impl GroupTable {
         }
     }
 
-    /// Applies an item that was read in a file of a queue. Fails with `Hole` if its run would leave one in Append, or
-    /// with `Memory`. If it fails, nothing changes, except that nothing is promised any more.
+    /// Applies an item that was read in a file of a queue. Fails with `Hole` only if, in Append, its run leaves a hole
+    /// or ends past 2^64 - 1; otherwise with `Memory`. If it fails, what was read stays. Either way, nothing is
+    /// promised for Append any more.
     pub(crate) fn replay(
         &mut self,
         alloc: Global,
@@ -191,8 +194,8 @@ impl GroupTable {
         Ok(())
     }
 
-    /// Joins a table that was read from the next segment. If it fails, nothing changes, except that nothing is promised
-    /// any more.
+    /// Joins a table that was read from the next segment. Fails with `Hole` only if its entries leave a hole, otherwise
+    /// with `Memory`. If it fails, what was read stays. Either way, nothing is promised for Append any more.
     pub(crate) fn join(&mut self, newer: GroupTable) -> Result<()>
         ensures ok { OnOk result
             (replay_of self.new.table ≡ joined (replay_of self.old.table) (replay_of newer.table)) }
@@ -213,7 +216,7 @@ impl GroupTable {
     }
 
     /// Puts a table that was read from all of Append over this one, which was read from all of Rewrite. If it fails,
-    /// nothing changes, except that nothing is promised any more.
+    /// `shown` stays. Either way, nothing is promised for Append any more.
     pub(crate) fn merge(&mut self, append: GroupTable) -> Result<(), AllocError>
         ensures ok { OnOk result
             (shown self.new.table ≡ merged (shown self.old.table) (replay_of append.table)) }
@@ -230,7 +233,7 @@ impl GroupTable {
         Ok(())
     }
 
-    /// Joins this table to one without anything before it.
+    /// Joins this table to an empty one before it.
     pub(crate) fn follow_nothing(&mut self)
         ensures read { replay_of self.new.table ≡ joined nothing_replayed (replay_of self.old.table) }
         ensures counts { self.new.counts ≡ self.old.counts }
@@ -306,8 +309,8 @@ impl GroupTable {
         self.table.note_read_group(files);
     }
 
-    /// Notes that an item was written to this file of Rewrite. The room for it was prepared. What is still there and
-    /// what the gate lets move is in that file from now on.
+    /// Applies an item that was prepared, and then written to this file of Rewrite. Entries and values that are still
+    /// there, and that the gate lets move, are in that file from now on.
     pub(crate) fn rewrite(&mut self, content: &LogItemContent, gate: Option<FileSeq>, file: FileSeq)
         requires { count_of (meaning place_of content.now) ≤ (promise self.old.table).moves }
         ensures shows { shown self.new.table

@@ -100,7 +100,7 @@ pub fn owed_marks_carry<E>()
         → CarriesAll m (whereabouts v) (map (renamed f) xs) (whereabouts (unmarked v)) }
 {}
 
-/// A group that doesn't count has no entries and no values: no item of it came after its last Clean.
+/// A group that doesn't count has no entries and no values. It has had no items, or the last one was a Clean.
 pub fn nothing_stands_uncounted()
     ensures { (m : MemTables) (g : ℕ) → counts m g ≡ false → HasNothing (shown_of m g) }
 {}

@@ -49,8 +49,8 @@ use std::collections::BTreeMap;
 
 /// The memtables of all groups.
 ///
-/// All memory for a batch is allocated in `prepare`, before the write, which doesn't change what the tables show.
-/// `apply_append_writes` comes after the write, and can't fail.
+/// `prepare` allocates all memory for a batch before it is written, and changes nothing of what the tables show.
+/// `apply_append_writes` follows the write, and can't fail.
 #[derive(Drop)]
 pub struct MemTables {
     alloc: Global,
@@ -85,9 +85,10 @@ impl MemTables {
 
     /// Makes room for a batch that is to be written to Append: for all of it, or for none.
     ///
-    /// Fails with `Hole` if the entries of a group would start past the index after the last, or with `Memory`. Whether
-    /// it succeeds or fails, the tables show the same, and what was promised to other groups stays. If it fails,
-    /// nothing is prepared.
+    /// Nothing may be prepared for Append yet. Fails with `Hole` only if entries of a group leave a hole or end past
+    /// 2^64 - 1, otherwise with `Memory`. Whether it succeeds or fails, the tables show the same, and what was promised
+    /// to other groups stays. If it fails, all that was promised to the batch's groups is taken back, even by earlier
+    /// calls.
     pub fn prepare(&mut self, items: &[LogItem]) -> Result<()>
         requires { IsAtRest self.old }
         ensures shows { ShowsSame self.old self.new }
@@ -105,7 +106,8 @@ impl MemTables {
         prepared
     }
 
-    /// Takes back what was prepared for a batch that isn't written. The tables show the same.
+    /// Takes back all that was promised to the groups of a batch that isn't written, for Append and for Rewrite. The
+    /// tables show the same.
     pub fn take_back(&mut self, items: &[LogItem])
         ensures shows { ShowsSame self.old self.new }
         ensures rest { (g : ℕ) → mentions g items.now ≡ true
@@ -140,7 +142,7 @@ impl MemTables {
         }
     }
 
-    /// Applies an item that was prepared and is in this file of Append. A mark says nothing.
+    /// Applies an item that was prepared and is in this file of Append. A mark changes nothing.
     fn apply_unless_mark(&mut self, item: LogItem, file: FileSeq)
         requires table { has_mark_key item ≡ false → has_table self.old item.raft_group_id ≡ true }
         requires room { has_mark_key item ≡ false → CanTake (shown_of self.old item.raft_group_id)
@@ -217,7 +219,7 @@ impl MemTables {
     }
 }
 
-/// Whether an item is a mark of an atomic group: then it says nothing of a raft group.
+/// Whether an item is a mark of an atomic group, even a broken one.
 fn is_mark(item: &LogItem) -> bool
     ensures { result ≡ has_mark_key item.now }
 {

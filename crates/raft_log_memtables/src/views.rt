@@ -8,8 +8,8 @@ ghost use Rattle.raft_log_record_frames.specs.Meaning.{tagged_items};
 ghost use Rattle.raft_log_extents.specs.Entries.{place_of};
 ghost use Rattle.raft_log_memtables.specs.Views.{BatchGrowsTheView, CopiesCarryTheView, GroupEndsTheView, LieIn, MarksCarryTheView};
 
-/// A batch that was written to a file of Append, and that the tables apply, is a step of the view: what the tables
-/// promised before the write is what the log's directory requires.
+/// A batch that was written to a file of Append, and that the tables apply, is a step of the view. Its runs must leave
+/// no hole and no index too high, as `prepare` ensures, and its entries must be in that file.
 pub fn batch_grows_the_view<E>()
     ensures { BatchGrowsTheView E }
 {}

@@ -3,7 +3,7 @@
 ghost use Rattle.raft_log_open.specs.Laws.{FilesReadTheSame, RecordsReadTheSame, WrittenFilesReadTheSame};
 
 /// The new bytes of a file hold exactly its records, byte for byte and in order. There is damage after them exactly if
-/// there was before. A dump and a check find what they found before.
+/// there was before.
 pub fn records_read_the_same()
     ensures { RecordsReadTheSame }
 {}
@@ -14,7 +14,7 @@ pub fn files_read_the_same()
     ensures { FilesReadTheSame }
 {}
 
-/// For each file that was written anew, an open reads under its path what it read there before.
+/// For each file that was written anew, an open reads under its path what it read there before, at other places.
 pub fn written_files_read_the_same()
     ensures { WrittenFilesReadTheSame }
 {}

@@ -45,13 +45,13 @@ pub struct OpenedLog<F> {
 ///
 /// # Errors
 ///
-/// - `Io(Other)` if the file system has stopped. This is checked first, so that a stop never shows as `Memory`.
+/// - `Io(Other)` if the file system has stopped. This is checked first, so `Memory` is never returned then.
 /// - `Other` if the settings have a fault.
 /// - The errors of scanning with `DualPipesBuilder`: `Other`, `Corruption`, `Io` for a directory.
 /// - `Io` if a file can't be read; `Corruption` or `Codec` for damage that isn't tolerated.
 /// - `Corruption` for a foreign record, in every mode: it is whole, but has a compression that isn't read.
-/// - `Hole` or `Corruption` for records that can't be.
-/// - `Io` if a file isn't truncated, written anew, created or synced.
+/// - `Hole` or `Corruption` for a record that the replay rejects.
+/// - `Io` if a call fails that truncates, writes, creates, renames, deletes or syncs a file.
 /// - `NumberRange` if there is no name for a file.
 /// - `Memory`.
 pub fn open_directory<R: Threads + Log + Sync, F: FileSystem + Sync>(

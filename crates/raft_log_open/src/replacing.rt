@@ -6,9 +6,9 @@ ghost use Rattle.raft_log_open.specs.Replacing.{FailsToMake, FailsToReplace, Mak
 use raft_log_fs::FileSystem;
 use std::io::ErrorKind;
 
-/// Writes these bytes into a new file under the temporary path, syncs it, and renames it over `path`. If it fails,
-/// `path` has the old file unchanged, or the whole new one. The temporary path may then have the new file, in part or
-/// whole.
+/// Writes these bytes into a new file under the temporary path, syncs it, and renames it over `path`. The two paths
+/// must differ. If it fails, `path` is as before, or has the whole new file. The temporary path may then have the new
+/// file, in part or whole.
 pub fn replace<F: FileSystem>(
     file_system: &mut F,
     temporary: &str,

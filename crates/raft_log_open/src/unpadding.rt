@@ -18,9 +18,8 @@ use raft_log_recovery_read::ListedFile;
 use std::alloc::Global;
 use std::io::ErrorKind;
 
-/// Removes the padding from a log that nobody has open, so that every open can read it. Each file of either queue that
-/// has an alignment is written anew; all others stay unchanged. Returns the files written anew: those of Rewrite first,
-/// each queue's by number.
+/// Removes the padding from a log that nobody has open. Each file of either queue that has an alignment is written
+/// anew; all others stay unchanged. Returns the files written anew: those of Rewrite first, each queue's by number.
 ///
 /// A file written anew has a header without an alignment, then its records byte for byte without gaps. Damage is
 /// kept: after the last good record the file's bytes are unchanged. An open finds the damage as before, and truncates
@@ -34,7 +33,7 @@ use std::io::ErrorKind;
 /// Holds the bytes of one file in memory twice.
 ///
 /// # Errors
-/// - `Io(Other)` if the file system has stopped. This is checked first, so that a stop never shows as `Memory`.
+/// - `Io(Other)` if the file system has stopped. This is checked first, so `Memory` is never returned then.
 /// - `Io` if a directory of the log doesn't exist. Nothing changed.
 /// - `Corruption` if a name in a directory begins with a number and has more before its end. Nothing changed.
 /// - `Corruption` if a foreign record follows a file's last good one: whole, but with a compression that isn't read.

@@ -19,9 +19,9 @@ use raft_log_record_frames::{AtomicGroupStatus, Marking};
 use raft_log_record_items::LogItem;
 use std::alloc::Global;
 
-/// The state of a worker that reads one segment of a queue: the tables of all groups, and the pieces of atomic groups
-/// that the segment's two ends cut. If a call fails, the recovery is given up: nothing is promised of the context then,
-/// so it may only be dropped.
+/// The state of a worker that reads one segment of a queue. It has the tables of all groups, and the pieces of atomic
+/// groups that the segment's two ends cut. If a call fails, drop the context: no clause then says which records it has
+/// read.
 #[derive(Drop)]
 pub struct MemTableRecoverContext {
     alloc: Global,
@@ -64,8 +64,9 @@ impl MemTableRecoverContext {
     /// Applies the items of a batch that was read in a file. In Append all count at once; in Rewrite those of an atomic
     /// group count at its end.
     ///
-    /// Fails with `Hole` if a run in Append starts past the index after the last of its group. Fails with `Corruption`
-    /// if a batch of Rewrite has a broken mark or two marks. Fails with `Memory` if memory runs out.
+    /// Fails with `Hole` only if a run in Append leaves a hole in its group or ends past 2^64 - 1. Fails with
+    /// `Corruption` only if a batch of Rewrite has a broken mark or two marks. Otherwise it fails with `Memory`. If it
+    /// fails in Append, a prefix of the items is applied.
     pub fn replay(&mut self, items: Vec<LogItem>, file: FileId) -> Result<()>
         ensures ok { OnOk result (ContextReadsOn file items.items self.old self.new) }
         ensures fits { OnOk result (LeavesNoHole file items.items self.old) }
@@ -137,8 +138,8 @@ impl MemTableRecoverContext {
     /// Merges the context of the next segment of the same queue into this one. Atomic groups that this completes are
     /// applied between the two.
     ///
-    /// Fails with `Hole` if the entries of a group, in Append, start past the end of those that it leaves, or with
-    /// `Memory`.
+    /// Fails with `Hole` only if the records of both segments, one after the other, aren't in order (`AreOrderly`), as
+    /// when a run leaves a hole. Otherwise it fails with `Memory`.
     pub fn merge(&mut self, later: MemTableRecoverContext, queue: LogQueue) -> Result<()>
         ensures ok { OnOk result (MergesInto queue self.old later self.new) }
         ensures fits { OnOk result (JoinsOn later self.new) }

@@ -22,7 +22,8 @@ ghost use Rattle.raft_log_replay_context.specs.Context.{meant_by, ComesOver, Has
 use raft_log_replay::ReplaySource;
 
 /// Tables of all of Append, put over those of all of Rewrite, are the directory's. The bytes at the places of each
-/// group are what the directory means, and an open may derive the `whereabouts` and the owed tombstones from them.
+/// group are what the directory means, and an open may derive the `whereabouts` and the owed tombstones from them. The
+/// records must be sound for the group (`IsSoundFor`).
 pub fn merged_tables_are_recovered<E>()
     ensures means { (at : Located → E) (rewrite append : List ReadRecord) (m : MemTables)
         → ComesOver rewrite append m → (g : ℕ) → IsSoundFor at rewrite append g
@@ -39,9 +40,9 @@ pub fn append_counts_at_once()
         → counted g rs ≡ appended g (records_of rs) }
 {}
 
-/// Any two numbers of workers make tables that show the same. If each segment holds one list of batches, two readings
-/// of all segments have read the same records, and the segments' endings are the same. If the records are in order, the
-/// readings hold the same entries and values of each group, in the same places and files.
+/// Suppose each segment holds one list of batches. Two readings of all segments, with any numbers of workers, have then
+/// read the same records, with the same endings of segments. If the records are in order, both hold the same entries
+/// and values of each group, in the same places and files, and the same groups count.
 pub fn workers_show_the_same<S: ReplaySource>()
     ensures { (source : S) → HoldsOne (S.holds source) → (count : ℕ) (m n : MemTableRecoverContext)
         (es fs : List S.Ending)
@@ -50,9 +51,9 @@ pub fn workers_show_the_same<S: ReplaySource>()
         → HaveReadAlike (S.queue_of source) m n × (es ≡ fs) }
 {}
 
-/// The view that an open gets from its tables is built from what it read. Its map is the directory's, its `whereabouts`
-/// are ones that a recovery may find, and for each thing the file that stores it is noted; in Rewrite, the file from
-/// which on it counts.
+/// The view that an open gets from its tables (`AreTablesOf`) is built from what it read. Its map is the directory's,
+/// and its `whereabouts` are ones that a recovery may find. For each slot in Append, the file that stores its content
+/// is noted; in Rewrite, a file from which on it counts.
 pub fn opened_view_is_made_of_what_was_read<E>()
     ensures { (at : Located → E) (rewrite append : List ReadRecord) (m : MemTables) (f : Files E (List ℕ))
         → AreTablesOf at rewrite append m f

@@ -29,8 +29,8 @@ use std::alloc::{AllocError, Global};
 use std::collections::BTreeMap;
 use std::mem;
 
-/// The pieces of atomic groups that the two ends of a segment cut: what the segment does with each group that is open
-/// before it, by its number; and the groups that it leaves open, in the order of their begins.
+/// The pieces of atomic groups that the two ends of a segment cut. They are what the segment does with each group that
+/// is open before it, by its number, and the groups that it leaves open, in the order of their begins.
 #[derive(Drop)]
 pub(crate) struct GroupPieces {
     alloc: Global,
@@ -105,8 +105,8 @@ impl GroupPieces {
         Ok(done)
     }
 
-    /// Continues the open groups in the next segment, which does this with them. Returns those that it ends, in the
-    /// order of their begins.
+    /// Continues the open groups in the next segment; `heads` has what it does with each. Returns those that it ends,
+    /// in the order of their begins.
     fn carry_on(
         &mut self,
         heads: &mut BTreeMap<u64, GroupHead>,
@@ -126,7 +126,7 @@ impl GroupPieces {
         Ok(done)
     }
 
-    /// Continues an open group in the next segment, which does this with it.
+    /// Continues an open group in the next segment; `head` is what it does with the group.
     fn pass(
         &mut self,
         group: OpenGroup,

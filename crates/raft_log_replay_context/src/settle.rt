@@ -45,9 +45,8 @@ pub(crate) fn settle_whole(
     }
 }
 
-/// Applies the records of an atomic group: their items go into the tables. In the table of each of their raft groups it
-/// also notes the files of the atomic group, from the first record's to the last's. Files that were noted before stay
-/// noted.
+/// Applies the items of an atomic group's records to the tables. In the table of each of their raft groups it also
+/// notes the files of the atomic group, from the lowest to the highest. Files that were noted before stay noted.
 fn settle(alloc: Global, tables: &mut MemTables, parts: Vec<GroupPart>) -> Result<()>
     ensures ok { OnOk result (SettlesGroup parts.items tables.old tables.new) }
     ensures errors { IfErr result (λ e. e ≡ Memory) }

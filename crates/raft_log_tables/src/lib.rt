@@ -1,5 +1,5 @@
-//! The memtables of a log, in one name: where each group's entries and values are stored, the tables of all groups, and
-//! how workers rebuild them from segments.
+//! The memtables of a log under one name: where each group's entries and values are stored, the tables of all groups,
+//! and how workers rebuild them from segments.
 //!
 //! This crate only re-exports; the page of each part says what its calls promise.
 #![tactic(auto)]

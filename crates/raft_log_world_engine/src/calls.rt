@@ -107,7 +107,7 @@ pub fn compact<L: Log, P: PipeLog>(
     }
 }
 
-/// Collects garbage.
+/// Makes a purge of this kind.
 pub fn purge<L: Log, P: PipeLog>(rt: &L, engine: &mut LogEngine<P>, kind: Purge) -> Answer
     ensures { ServesAs (shows_of P.shown engine.old) (Call.Purge kind) result
         (shows_of P.shown engine.new) }
@@ -134,7 +134,7 @@ fn purge_expired<L: Log, P: PipeLog>(rt: &L, engine: &mut LogEngine<P>) -> Answe
     }
 }
 
-/// Deletes all files that nothing in use is in.
+/// Deletes the files in which nothing is in use.
 fn purge_stale<L: Log, P: PipeLog>(rt: &L, engine: &mut LogEngine<P>) -> Answer
     ensures { ServesAs (shows_of P.shown engine.old) (Call.Purge Purge.Stale) result
         (shows_of P.shown engine.new) }

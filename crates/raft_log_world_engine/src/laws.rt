@@ -25,7 +25,8 @@ pub fn opens_follow_the_model<F: FileSystem, C>()
 }
 
 /// If a copy of a log's files succeeds or fails, as `fork` says, the model gives this answer too. The copy, or the
-/// files, are the log that the model becomes. The premise is that of an open, and a clear target.
+/// files, are the log that the model becomes. The premise is that of an open. For a copy that succeeds, no directory in
+/// the target may have had the name of a log file.
 pub fn copies_follow_the_model<F: FileSystem, C>()
     ensures { CopiesFollowTheModel C F.disk }
 {

@@ -1,5 +1,5 @@
-//! The engine of a log, over the file system in memory, as a log of `raft_log_world`: what it answers, what a crash
-//! leaves of it, and what an open finds of that.
+//! The engine of a log, over the file system in memory, as a log of `raft_log_world`. That is what its calls return,
+//! what a crash leaves of it, and what an open finds of that.
 #![tactic(auto)]
 
 mod calls;

@@ -41,7 +41,7 @@ fn in_memory(max: Option<u64>) -> Option<usize>
     }
 }
 
-/// The answer of a read that found these entries. It fails if there is no memory for them.
+/// The answer of a read that found these entries. It is `Refused` if there is no memory for them.
 fn told_entries(alloc: Global, messages: &[RawMessage]) -> Answer
     ensures { HasCopied (map (λ m. m.bytes) messages.now) result }
 {
@@ -100,7 +100,7 @@ fn pairs_within<P: PipeLog>(
     }
 }
 
-/// The answer of a read that found these keys and values. It fails if there is no memory for them.
+/// The answer of a read that found these keys and values. It is `Refused` if there is no memory for them.
 fn told_keys(alloc: Global, pairs: &[(Bytes, Bytes)]) -> Answer
     ensures { HasCopiedKeys pairs.now result }
 {

@@ -13,14 +13,15 @@ ghost use Rattle.raft_voter_group_laws.specs.Laws.{HasOneVoter};
 ghost use Rattle.raft_voter_group_laws.specs.Examples.{append_one, both_entries, matched_once, other_first, right_replies, two_lives, wrong_replies};
 
 /// Group 1 sees that its first Append matched. It sees nothing for its two Appends in the crash. A Read then returns
-/// two entries, since the round was cut between these Appends. Its last Append is refused.
+/// two entries, since the round was cut between these Appends. Its last Append is refused. Group 2 sees a vote that is
+/// granted, nothing in the crash, and then a vote that is denied.
 pub fn callers_see_two_lives()
     ensures first { replies_seen 1 (two_lives right_replies)
         ≡ Some (Matched 1) ∷ None ∷ None ∷ Some (Entries both_entries) ∷ Some Refused ∷ [] }
     ensures second { replies_seen 2 (two_lives right_replies) ≡ Some (Granted 3) ∷ None ∷ Some (Denied 4) ∷ [] }
 {}
 
-/// One voter shows the same to group 1. It takes the first two Appends and the Read.
+/// One voter shows the same to the callers of group 1. It takes the first two Appends and the Read.
 pub fn one_voter_lives_once()
     ensures first { one_voter_shows fresh (calls_of 1 (two_lives right_replies) (2 ∷ []))
         ≡ Some (Matched 1) ∷ None ∷ None ∷ Some (Entries both_entries) ∷ Some Refused ∷ [] }

@@ -1,4 +1,4 @@
-//! A proved caller: judges a transcript, and knows then what each group saw.
+//! A proved caller: judges a transcript, and so decides whether each group saw the replies of one voter.
 ghost use Rattle.std.specs.Prelude.{◌↔◌, ◌<◌, ℕ, IsTrue, IfOk, OnErr, length};
 ghost use Rattle.raft_voter_group_laws.specs.Laws.{HasOneVoter, PlacesFit};
 

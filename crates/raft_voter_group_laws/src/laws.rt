@@ -27,8 +27,9 @@ pub fn account_lists_taken_calls()
     ensures { AccountListsTakenCalls }
 {}
 
-/// A later Read of the group returns an entry that a matched Append brought, unless a request between them removed it.
-/// An Append with another term at or below its index, a Compact, an Install and a Retire may remove it.
+/// A later Read of its index returns an entry that a matched Append brought, unless a request between them removed it.
+/// An Append with another term at or below its index, a Compact, an Install and a Retire may remove it. If the voter
+/// had an entry of the same term there before the Append, the Read may return the bytes of that one.
 pub fn appended_entry_is_read()
     ensures { AppendedEntryIsRead }
 {

@@ -1,5 +1,5 @@
 //! The rules of a Raft voter, and an outline that decides by them. An outline is the voter's state and the terms of its
-//! log, without the entries.
+//! entries, without their bytes.
 //!
 //! `specs/Rules.antt` defines, case by case, a voter's reply and next state. An `Outline` decides both before anything
 //! is written. `decide` returns the reply and the change, and `reserve` makes room for the change. `apply` makes the

@@ -20,7 +20,8 @@ use std::marker::Model;
 use term_runs::TermRuns;
 
 /// A voter without its entries: its state, and the terms of its log as runs of equal terms. It decides the voter's
-/// reply and next state. Contracts see it as a `State` whose entries have no bytes.
+/// reply and next state. Contracts see it as a `State` whose entries have no bytes, and the room for more runs
+/// (`Outlined`).
 #[derive(Debug, Drop)]
 pub struct Outline {
     alloc: Global,
@@ -117,7 +118,7 @@ impl Outline {
         }
     }
 
-    /// Returns the term of the entry at an index, or of the base.
+    /// Returns the term of the entry at an index, or of the base. Returns `None` if the voter has neither there.
     pub fn term_at(&self, index: u64) -> Option<u64>
         ensures value { result ≡ term_at self.now.voter index }
     {

@@ -77,7 +77,7 @@ impl Outlines {
         }
     }
 
-    /// The term of the entry at an index in the group's voter, or of its base.
+    /// The term of the entry at an index in the group's voter, or of its base; `None` if it has neither there.
     pub fn term_at(&self, group: u64, index: u64) -> Option<u64>
         ensures { result ≡ term_at (outlines_in self.now group) index }
     {
@@ -87,7 +87,8 @@ impl Outlines {
         }
     }
 
-    /// The outline that is kept for a group's voter, to be changed: what is left there is that voter's outline.
+    /// Lends the outline that is kept for a group's voter, to be changed: what is left there is that voter's outline.
+    /// Returns `None` if none is kept.
     pub fn get_mut(&mut self, group: u64) -> Option<&mut Outline>
         ensures* lends { sem 𝓛 (LendsOutline self.entry group result) }
         ensures value { MatchOption result (kept_of self.old group ≡ None)

@@ -8,7 +8,7 @@ use raft_voter_rounds::{Opening, Receipt, Statement};
 use std::alloc::Global;
 use std::collections::BTreeMap;
 
-/// Returns true only if no receipt from the first place on contradicts another one. So many records are kept from there
+/// Returns true only if no receipt from the first place on contradicts another one. `count` records are kept from there
 /// on. Looks at each receipt and at each place once. Returns false if memory runs out.
 pub fn are_apart<L: Opening>(
     alloc: Global,
@@ -44,8 +44,8 @@ fn noted_turns<L: Opening>(
     Some(turns)
 }
 
-/// Notes the seat and the turn of a receipt at its place, unless this is before the first one. Returns false if there are
-/// others, or no such place.
+/// Notes the seat and the turn of a receipt at its place, unless this is before the first one. Returns false if the
+/// place has a seat already, or there is no such place.
 fn note_turn(first: usize, turns: &mut Vec<Option<(u64, u64)>>, receipt: &Statement) -> bool
     ensures before { receipt.now.place < first → turns.new.items ≡ turns.old.items }
     ensures free { result ≡ true → first ≤ receipt.now.place

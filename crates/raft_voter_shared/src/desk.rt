@@ -214,7 +214,7 @@ impl<R, S: RoundService<R>, L: Opening> Desk<R, S, L> {
         fetch(&mut self.done, ticket)
     }
 
-    /// Hands the answers over to the hall, unless there is no memory there, and nobody leads any more.
+    /// Moves the answers into the hall, or keeps them if there is no memory there. Afterwards nobody leads.
     pub fn hand_over(&mut self, hall: &mut Hall<L>)
         ensures answers { hall.new.done.items ++ self.new.done.items ≡ hall.old.done.items ++ self.old.done.items }
         ensures same { (self.new.store ≡ self.old.store) × (self.new.journal ≡ self.old.journal) }
@@ -249,7 +249,7 @@ impl<R, S: RoundService<R>, L: Opening> Desk<R, S, L> {
     }
 
     /// Returns why these seats and receipts can't settle the store, which has a ledger of this many parts, or `None` if
-    /// they can. Checks the seats first, and receipts against the records that the journal keeps.
+    /// they can. The seats are checked first. Receipts are checked against the records that the journal keeps.
     pub fn fault(
         &self,
         parts: u64,

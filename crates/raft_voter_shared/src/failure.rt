@@ -9,7 +9,7 @@ use raft_voter::Cause;
 #[derive(Clone, Copy, Debug, PartialEq, Eq)]
 pub enum Failure {
     /// In rounds that it served together, and that were cut off as one round. Their records are at these places of the
-    /// journal. All their requests, in order, may have been taken up to some place.
+    /// journal. Their requests, except the refused ones, were taken up to some place.
     InRounds {
         /// The place of the first record, counted from 0.
         first: usize,
@@ -20,7 +20,8 @@ pub enum Failure {
     InPurge,
 }
 
-/// How a store failed, after the rounds from the first place up to the other were cut off together for this cause.
+/// Returns how a store has failed after rounds with these places were cut off together for this cause. For `FileSystem`
+/// it is `InRounds`; for another cause it is what was noted before.
 pub fn failure_behind(
     cause: Cause,
     first: usize,
@@ -35,7 +36,8 @@ pub fn failure_behind(
     }
 }
 
-/// How a store failed, after a purge. The flags say whether it had failed before and has failed after it.
+/// Returns how a store has failed after a purge: `InPurge` if it failed in the purge, otherwise what was noted before.
+/// The flags say whether it had failed before and has failed after it.
 pub fn failure_in_purge(before: bool, now: bool, failure: Option<Failure>) -> Option<Failure>
     ensures { result ≡ failure_in_purge before now failure }
 {

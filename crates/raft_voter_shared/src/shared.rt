@@ -45,8 +45,9 @@ impl<R, S: RoundService<R>, L: Opening> SharedStore<R, S, L> {
     ghost use Rattle.raft_voter_shared.specs.Receipts.{AllRight};
     ghost use Rattle.raft_voter_shared.specs.Settling.{AreTaken, IsCause, IsSettled};
 
-    /// Shares a store, and returns the first seat, which has all parts of the ledger. The store must serve the voters
-    /// that the opening names. No records are kept in memory: the history of the rounds exists in proofs alone.
+    /// Shares a store, and returns the first seat, which has all parts of the ledger; there must be at least one. The
+    /// store must serve the voters that the opening names. No records are kept in memory: the history of the rounds
+    /// exists in proofs alone.
     pub fn new(
         alloc: Global,
         store: S,
@@ -117,13 +118,14 @@ impl<R, S: RoundService<R>, L: Opening> SharedStore<R, S, L> {
         (shared, Seat::first(share, parts))
     }
 
-    /// Serves a round of a seat. The store may serve rounds of other seats with it, with one sync, as one round of at most
-    /// 4,096 requests. A longer round goes to the store alone, which cuts it off as `TooLong`. The round has a record
+    /// Serves a round of a seat. The store may serve rounds of other seats with it, with one sync, as one round of at
+    /// most 4,096 requests. The store gets a longer round alone, and cuts it off as `TooLong`. The round has a record
     /// of its own in the journal, and the receipt has its place there. The seat counts the record.
     ///
     /// Fails with `Cut` if the round was cut off, which is recorded; then each round that was served with it was, too.
-    /// Fails with `Memory` if there is no memory for the record, the receipt or the place in the queue; then nothing was
-    /// taken. If a read can't be copied for lack of memory, its reply is `Refused`.
+    /// Fails with `Memory` if there is no memory for the receipt, the queue, or the records of the rounds to serve with
+    /// it. Then nothing was taken, and nothing is recorded. If a read can't be copied for lack of memory, its reply is
+    /// `Refused`.
     pub fn serve(
         &self,
         rt: &R,
@@ -299,9 +301,9 @@ impl<R, S: RoundService<R>, L: Opening> SharedStore<R, S, L> {
         self.desk.lock(rt).none_taken(&self.history)
     }
 
-    /// Removes the records that the journal keeps and returns them, while threads serve. They follow those that were taken
-    /// before, and are added to these: then all records of the history were taken. If others were removed by another
-    /// `Taken`, nothing is removed.
+    /// Removes the records that the journal keeps and returns them, while threads serve. They are added to `taken`,
+    /// which then has all records of the history. If `taken` lacks records that the journal no longer keeps, nothing is
+    /// removed, and none are returned.
     pub fn take_journal(&self, rt: &R, taken: &mut Taken<L>) -> Vec<Round>
     where
         R: Wait,
@@ -316,8 +318,8 @@ impl<R, S: RoundService<R>, L: Opening> SharedStore<R, S, L> {
     /// shared, it is a legal history of them. It has as many records as the seats counted. Each receipt's record was kept
     /// at its own place.
     ///
-    /// Fails with `SeatCount` first, then with `Receipt` for the least place of a receipt that is wrong for the records that
-    /// were kept. The error returns all that the caller passed.
+    /// Fails with `SeatCount` if the seats lack parts of the ledger. Otherwise it fails with `Receipt` for the least
+    /// place of a receipt that is wrong for the records that were kept. The error returns all that the caller passed.
     pub fn settle(
         self,
         rt: &R,

@@ -51,7 +51,7 @@ impl<P: PipeLog> LogVoterStore<P> {
     ghost use Rattle.raft_voter_store.specs.Taking.{FailsToTake};
     ghost use Rattle.raft_voter_store.specs.Writing.{FailsToWriteChange, WritesChange};
 
-    /// A store over an engine with an empty log: each group's voter is fresh.
+    /// A store over an engine with an empty log: each group's voter is fresh. It isn't checked that the log is empty.
     pub fn over_fresh(alloc: Global, engine: LogEngine<P>) -> LogVoterStore<P>
         ensures engine { result.engine ≡ engine }
         ensures outlines { (g : ℕ) → outlines_in result.outlines g ≡ fresh }
@@ -66,7 +66,7 @@ impl<P: PipeLog> LogVoterStore<P> {
     }
 
     /// Serves one request of a group. The outline decides the request, and the store writes what the request changes,
-    /// or reads the entries that it asks for. Fails if the request is turned down, or the engine fails at it.
+    /// or reads the entries that it asks for. Fails if the request is rejected, or the engine fails at it.
     fn take<R: Log>(&mut self, rt: &R, group: u64, request: &Request) -> Result<Taken>
         requires { has_failed (shows_of P.shown self.old.engine) ≡ false }
         ensures ok { IfOk result (λ taken. Served (group, request.now) taken.reply taken.wrote

@@ -13,9 +13,10 @@ use std::collections::VecDeque;
 impl Runs {
     ghost use Rattle.raft_log_extents.specs.RunLists.{places};
 
-    /// Finds at most `limit` entries, from this position on, that follow one another in one run. Returns their block,
-    /// and where each of them starts and ends there. Nothing is copied. The run is looked for at the hint first; then
-    /// the hint is the next run, or the same if entries came alone after it.
+    /// Finds entries from this position on that follow one another in one block: at least one, and at most `limit`.
+    /// That many must be there. Returns their block, with 0 as offset and length of an entry, and where each of them
+    /// starts and ends there. Nothing is copied. The run is looked for at the hint first; then the hint is the next
+    /// run, or the same if entries came alone after it.
     pub fn bounds(&self, position: usize, limit: usize, hint: &mut usize) -> (Place, Bounds<'_>)
         requires within { position + limit ≤ length (places self.now) }
         requires some { 0 < limit }

@@ -16,8 +16,9 @@ use std::collections::VecDeque;
 impl Runs {
     ghost use Rattle.raft_log_extents.specs.RunLists.{places};
 
-    /// Adds the entries of `count` places from this position on. The vector must have room for them. They are in files
-    /// of this queue, and the first has this index. It takes one search, and time in these entries.
+    /// Adds the entries of `count` places from this position on. The places must be there, and the vector must have
+    /// room. The entries are in files of this queue, and the first has this index. Their indexes must be below
+    /// 2^64 - 1. After one search, the time is linear in `count`.
     pub fn copy_entries(
         &self,
         queue: LogQueue,
@@ -115,8 +116,9 @@ impl Runs {
         count
     }
 
-    /// Adds the first of `count` entries that are alone in their blocks, whose places are in the starts from this
-    /// position on, and returns how many: those up to where the deque wraps to the front of its buffer, at least one.
+    /// Adds the first of `count` entries that are alone in their blocks, and returns how many: at least one. Their
+    /// places are in the starts from this position on. It adds those up to where the deque wraps to the front of its
+    /// buffer.
     fn copy_alone(
         &self,
         from: usize,

@@ -14,7 +14,8 @@ use std::collections::VecDeque;
 impl Runs {
     ghost use Rattle.raft_log_extents.specs.RunLists.{places, HasRoom};
 
-    /// Replaces as many places, from this position on, with those of these entries.
+    /// Replaces as many places, from this position on, with those of these entries. The old places must be there, and
+    /// there must be room for twice as many entries.
     pub fn replace(&mut self, position: usize, entries: &[EntryIndex])
         requires within { position + length entries.now ≤ length (places self.old) }
         requires room { HasRoom self.old (length entries.now + length entries.now) }
@@ -36,8 +37,8 @@ impl Runs {
     /// Replaces as many places, from this position on, with those of these entries. The old places are the runs from
     /// `before` up to `end`.
     ///
-    /// It takes time in the old and the new runs, and moves the runs and starts on one side of them. If the number of
-    /// starts changes, it numbers the starts of the runs before them anew.
+    /// The time is linear in the old and the new runs, and in the runs and starts on one side of them, which move. If
+    /// the number of starts changes, the starts of runs are numbered anew.
     fn replace_runs(&mut self, position: usize, before: usize, end: usize, entries: &[EntryIndex])
         requires within { (before < end) × (end ≤ deque_len self.old.runs) }
         requires start { counts (take before self.old.runs.items) ≡ position }

@@ -1,5 +1,5 @@
-//! Calls that make a file longer. The device is asked first: if there is no room on it, the file stays as it was, the
-//! failure is counted, and the file system runs on.
+//! Calls that make a file longer, first on the device. If there is no room on it, the file keeps its bytes, the failure
+//! is counted, and the file system doesn't stop.
 use super::DirectoryFileSystem;
 use super::checks::stopping;
 use crate::device::{Attempt, Device};

@@ -23,7 +23,7 @@ impl<D: Device> DirectoryFileSystem<D> {
     ghost use Rattle.raft_log_fs_traced.specs.Space.{spaces_of, full_of, TellsFree};
 
     /// Sets how many bytes the files of a directory may have in all, replacing an earlier number. `free_space` returns
-    /// what is left of it; no call fails because of it. Fails only if memory runs out.
+    /// what is left of it; no call fails because of it. Fails only if memory runs out; then nothing changes.
     pub fn set_space(&mut self, directory: &str, bytes: u64) -> Result<(), AllocError>
         ensures same { disk_of D.Device self.new ≡ disk_of D.Device self.old }
         ensures ok { OnOk result (spaces_of D.Device self.new

@@ -26,8 +26,9 @@ use std::alloc::AllocError;
 impl MemTables {
     /// Joins tables that were read from the next segment of the same queue, group by group.
     ///
-    /// Fails with `Hole` if the entries of a group, in Append, start past the end of those that it leaves, or with
-    /// `Memory`. If it fails, some groups have both segments joined, and the others are unchanged.
+    /// Fails with `Hole` only if, in Append, the later entries of a group leave a hole after what remains of the
+    /// earlier ones; otherwise with `Memory`. If it fails, some groups have both segments joined, and the others are
+    /// unchanged.
     pub fn merge_newer_neighbor(&mut self, newer: MemTables) -> Result<()>
         ensures ok { OnOk result (JoinsAll self.old newer self.new) }
         ensures err { OnErr result (JoinsSome self.old newer self.new) }
@@ -58,8 +59,8 @@ impl MemTables {
         Ok(())
     }
 
-    /// Removes all owed tombstones of all groups: they were written to Rewrite and synced. Keys without a value lose
-    /// their room. A group's table is dropped if the group doesn't count, the table shows nothing, and nothing is
+    /// Removes all owed tombstones of all groups, once they are written to Rewrite and synced. Keys without a value
+    /// lose their room. A group's table is dropped if the group doesn't count, the table shows nothing, and nothing is
     /// promised to it.
     pub fn clear_marks(&mut self)
         ensures shows { (g : ℕ) → shown_of self.new g ≡ unmarked (shown_of self.old g) }
@@ -71,8 +72,8 @@ impl MemTables {
         self.groups.retain(|_, table| table.settle());
     }
 
-    /// Joins a table that was read from the next segment to that of its group. If it fails, nothing changes, except
-    /// that nothing is promised to the group any more.
+    /// Joins a table that was read from the next segment to that of its group. If it fails, what was read stays, but
+    /// nothing is promised to the group any more.
     fn join_table(&mut self, group: u64, newer: GroupTable) -> Result<()>
         ensures ok { OnOk result (JoinsOne self.old self.new group newer) }
         ensures err { OnErr result ((g : ℕ) → StaysAt self.old self.new g) }
@@ -89,8 +90,8 @@ impl MemTables {
         Ok(())
     }
 
-    /// Puts a table that was read from all of Append over that of its group. If it fails, nothing changes, except that
-    /// nothing is promised to the group any more.
+    /// Puts a table that was read from all of Append over that of its group. If it fails, all groups show the same, but
+    /// nothing is promised to this group any more.
     fn merge_table(&mut self, group: u64, append: GroupTable) -> Result<(), AllocError>
         ensures ok { OnOk result (MergesOne self.old self.new group append) }
         ensures err { OnErr result ((g : ℕ) → SameAt self.old self.new g) }

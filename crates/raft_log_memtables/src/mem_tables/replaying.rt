@@ -24,10 +24,10 @@ use raft_log_record_base::{FileSeq, LogQueue, Result};
 use raft_log_record_items::LogItem;
 
 impl MemTables {
-    /// Applies the items of a record that was read in this file of Append. A mark says nothing.
+    /// Applies the items of a record that was read in this file of Append. A mark changes nothing.
     ///
-    /// Fails with `Hole` if a run starts past the index after the last of its group, or with `Memory`. If it fails, a
-    /// prefix of the items is applied, and the others aren't.
+    /// Fails with `Hole` only if a run leaves a hole in its group or ends past 2^64 - 1, otherwise with `Memory`. If it
+    /// fails, a prefix of the items is applied, and the others aren't.
     pub fn replay_append_writes(&mut self, items: Vec<LogItem>, file: FileSeq) -> Result<()>
         ensures ok { OnOk result (ReadsAll true file self.old self.new (tagged_items place_of items.items)) }
         ensures err { IfErr result
@@ -37,8 +37,8 @@ impl MemTables {
         self.replay_writes(LogQueue::Append, items, file)
     }
 
-    /// Applies the items of a record that was read in this file of Rewrite. A mark says nothing. If a run starts past
-    /// the index after the last, it replaces all entries.
+    /// Applies the items of a record that was read in this file of Rewrite. A mark changes nothing. If a run starts
+    /// past the index after the last, it replaces all entries.
     ///
     /// Fails with `Memory`. If it fails, a prefix of the items is applied, and the others aren't.
     pub fn replay_rewrite_writes(&mut self, items: Vec<LogItem>, file: FileSeq) -> Result<()>
@@ -66,8 +66,8 @@ impl MemTables {
         Ok(())
     }
 
-    /// Applies an item that was read in this file of a queue. If it fails, nothing changes, except that nothing is
-    /// promised to its group any more.
+    /// Applies an item that was read in this file of a queue. If it fails, what was read stays, but nothing is promised
+    /// to its group any more.
     fn replay_item(&mut self, queue: LogQueue, item: LogItem, file: FileSeq) -> Result<()>
         ensures ok { OnOk result (ReadsOne (in_append queue) file self.old self.new (tagged place_of item)) }
         ensures err { OnErr result ((g : ℕ) → StaysAt self.old self.new g) }

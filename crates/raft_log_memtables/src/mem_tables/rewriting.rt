@@ -30,7 +30,7 @@ impl MemTables {
     /// That lets the batches of an atomic group be prepared one after another.
     ///
     /// Whether it succeeds or fails, the tables show the same, and what was promised to other groups stays. If it
-    /// fails, nothing is prepared for its groups any more.
+    /// fails, all that was promised to its groups is taken back, even by earlier calls.
     pub fn prepare_rewrite(&mut self, items: &[LogItem]) -> Result<(), AllocError>
         ensures shows { ShowsSame self.old self.new }
         ensures ok { OnOk result (PromisesMoves self.old self.new (tagged_items (λ e. e) items.now)) }
@@ -46,9 +46,9 @@ impl MemTables {
         prepared
     }
 
-    /// Applies a batch that was prepared, and then written to this file of Rewrite: entries and values that are still
-    /// there are in that file from now on. With a gate, this includes what is in Append in a file up to it; without
-    /// one, nothing in Append. Tombstones and marks of atomic groups change nothing.
+    /// Applies a batch that was prepared, and then written to this file of Rewrite. Its entries and values that are
+    /// still there are in that file from now on. With a gate, this includes what is in Append in a file up to it;
+    /// without one, nothing in Append. Tombstones and marks of atomic groups change nothing.
     ///
     /// The batches of an atomic group are applied once its last one is written, and not before.
     pub fn apply_rewrite_writes(&mut self, items: &[LogItem], gate: Option<FileSeq>, file: FileSeq)

@@ -58,8 +58,8 @@ impl MemTables {
         self.groups.iter()
     }
 
-    /// The number of entries and values of all groups in Rewrite, at most 2^64 - 1. It takes time in all keys of all
-    /// groups, and no memory.
+    /// The number of entries and values of all groups in Rewrite, or 2^64 - 1 if there are more. The time is linear in
+    /// the keys of all groups. It allocates nothing.
     pub fn standing_count(&self) -> u64
         ensures { Stand self.now result }
     {
@@ -70,8 +70,8 @@ impl MemTables {
         count
     }
 
-    /// The least file of a queue in which any group has something, or the limit if that is lower. It takes one walk
-    /// over the groups, and no memory.
+    /// The least file of a queue that any group needs, or the limit if that is lower or no group needs one. It takes
+    /// one walk over the groups, and allocates nothing.
     pub fn least_file(&self, queue: LogQueue, limit: FileSeq) -> FileSeq
         ensures { IsLeastOf queue limit self.now result }
     {
@@ -110,7 +110,7 @@ impl MemTables {
     }
 }
 
-/// The least file of a queue in which this table has something, or `least` if that is lower.
+/// The least file of a queue that this table needs, or `least` if that is lower or the table needs none.
 fn lesser_in(table: &MemTable, queue: LogQueue, least: FileSeq) -> FileSeq
     ensures limited { result ≤ least }
     ensures below { (n : ℕ) → min_file queue table.now ≡ Some n → result ≤ n }

@@ -7,7 +7,7 @@ use super::plans::Plan;
 use super::{Answer, Change, Decision, Outline, Write};
 use crate::{Items, Reply, Request};
 
-/// The decision on a request that is out of range, or that only reads.
+/// The decision with this answer and without a change.
 fn told(answer: Answer) -> Decision
     ensures { result ≡ record { answer = answer; change = None } }
 {

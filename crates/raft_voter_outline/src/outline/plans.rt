@@ -33,7 +33,7 @@ fn state_alone(reply: Reply, state: VoterState) -> Plan
     }
 }
 
-/// Adopts a higher term, in which no candidate has the vote.
+/// Returns the state with this term and no vote if the term is higher than its own, otherwise the same state.
 fn with_term(state: VoterState, term: u64) -> VoterState
     ensures { result ≡ with_term state term }
 {

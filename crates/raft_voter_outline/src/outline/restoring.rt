@@ -12,8 +12,8 @@ use crate::{Items, Memory, VoterState};
 use std::alloc::Global;
 
 impl Outline {
-    /// Returns the outline of a voter with this state and no entry above its base. Ignores the last entry that the
-    /// state names. Allocates nothing.
+    /// Returns the outline of a voter with this state, whose numbers must be in range, and no entry above its base.
+    /// Ignores the last entry that the state names. Allocates nothing.
     pub fn at_base(alloc: Global, state: &VoterState) -> Outline
         requires { state_fits state.now ≡ true }
         ensures { result.voter ≡ with_log state.now [] }
@@ -28,7 +28,8 @@ impl Outline {
         }
     }
 
-    /// Returns the outline of a voter with this state and this log. Memory can run out only if the log has entries.
+    /// Returns the outline of a voter with this state and this log. The state's numbers must be in range, and all
+    /// indexes below 2^63. Memory can run out only if the log has entries.
     pub fn restore(
         alloc: Global,
         state: &VoterState,
@@ -45,8 +46,8 @@ impl Outline {
         Ok(outline)
     }
 
-    /// Appends one more entry of this term, as it is read back. Fails only if no room is left and memory runs out. If
-    /// it fails, the outline is unchanged.
+    /// Appends one more entry of this term, as it is read back. Its index must be below 2^63. Fails only if no room is
+    /// left and memory runs out. If it fails, the voter is unchanged.
     pub fn push(&mut self, term: u64) -> Result<(), Memory>
         requires { last_index self.old.voter + 1 < 2 ^ 63 }
         ensures ok { OnOk result (self.new.voter

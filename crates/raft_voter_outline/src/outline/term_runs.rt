@@ -142,7 +142,7 @@ impl TermRuns {
     }
 
     /// Makes room for this many more runs. If there are no runs yet, makes room for just these, as most logs keep to
-    /// one term. If memory runs out, nothing changes.
+    /// one term. If memory runs out, the terms stay.
     pub fn reserve(&mut self, count: usize) -> Result<(), Memory>
         ensures base { self.new.base ≡ self.old.base }
         ensures log { self.new.log ≡ self.old.log }
@@ -158,8 +158,8 @@ impl TermRuns {
         Ok(())
     }
 
-    /// Makes room for one more entry, of this term. It needs none if it joins the last run. If memory runs out, nothing
-    /// changes.
+    /// Makes room for one more entry, of this term. It needs none if it joins the last run. If memory runs out, the
+    /// terms stay.
     pub fn reserve_one(&mut self, term: u64) -> Result<(), Memory>
         ensures base { self.new.base ≡ self.old.base }
         ensures log { self.new.log ≡ self.old.log }

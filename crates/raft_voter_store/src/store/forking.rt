@@ -19,11 +19,12 @@ impl<F: FileSystem + Sync> LogVoterStore<EnginePipes<F, Nobody>> {
     /// # Errors
     ///
     /// With these nothing was changed:
-    /// - `InvalidArgument`: the settings let files be used again or be truncated before the last; or the target is one
-    ///   of the source's directories, is inside one, or has log files.
+    /// - `InvalidArgument`: the settings recycle files, or have the recovery mode `TolerateAnyCorruption`.
+    /// - `InvalidArgument`: the target is one of the source's directories, is inside one, or has log files.
     /// - `Other`: the settings have a fault.
-    /// - `Io`: a directory of the source doesn't exist.
+    /// - `Io`: the file system has stopped, or a directory of the source doesn't exist.
     /// - `Corruption`: a file in it is misnamed.
+    /// - `Memory`, as long as nothing was copied.
     ///
     /// After a later `Io` or `Memory`, what was copied stays.
     pub fn fork<L: Log>(

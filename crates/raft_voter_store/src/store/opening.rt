@@ -136,8 +136,9 @@ impl<F: FileSystem + Sync, E: EventListener> LogVoterStore<EnginePipes<F, E>> {
 }
 
 impl<P: PipeLog> LogVoterStore<P> {
-    /// The stored voters, each with its group, sorted by group. Reads their entries from the log. Fails as the part of
-    /// an open after the engine's does. Nothing changes except the block that the engine caches.
+    /// The stored voters, each with its group, sorted by group. Reads their entries from the log. Fails with `Engine`
+    /// if the engine has failed or an entry isn't read, with `Foreign`, or with `Memory`. Nothing changes except the
+    /// block that the engine caches.
     pub fn voters(&mut self) -> Result<Vec<(u64, Voter)>, Unread>
         ensures ok { IfOk result (λ voters. ListsVoters (shows_of P.shown self.old.engine) voters.items) }
         ensures err { IfErr result (λ cause. IsUnreadFor cause (shows_of P.shown self.old.engine)) }

@@ -19,8 +19,8 @@ impl<P: PipeLog> LogVoterStore<P> {
     ghost use Rattle.raft_voter_store.specs.Silence.{AsksForNone, IfVoterStays, IfVotersStay, ReadsAlone};
 
     /// Serves the requests in order, and returns one reply for each. The reply is `Refused` for a request that is out
-    /// of range or was turned down. It returns the replies after all that was written is synced; if nothing was written
-    /// it doesn't sync.
+    /// of range or was rejected. It returns the replies after all that was written is synced; if nothing was written it
+    /// doesn't sync.
     ///
     /// Checks for `TooLong`, `Failed` and `Memory`, in this order, before it serves anything. It fails with
     /// `FileSystem` if the engine failed at a request, or the sync failed; some of the first requests may be taken
@@ -48,7 +48,7 @@ impl<P: PipeLog> LogVoterStore<P> {
         ensures errors { IfErr result (λ fault. FailsAs fault.cause (length requests.now)
             (has_failed (shows_of P.shown self.old.engine)) (has_failed (shows_of P.shown self.new.engine))) }
 
-        // A round that changes no voter only reads: it writes and syncs no file, so the files, what is pending in them
+        // A round that changes no voter only reads: it writes and syncs no file. So the files, what is pending in them
         // and the failures that were counted are unchanged. If it also requests no entries, it leaves the whole store
         // unchanged, with its file system.
         ensures quiet { IfVotersStay (outlines_in self.old.outlines) requests.now
@@ -80,7 +80,7 @@ impl<P: PipeLog> LogVoterStore<P> {
         Ok(Items::from_vec(replies))
     }
 
-    /// Serves the requests in order, and appends their replies, for which there is room; a request that is turned down
+    /// Serves the requests in order, and appends their replies, for which there is room; a request that is rejected
     /// gets `Refused`. Returns whether a record was written, or none if the engine failed at a request.
     fn take_all<R: Log>(
         &mut self,
@@ -117,7 +117,7 @@ impl<P: PipeLog> LogVoterStore<P> {
         Some(wrote)
     }
 
-    /// Serves one request of a round. Appends its reply, for which there is room, or `Refused` if it is turned down.
+    /// Serves one request of a round. Appends its reply, for which there is room, or `Refused` if it is rejected.
     /// Returns whether a record was written by then, or none if the engine failed at the request.
     fn serve_one<R: Log>(
         &mut self,

@@ -29,7 +29,8 @@ impl<P: PipeLog> LogVoterStore<P> {
         self.engine.is_failed()
     }
 
-    /// Makes all that was written durable. If it fails, the error is `Failed`, and nothing is written any more.
+    /// Makes all that was written durable. If it fails, the error is `Failed`, the engine has failed, and nothing is
+    /// written any more.
     pub fn sync<R: Log>(&mut self, rt: &R) -> Result<()>
         ensures ok { OnOk result (SyncsAppend
             (shows_of P.shown self.old.engine) (shows_of P.shown self.new.engine)) }
@@ -57,8 +58,8 @@ impl<P: PipeLog> LogVoterStore<P> {
     }
 
     /// Arms a fault of the file system: it changes which later calls fail, and nothing else. A place that it makes
-    /// unreadable is marked on the disk. Fails with `Io` if it isn't armed: the file system had stopped, or is out of
-    /// memory.
+    /// unreadable is marked on the disk. Fails with `Io` if the file system had stopped or memory runs out. Then
+    /// nothing changes.
     pub fn arm(&mut self, fault: &Fault) -> Result<()>
         ensures ok { OnOk result (ArmsEngine fault.now
             (shows_of P.shown self.old.engine) (shows_of P.shown self.new.engine)) }
@@ -73,8 +74,8 @@ impl<P: PipeLog> LogVoterStore<P> {
     }
 
     /// Purges the files of both queues if they are past the thresholds of the settings. Returns the groups that should
-    /// be compacted, sorted. No voter changes, whether it succeeds or fails; if the engine has failed, its log means
-    /// just these voters. The engine's page says which files are deleted, and why it fails.
+    /// be compacted, sorted. No stored voter changes, whether it succeeds or fails. If the engine has failed, its files
+    /// can be opened with just these voters. The engine's page says which files are deleted, and why it fails.
     pub fn maintain<R: Log>(&mut self, rt: &R) -> Result<Vec<u64>>
         ensures ok { OnOk result (KeepsVoters
             (shows_of P.shown self.old.engine) (shows_of P.shown self.new.engine)) }
@@ -93,7 +94,7 @@ impl<P: PipeLog> LogVoterStore<P> {
     }
 
     /// Rewrites Append up to a file, the watermark, or up to its last one. With `exit_after_step` it ends after the
-    /// first or the second of its steps. No voter changes.
+    /// first or the second of its steps. No stored voter changes; see `maintain` if the engine fails.
     pub fn must_rewrite_append_queue<R: Log>(
         &mut self,
         rt: &R,
@@ -115,7 +116,7 @@ impl<P: PipeLog> LogVoterStore<P> {
             .must_rewrite_append_queue(rt, watermark, exit_after_step)
     }
 
-    /// Compacts Rewrite, whatever its size is. No voter changes.
+    /// Compacts Rewrite, whatever its size is. No stored voter changes; see `maintain` if the engine fails.
     pub fn must_rewrite_rewrite_queue<R: Log>(&mut self, rt: &R) -> Result<()>
         ensures ok { OnOk result (KeepsVoters
             (shows_of P.shown self.old.engine) (shows_of P.shown self.new.engine)) }

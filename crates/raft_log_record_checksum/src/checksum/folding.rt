@@ -64,7 +64,7 @@ fn fold(window: &mut [u8; WINDOW], bytes: &[u8])
     fold_part(window, rest);
 }
 
-/// Folds bytes that fit the window.
+/// Folds at most 2,048 bytes.
 fn fold_part(window: &mut [u8; WINDOW], part: &[u8])
     requires { length part.now ≤ 2048 }
     ensures { (register : ℕ)
@@ -81,7 +81,7 @@ fn fold_part(window: &mut [u8; WINDOW], part: &[u8])
     window.copy_within(part.len()..part.len() + REACH, 0);
 }
 
-/// The register after the last bytes, into which what is owed is xored.
+/// The register after the last bytes of the input. What is owed is xored into them first.
 fn after_last(window: &[u8; WINDOW], last: &[u8; REACH]) -> u32
     ensures { (register : ℕ)
         → owed (take 300 window.now) ≡ crc_bits 2400 register

@@ -106,8 +106,9 @@ impl DualPipesBuilder {
     }
 
     /// Reads both queues at once, each by its share of the workers, into machines. Then truncates the damaged files,
-    /// Append's first, each after its last good record, and syncs them. Returns Append's machine and Rewrite's. If
-    /// `recovery_threads` is 0, reads no file, and `finish` fails if there is one.
+    /// Append's first, each after its last good record, and syncs them. Returns Append's machine and Rewrite's. The
+    /// settings need at least one worker, as `sanitize` leaves them. Without one, files may stay unread, and `finish`
+    /// fails then.
     ///
     /// Truncates nothing unless all files of both queues could be read and none has an alignment. If it fails, the
     /// builder is unchanged. Fails:

@@ -13,9 +13,10 @@ pub fn rounds_are_explained<R, S: VoterStorage<R>, F: VoterDisk<R, S>>()
     ensures { AllExplained S.service S.upkeep F.disk }
 {}
 
-/// Suppose the first files store no voter, each open finds the least place that fits, and no open reads and no crash
-/// leaves files with a CRC collision. Then each open finds a place. Voters that never fail explain the rounds, and can
-/// end as any voters that may be left at the end. For that, the last round that was cut off may need another cut.
+/// Suppose the first files store no voter, and each open finds the least place that fits. Suppose also that no open
+/// reads and no crash leaves files with a CRC collision. Then each open finds a place. Voters that never fail explain
+/// the rounds, and can end as any voters that may be left at the end. For that, the last round that was cut off may
+/// need another cut.
 pub fn crashes_are_transparent<R, S: VoterStorage<R>, F: VoterDisk<R, S>>()
     ensures { AllTransparent S.service S.upkeep F.disk }
 {}

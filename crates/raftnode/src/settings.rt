@@ -7,10 +7,8 @@ use std::fs::File;
 use std::rt::Files;
 
 /// The settings of this file, or the default ones if there is none, for a log in this directory. The file's own `dir`
-/// is ignored.
-///
-/// Fails with `Unread` if the file can't be read. Fails with `Settings` if its settings can't open a log; `Memory` may
-/// be the reason there, or have its own fault.
+/// is ignored. Fails with `Unread` if the file can't be read, with `Settings` if its settings are wrong, or for lack of
+/// memory.
 pub fn settings<R: Files<File = File> + Log + AllocGlobal>(
     rt: &R,
     directory: String,

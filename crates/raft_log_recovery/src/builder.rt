@@ -354,8 +354,8 @@ impl DualPipesBuilder {
     /// Syncs all files that were recovered, and those that are kept for recycling. Then opens the log's pipes over
     /// them, Append's first. The file system moves to the pipes.
     ///
-    /// The sync is not what keeps old records of a recycled file from counting under its next number. That is the
-    /// signature: in version 2, the low 32 bits of the number are part of each record's checksum.
+    /// Old records in a file kept for recycling don't count under its next number, because the signature differs: in
+    /// version 2, the low 32 bits of the number are part of each record's checksum.
     ///
     /// If it fails, the file system is returned. Fails with `InvalidArgument` if not all files were recovered, or with
     /// `Memory`: then nothing was done. Fails with `Io` if a file isn't synced, or as the open of either pipe does.

@@ -59,7 +59,8 @@ impl<L: Opening> Caller<L> {
         }
     }
 
-    /// Returns the answer to a round that was cut off for this cause. The book and the share count its record.
+    /// Returns the answer to a round that was cut off for this cause, which is `TooLong` exactly if the round has more
+    /// than 4,096 requests. The book and the share count its record.
     pub fn cut_off(self, book: &mut Book<L>, place: usize, cause: Cause) -> Done<L>
         requires within { book.old.total + 1 < 2 ^ 64 }
         requires cause { may_cut cause self.ticket.count ≡ true }

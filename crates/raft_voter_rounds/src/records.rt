@@ -94,8 +94,8 @@ pub fn note_answers<L: Opening, R: Wait>(
 }
 
 /// Appends the records of rounds that were cut off together for this cause to the journal, and returns the answers to
-/// their callers. The cause is `TooLong` exactly if a round has more than 4,096 requests. `refused` has the refused
-/// places of all their requests, rising. There must be room for the records and the answers.
+/// their callers. If the cause is `TooLong`, each round has more than 4,096 requests; otherwise none has. `refused` has
+/// the refused places of all their requests, rising. There must be room for the records and the answers.
 pub fn note_cuts<L: Opening, R: Wait>(
     rt: &R,
     history: &History<L>,

@@ -162,8 +162,8 @@ impl LogItemBatchFileReader {
     /// Checks the entry block at a location inside the open file, which a batch stated. If it succeeds, the batch's
     /// record is whole. Reads the whole block into memory. If no file is open, checks nothing.
     ///
-    /// Fails with `Corruption` if the block's checksum is cut off or isn't that of its entries. Also fails with `Io` if
-    /// a read fails, or with `Memory`. The reader is unmoved.
+    /// Fails with `Corruption` if the block has bytes and is too short for a checksum, or if its checksum isn't that of
+    /// its entries. Also fails with `Io` if a read fails, or with `Memory`. The reader is unmoved.
     pub fn check_entry_block<F: FileSystem>(
         &mut self,
         alloc: Global,

@@ -280,8 +280,8 @@ impl Storage {
             .map_err(|_| ErrorKind::OutOfMemory)
     }
 
-    /// Adds to a file that exists a growth that fails: of the zeros up to `size`, below 2^63, none is added. Fails only
-    /// with `OutOfMemory`; then nothing changes.
+    /// Adds a failed growth to the changes of a file that exists: of the zeros up to `size`, none is added. `size` is
+    /// below 2^63. Fails only with `OutOfMemory`; then nothing changes.
     pub fn fail_to_grow(&mut self, id: usize, size: usize) -> Result<(), ErrorKind>
         requires there { (held_of self.old.files.items id ≡ None) → ⊥ }
         requires short { size < file_limit }

@@ -5,7 +5,7 @@
 //! together: 145, 183, 211 and 300 bytes after its own (300 minus 155, 117, 89 and 0). A byte may be taken out of the
 //! input if it is xored into those four, and then no table is read for it.
 //!
-//! Each folded byte is the byte of the input, xored with the folded bytes at these four distances before it. So many
+//! Each folded byte is the byte of the input, xored with the folded bytes at these four distances before it. Many
 //! folded bytes can be computed side by side. What they owe to the last bytes of the input is xored into these, which
 //! are then read through the tables. This is Sam Russell's method (Chorba), by bytes in place of words.
 

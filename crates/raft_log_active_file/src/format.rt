@@ -11,8 +11,9 @@ use raft_log_fs::Handle;
 use raft_log_record_base::{FileSeq, Result};
 use std::alloc::Global;
 
-/// The place of a directory in the list of a log's directories. Each directory has a second place, after the last first
-/// one, for files whose names have a plus sign before the number.
+/// The place of a file's directory. A directory has two places: its position in the list of a log's directories, and
+/// this position plus the number of directories. The second one is for files whose names have a plus sign before the
+/// number.
 pub type PathId = usize;
 
 /// The directories of a log's files, the main one first.
@@ -80,7 +81,7 @@ pub trait PipeFormat {
 
     ghost file_paths: { Self → FilePaths };
 
-    /// The path of a file. Fails as making its name does.
+    /// The path of a file. Fails with `NumberRange` if its number has more than sixteen digits, or with `Memory`.
     fn file_path(&self, alloc: Global, file: &File) -> Result<String>
         ensures ok { IfOk result (λ path. string_bytes path ≡ path_of (file_paths self.now) file.now) }
         ensures named { OnOk result (file.now.seq < 10 ^ 16) }

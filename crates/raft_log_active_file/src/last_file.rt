@@ -16,13 +16,14 @@ use std::io::ErrorKind;
 /// Why a record wasn't written.
 #[derive(Clone, Copy, Debug, PartialEq, Eq)]
 pub enum WriteFault {
-    /// The write failed; the file was truncated to what was written before, and synced.
+    /// The write failed, with this kind. The file was truncated to what was written before, and synced.
     CutBack(ErrorKind),
-    /// The write failed, and so did the truncation or its sync: the record may be there.
+    /// The write failed, and so did the truncation or its sync, with this kind. The record may be there.
     Failed(ErrorKind),
 }
 
-/// Appends a record. If the write fails, the file is truncated to what was written before, and synced.
+/// Appends a record. If the write fails, truncates the file to what was written before and syncs it; then all earlier
+/// records are durable. If that fails too, the file still has its durable records, and perhaps this one.
 pub fn append_record<G: PipeFormat, F: FileSystem, L: Log>(
     layout: &G,
     rt: &L,
@@ -54,7 +55,7 @@ pub fn append_record<G: PipeFormat, F: FileSystem, L: Log>(
     }
 }
 
-/// Makes all records durable.
+/// Makes all records durable. If it fails, the file still has the records that were durable before.
 pub fn sync_records<G: PipeFormat, F: FileSystem>(
     layout: &G,
     file_system: &mut F,
@@ -75,7 +76,8 @@ pub fn sync_records<G: PipeFormat, F: FileSystem>(
     writer.sync(file_system)
 }
 
-/// Finishes the file: truncates it after its records, and syncs it.
+/// Finishes the file: truncates it after its records, and syncs it. If it fails, the file still has the records that
+/// were durable before.
 pub fn finish_file<G: PipeFormat, F: FileSystem>(
     layout: &G,
     file_system: &mut F,
@@ -96,7 +98,7 @@ pub fn finish_file<G: PipeFormat, F: FileSystem>(
 }
 
 /// Begins the file of a handle, which got the next number: writes its header at its front, whatever it holds, and syncs
-/// that.
+/// that. If it fails, a part of the header may be on disk, but no record.
 pub fn begin_file<G: PipeFormat, F: FileSystem, L: Log>(
     layout: &G,
     rt: &L,

@@ -1,4 +1,4 @@
-//! What is proved of the files of a queue, at any point inside any call on them.
+//! Laws of the files of a queue, at any point inside any call on them.
 
 ghost use Rattle.std.specs.Prelude.{ℕ, List};
 ghost use Rattle.raft_log_file_writer.specs.LogFormat.{Format, IsFormat};
@@ -20,7 +20,7 @@ pub fn files_are_kept<G: QueueFormat>()
     ensures { IsFormat G.format → FilesAreKept G.format G.own }
 {}
 
-/// After any stop, the queue can be read from each number on from which no file is missing.
+/// After any stop, a queue on a sound disk can be read from each number on from which no file is missing.
 pub fn files_are_readable<G: QueueFormat>()
     ensures { IsFormat G.format → FilesAreReadable G.format G.own }
 {}

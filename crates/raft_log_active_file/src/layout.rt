@@ -24,7 +24,7 @@ pub struct LogLayout {
 }
 
 impl LogLayout {
-    /// The layout of a queue in these directories, the main one first.
+    /// The layout of a queue in these directories, at least one, the main one first.
     pub fn new(queue: LogQueue, paths: Paths) -> LogLayout
         requires { 0 < length paths.items }
         ensures queue { result.queue ≡ queue }
@@ -50,7 +50,7 @@ impl LogLayout {
         }
     }
 
-    /// The path of the queue's file with this number, by the place of its directory.
+    /// The path of the queue's file with this number, by the place of its directory. Fails as `file_path` does.
     fn numbered_path(&self, alloc: Global, path_id: PathId, seq: FileSeq) -> Result<String>
         ensures ok { IfOk result (λ path. string_bytes path
             ≡ numbered_path self.now.queue (map string_bytes self.now.paths.items) path_id seq) }

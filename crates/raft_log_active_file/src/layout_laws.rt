@@ -1,4 +1,4 @@
-//! What holds for the log's own files.
+//! Laws of the files of the log's own two queues.
 
 ghost use Rattle.raft_log_active_file.specs.LayoutLaws.{LogFilesAreTold, PlacesAreFresh, QueuesAreApart, ReservedNamesAreTheLogs, ZerosHoldNoRecord};
 

@@ -24,8 +24,8 @@ pub trait NumberedFormat {
     ghost says: { Self.Record → Record Self.Entry Self.Value };
 }
 
-/// After any stop without a CRC collision, reading the files gives what the numbered files allow. From any start it
-/// finds the same first pending records.
+/// After any stop of a sound disk without a CRC collision, reading the files gives what the numbered files allow. From
+/// any start it finds the same first pending records.
 pub fn images_read_as_numbered_files<G: NumberedFormat>()
     ensures { IsFormat G.format → ReadsAsNumbered G.says G.format G.own }
 {}

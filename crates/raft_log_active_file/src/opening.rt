@@ -16,7 +16,7 @@ use std::io::ErrorKind;
 /// Begins a queue that has no file: creates its file 1 at this path, writes the header, and syncs it. Returns a handle
 /// that may write the file, and the writer, which is after the header.
 ///
-/// If it fails, there is still a place for the queue, or the file exists, without a record.
+/// If it fails, the queue may still begin, or its file exists without a record.
 pub fn begin_queue<G: PipeFormat, F: FileSystem, L: Log>(
     layout: &G,
     rt: &L,
@@ -42,8 +42,10 @@ pub fn begin_queue<G: PipeFormat, F: FileSystem, L: Log>(
     Ok((handle, writer))
 }
 
-/// Truncates the last file of a queue, as a stop left the file, after the records that were read of it, and syncs the
-/// file. If it has no header, truncates it to nothing. The file is truncated and synced even if this changes nothing.
+/// Truncates the last file of a queue, as a stop left it, to `end`, where the records end that were read of it. Then
+/// syncs it. Without a header (`None`), truncates it to nothing. Truncates and syncs even if this changes nothing.
+///
+/// If it fails, all records that were read are still there.
 pub fn truncate_torn_tail<G: PipeFormat, F: FileSystem>(
     layout: &G,
     file_system: &mut F,
@@ -67,9 +69,9 @@ pub fn truncate_torn_tail<G: PipeFormat, F: FileSystem>(
     file_system.sync(handle)
 }
 
-/// Reopens the last file of a queue, as a stop left it. Truncates it to this end, after which no whole record was read,
-/// and continues there. If the file has no header, it is emptied and gets this one. All that is durable before the
-/// writer is returned.
+/// Reopens the last file of a queue, as a stop left it. Truncates it to `end`, where the records end that were read of
+/// it, and continues there. If the file has no header (`None`), it is emptied and gets this one. All that is durable
+/// before the writer is returned.
 ///
 /// If it fails, all records that were read are still there.
 pub fn reopen_file<G: PipeFormat, F: FileSystem, L: Log>(

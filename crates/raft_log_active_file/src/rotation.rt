@@ -16,6 +16,9 @@ use raft_log_fs::{FileSystem, Handle};
 use std::io::ErrorKind;
 
 /// Rotates into a file that is created for the next number. Returns its handle.
+///
+/// If it fails, the queue is as before, or its last file is the next one, without a record. The last file has its
+/// durable records.
 pub fn rotate_to_new<G: PipeFormat, F: FileSystem, L: Log>(
     layout: &G,
     rt: &L,
@@ -45,8 +48,9 @@ pub fn rotate_to_new<G: PipeFormat, F: FileSystem, L: Log>(
     Ok(handle)
 }
 
-/// Rotates into a file that was kept for recycling, under the next number. The handle is the file's, opened for writing
-/// before the call, so that nothing allocates memory between the calls that change something.
+/// Rotates into a file that was kept for recycling, which gets the next number. The handle is the file's, opened for
+/// writing before the call, so that nothing allocates memory between the calls that change something. Fails as
+/// `rotate_to_new` does, with a rename in place of the creation.
 pub fn rotate_over<G: PipeFormat, F: FileSystem, L: Log>(
     layout: &G,
     rt: &L,
@@ -82,7 +86,8 @@ pub fn rotate_over<G: PipeFormat, F: FileSystem, L: Log>(
     Ok(())
 }
 
-/// Deletes a file that the queue doesn't need any more: an earlier one, or one that was kept for recycling.
+/// Deletes a file that the queue doesn't need any more: an earlier one, or one that was kept for recycling. If it
+/// fails, the last file still has its durable records.
 pub fn drop_file<G: PipeFormat, F: FileSystem>(
     layout: &G,
     file_system: &mut F,

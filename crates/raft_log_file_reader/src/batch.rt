@@ -72,8 +72,8 @@ pub(crate) fn find_record<F: FileSystem>(
 
 /// Where the footer of the record at an offset begins, and how many bytes the record has, both counted from its start.
 ///
-/// Fails with a corruption on the first of these: too few bytes for a header, a broken header, a record that ends past
-/// the file's end.
+/// Fails as a read does, or with the first of these faults: too few bytes for a header, a broken header, a record that
+/// ends past the file's end.
 #[tactic(auto, unfolding(crate::specs::Batches::extent_at))]
 fn read_extent<F: FileSystem>(
     alloc: Global,
@@ -113,7 +113,7 @@ fn read_extent<F: FileSystem>(
 /// The batch of the record at an offset, with its locations, the record's length in bytes, and its entry block's
 /// location. The block isn't checked.
 ///
-/// Fails with a corruption on the first of these: a broken header, end or footer; then with the first fault of the
+/// Fails as a read does, or with the first of these faults: a broken header, end or footer; then the first fault of the
 /// items.
 pub(crate) fn read_batch<F: FileSystem>(
     alloc: Global,

@@ -32,7 +32,7 @@ impl BatchReader {
     ghost use Rattle.raft_log_file_reader.specs.ItemBatches.{GivesRest, AnswersGoOn, files_of, most_left};
     ghost use Rattle.raft_log_file_reader.specs.Steps.{ReadsOn, EndsOpen, FailsOpen, OpensNext, HasNoFileLeft, FailsNext};
 
-    /// A reader of these files, with none open. It reads `read_block_size` bytes at once if fewer are needed.
+    /// A reader of these files, with none open. `read_block_size` is as for `LogItemBatchFileReader`.
     pub fn new(alloc: Global, files: Vec<LogFile>, read_block_size: usize) -> Self
         ensures files { files_of result ≡ files.items }
         ensures closed { HasNoneOpen result.reader }
@@ -44,7 +44,7 @@ impl BatchReader {
         }
     }
 
-    /// The next batch of the files; none if they have no more. If a file fails, the next call continues with the next
+    /// The next batch of the files; `None` if they have no more. If a file fails, the next call continues with the next
     /// file.
     pub fn next<F: FileSystem>(
         &mut self,
@@ -120,8 +120,8 @@ impl BatchReader {
     }
 }
 
-/// Opens the file at a path for reading. Out of memory is a separate error from those of the file system, and a stop
-/// isn't reported as it.
+/// Opens the file at a path for reading. Fails with `Memory` if memory runs out, else with `Io`; after a stop only with
+/// `Io`.
 fn find<F: FileSystem>(file_system: &F, path: &str) -> Result<Handle>
     ensures ok { IfOk result (λ handle. IsOpened path.now ReadOnly handle (F.disk file_system.now)) }
     ensures err { IfErr result (λ error. IsReadOpenRefusal path.now (F.disk file_system.now) error) }

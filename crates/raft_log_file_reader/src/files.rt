@@ -13,8 +13,8 @@ use raft_log_record_base::{Error, FileId, Result};
 use std::alloc::Global;
 use std::io::ErrorKind;
 
-/// The log file with this path, as the only one. Fails with an invalid argument if no file has the path, or if its name
-/// isn't a log file's.
+/// The log file with this path, as the only one. Fails with `InvalidArgument` if no file has the path, or if its name
+/// isn't a log file's. Fails with `Io` if the file system has stopped, or with `Memory`.
 pub(crate) fn file_at<F: FileSystem>(
     alloc: Global,
     file_system: &F,
@@ -36,8 +36,8 @@ pub(crate) fn file_at<F: FileSystem>(
     Ok(files)
 }
 
-/// The log files of a directory, those of Rewrite first, and each queue's in the order of their numbers. Fails with an
-/// invalid argument if the path isn't a directory's.
+/// The log files of a directory, those of Rewrite first, and each queue's in the order of their numbers. Fails with
+/// `InvalidArgument` if the path isn't a directory's, with `Io` if the file system has stopped, or with `Memory`.
 pub(crate) fn files_in<F: FileSystem>(
     alloc: Global,
     file_system: &F,
@@ -75,7 +75,7 @@ fn log_files(alloc: Global, directory: &str, names: &[String]) -> Result<Vec<Log
     Ok(files)
 }
 
-/// The log file that the name after a path's last slash states.
+/// The log file that the name after a path's last slash says, if it says one.
 fn id_of(path: &str) -> Option<FileId>
     ensures { (id : FileId) → (result ≡ Some id) ↔ IsLogPath id path.now }
 {
@@ -85,7 +85,8 @@ fn id_of(path: &str) -> Option<FileId>
     FileId::parse_file_name(&path[at + 1..])
 }
 
-/// Why a file wasn't opened or a directory not listed: these words if nothing of the kind has the path.
+/// Why a file wasn't opened or a directory not listed: `Io` after a stop, `Memory`, or `InvalidArgument` with these
+/// words.
 fn absent(alloc: Global, stopped: bool, kind: ErrorKind, words: &str, path: &str) -> Error
     ensures { TellsAbsent stopped kind words.now path.now result }
 {
@@ -98,7 +99,7 @@ fn absent(alloc: Global, stopped: bool, kind: ErrorKind, words: &str, path: &str
     invalid(alloc, words, path)
 }
 
-/// An invalid argument: these words and the path.
+/// `InvalidArgument` with these words and the path, or `Memory` if there is no memory for the text.
 fn invalid(alloc: Global, words: &str, path: &str) -> Error
     ensures { TellsInvalid words.now path.now result }
 {

@@ -65,7 +65,7 @@ fn is_foreign(header: SpelledHeader, left: usize) -> bool
         && header.len <= left as u64
 }
 
-/// Whether a footer ends with its checksum, which has this signature.
+/// Whether a footer ends with its checksum, into which this signature is mixed.
 #[tactic(auto, unfolding(raft_log_record_frames::specs::Record::body_of))]
 fn has_checksum(bytes: &[u8], signature: Option<u32>) -> bool
     ensures { IsTrue result ↔ IsOk (body_of signature bytes.now) }
@@ -81,7 +81,7 @@ fn has_checksum(bytes: &[u8], signature: Option<u32>) -> bool
     }
 }
 
-/// The record after an offset, if it is foreign.
+/// The next record after an offset, if it is foreign. Fails only as a read does.
 pub(crate) fn find_foreign<F: FileSystem>(
     alloc: Global,
     file_system: &F,

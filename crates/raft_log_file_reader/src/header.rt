@@ -12,7 +12,8 @@ use raft_log_record_base::Result;
 use raft_log_record_frames::record::are_bytes;
 use std::alloc::Global;
 
-/// The format in a file's header, and where the header ends. Reads at most the first 69 bytes; the window holds them.
+/// The format in a file's header, and the offset at which the header ends. Reads at most the first 69 bytes; the window
+/// holds them.
 pub(crate) fn read_format<F: FileSystem>(
     alloc: Global,
     file_system: &F,

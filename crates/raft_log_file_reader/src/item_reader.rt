@@ -9,12 +9,12 @@ use raft_log_record_items::LogItem;
 use std::alloc::Global;
 use std::vec::IntoIter;
 
-/// How many bytes are read at once.
+/// How many bytes are read at once, if no more are needed.
 const READ_BLOCK_SIZE: usize = 65_536;
 
 /// An iterator over the items of log files, with the locations of their entries. It borrows the file system.
 ///
-/// It returns one file after another, and of each file its batches' items in order. If a file fails, the error replaces
+/// It reads one file after another, and returns the items of its batches in order. If a file fails, the error replaces
 /// the rest of that file, and the next file follows. The entries' bytes aren't checked.
 #[derive(Drop)]
 pub struct LogItemReader<'a, F: FileSystem> {
@@ -30,8 +30,8 @@ impl<'a, F: FileSystem> LogItemReader<'a, F> {
     ghost use Rattle.raft_log_file_reader.specs.Files.{IsNoFile, IsNoDirectory};
     ghost use Rattle.raft_log_file_reader.specs.ItemReader.{IsReaderOf, ReadsFileAt, ReadsFilesIn};
 
-    /// A reader of the log file with this path. Fails with an invalid argument if no file has the path, or if its name
-    /// isn't a log file's.
+    /// A reader of the log file with this path. Fails with `InvalidArgument` if no file has the path, or if its name
+    /// isn't a log file's. Fails with `Io` if the file system has stopped, or with `Memory`.
     pub fn new_file_reader(alloc: Global, file_system: &'a F, path: &str) -> Result<Self>
         ensures ok { IfOk result (ReadsFileAt F.disk file_system.now path.now) }
         ensures err { IfErr result (λ error. IsNoFile path.now (F.disk file_system.now) error) }
@@ -41,7 +41,8 @@ impl<'a, F: FileSystem> LogItemReader<'a, F> {
     }
 
     /// A reader of the log files of a directory, those of Rewrite first, and each queue's in the order of their
-    /// numbers. Fails with an invalid argument if the path isn't a directory's.
+    /// numbers. Fails with `InvalidArgument` if the path isn't a directory's, with `Io` if the file system has stopped,
+    /// or with `Memory`.
     pub fn new_directory_reader(alloc: Global, file_system: &'a F, directory: &str) -> Result<Self>
         ensures ok { IfOk result (ReadsFilesIn F.disk file_system.now directory.now) }
         ensures err { IfErr result (λ error. IsNoDirectory directory.now (F.disk file_system.now) error) }

@@ -1,18 +1,19 @@
 //! Laws of the batches in a file's bytes. Each is the contract of an empty function.
 ghost use Rattle.raft_log_file_reader.specs.Laws.{OneReading, OneFault, BatchesGoOn, PaddingAligns, BatchesAreFrames, WholeBlockMakesRecord, BatchesOutweighItems};
 
-/// From an offset on, a file's bytes are read in only one way, up to one fault or the end.
+/// A file's bytes determine which batches are read from an offset on, and where they end. They determine the fault too,
+/// if there is one, and then the file doesn't end there.
 pub fn one_reading()
     ensures batches { OneReading }
     ensures faults { OneFault }
 {}
 
-/// A batch that follows other batches extends them by one.
+/// If batches are read up to an offset, and one more from there, then all of them are read.
 pub fn batches_go_on()
     ensures { BatchesGoOn }
 {}
 
-/// Padding ends at the next multiple of the alignment.
+/// Padding ends at the next multiple of the alignment, and is shorter than the alignment.
 pub fn padding_aligns()
     ensures { PaddingAligns }
 {}

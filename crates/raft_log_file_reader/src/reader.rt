@@ -50,7 +50,8 @@ impl LogItemBatchFileReader {
     ghost use Rattle.raft_log_file_reader.specs.Opening.{FailsToOpen};
     ghost use Rattle.raft_log_file_reader.specs.Refused.{FailsBehind, FailsToCheckBlock, bytes_at};
 
-    /// A reader without a file. It reads `read_block_size` bytes at once if fewer are needed.
+    /// A reader without a file. It reads `read_block_size` bytes at once, or as many as are needed. It reads fewer at
+    /// the file's end, and after it skipped long entries.
     pub fn new(alloc: Global, read_block_size: usize) -> Self
         ensures closed { HasNoneOpen result }
         ensures reading { (d : Disk) → IsReading d result }
@@ -65,7 +66,7 @@ impl LogItemBatchFileReader {
         }
     }
 
-    /// Closes the file, if one is open.
+    /// Closes the file, if one is open. The last block stays.
     pub fn reset(&mut self)
         ensures closed { HasNoneOpen self.new }
         ensures reading { (d : Disk) → IsReading d self.new }
@@ -77,8 +78,11 @@ impl LogItemBatchFileReader {
         self.valid_offset = 0;
     }
 
-    /// Opens a file, and returns the format that its header states. Reads its first 69 bytes, and keeps none of them.
-    /// If it fails, no file is open.
+    /// Opens the file of a handle, and returns the format that its header states. Reads at most its first 69 bytes, and
+    /// keeps none of them.
+    ///
+    /// Fails with `Io` if the size or these bytes can't be read, with `Memory`, or with the header's fault. Then no
+    /// file is open.
     pub fn open<F: FileSystem>(
         &mut self,
         alloc: Global,
@@ -108,10 +112,11 @@ impl LogItemBatchFileReader {
         }
     }
 
-    /// The next batch, with the locations of its entries; none if the file has no more, or if no file is open. The
-    /// entries' bytes aren't checked.
+    /// The next batch, with the locations of its entries. `None` if the file has no more than padding, or if no file is
+    /// open. The entries' bytes aren't checked.
     ///
-    /// If it fails, the reader stays where it is, so that the same call fails again.
+    /// Fails with `Io` if a read fails, with `Memory`, or with `Codec` or `Corruption` for the next record's fault.
+    /// Then the reader is unmoved: it has the same file, offset and last block.
     pub fn next<F: FileSystem>(
         &mut self,
         alloc: Global,
@@ -154,10 +159,11 @@ impl LogItemBatchFileReader {
         Ok(Some(batch))
     }
 
-    /// Checks the entry block at a location of the open file, which a batch stated: if it succeeds, the batch's record
-    /// is whole. Reads the whole block into memory. If no file is open, it checks nothing.
+    /// Checks the entry block at a location inside the open file, which a batch stated. If it succeeds, the batch's
+    /// record is whole. Reads the whole block into memory. If no file is open, checks nothing.
     ///
-    /// Fails with a corruption if the block's checksum isn't that of its entries.
+    /// Fails with `Corruption` if the block has bytes and is too short for a checksum, or if its checksum isn't that of
+    /// its entries. Also fails with `Io` if a read fails, or with `Memory`. The reader is unmoved.
     pub fn check_entry_block<F: FileSystem>(
         &mut self,
         alloc: Global,
@@ -188,8 +194,10 @@ impl LogItemBatchFileReader {
         Ok(())
     }
 
-    /// The record of the open file after an offset, if it is foreign: whole by its length and its checksum, but with a
-    /// compression that isn't read. `None` if it isn't foreign, or if no file is open.
+    /// The next record of the open file after an offset inside it, if that record is foreign: whole by its length and
+    /// its checksum, but with a compression that isn't read. `None` if it isn't foreign, or if no file is open.
+    ///
+    /// Fails with `Io` if a read fails, or with `Memory`. The reader is unmoved.
     pub fn foreign_record<F: FileSystem>(
         &mut self,
         alloc: Global,
@@ -222,7 +230,7 @@ impl LogItemBatchFileReader {
         self.last_block
     }
 
-    /// Where the last valid record that was read ends, or the header if none was read; 0 if no file is open.
+    /// Where the last valid record that was read ends; if none was read, where the header ends; 0 if no file is open.
     pub fn valid_offset(&self) -> usize
         ensures { result ≡ end_of self.now }
     {

@@ -10,7 +10,7 @@ use raft_log_record_base::{Error, Result};
 use std::alloc::Global;
 use std::io::ErrorKind;
 
-/// If a read skips at least this many bytes, as after long entries, it reads less than a block.
+/// If a read skips more than this many bytes, as after long entries, it reads less than a block.
 const SKIPPED: usize = 1_024;
 
 /// How many bytes such a read reads at once if fewer are needed.
@@ -77,12 +77,12 @@ impl Window {
         self.start + self.bytes.len()
     }
 
-    /// Fills the window with `size` bytes of the file from an offset on, and with up to `prefetch` bytes after them.
-    /// There are fewer if the file ends first. If it fails, the window holds a part of the file.
+    /// Fills the window with `size` bytes of the file from an offset on, and with up to `prefetch` bytes after them,
+    /// fewer if the file ends first. If it fails, the window holds a part of the file.
     ///
     /// It reads only if the window lacks some of these bytes. A read drops the bytes before the offset. If the offset
-    /// isn't within the window, the window begins anew there. A read takes at least a block, up to the file's end, or
-    /// less after skipping long entries, which nobody reads.
+    /// isn't within the window, the window begins anew there. A read takes at least a block, up to the file's end. It
+    /// takes less if it skips long entries.
     pub fn peek<F: FileSystem>(
         &mut self,
         file_system: &F,
@@ -210,7 +210,7 @@ impl Window {
     }
 }
 
-/// Fills the room with the file's bytes from an offset on. A read of fewer bytes is refused: the file has them.
+/// Fills the room with the file's bytes from an offset on. Fails with `UnexpectedEof` if a read returns fewer.
 fn fill<F: FileSystem>(
     file_system: &F,
     source: Source,

@@ -18,7 +18,7 @@ const MIN_RECOVERY_READ_BLOCK_SIZE: u64 = 512;
 /// The most files that an open prefills.
 const MAX_PREFILLED_FILES: usize = 65_536;
 
-/// The settings of a log. `default` returns the usual ones; `sanitize` rejects invalid ones and completes the rest.
+/// The settings of a log. `default` returns the usual ones; `sanitize` rejects faulty ones and completes the rest.
 #[derive(Clone, Debug, Drop, PartialEq, Eq)]
 pub struct Config {
     /// The main directory of log files; an open makes it if it doesn't exist.
@@ -27,9 +27,9 @@ pub struct Config {
     pub spill_dir: Option<String>,
     /// How an open handles damaged files.
     pub recovery_mode: RecoveryMode,
-    /// How many bytes of a file an open reads at a time; at least 512.
+    /// How many bytes of a file an open reads at a time; `sanitize` makes it at least 512.
     pub recovery_read_block_size: ReadableSize,
-    /// How many workers read files at an open; at least one.
+    /// How many workers read files at an open; `sanitize` makes it at least one.
     pub recovery_threads: usize,
     /// Without effect.
     pub bytes_per_sync: Option<ReadableSize>,
@@ -40,7 +40,7 @@ pub struct Config {
     /// The size of Append above which a purge takes files from it.
     pub purge_threshold: ReadableSize,
     /// The size of Rewrite above which a purge may rewrite it. By default a tenth of `purge_threshold`, but at least
-    /// one file.
+    /// `target_file_size`.
     pub purge_rewrite_threshold: Option<ReadableSize>,
     /// The share of garbage, in thousandths, above which a purge rewrites Rewrite.
     pub purge_rewrite_garbage_ratio: u64,
@@ -50,7 +50,8 @@ pub struct Config {
     pub enable_log_recycle: bool,
     /// Whether an open prefills files with zeros for later use.
     pub prefill_for_recycle: bool,
-    /// How many bytes of such files there are at most; by default `purge_threshold`.
+    /// Limits how many such files there are: one and a half times as many as fit into this many bytes. By default
+    /// `purge_threshold`.
     pub prefill_limit: Option<ReadableSize>,
 }
 
@@ -85,8 +86,10 @@ impl Config {
 
     /// The settings in a TOML text; an absent key has its usual value, and unknown keys are ignored (`dropped_keys`). A
     /// size is a number of bytes or a text as `ReadableSize` reads it. The garbage ratio is a number of thousandths, or
-    /// a fraction from 0.0 to 1.0 of at most three decimals. If the text isn't TOML, fails with an invalid argument; if
-    /// a value is wrong, the invalid argument names the first such key.
+    /// a fraction from 0.0 to 1.0 of at most three decimals.
+    ///
+    /// Fails with `InvalidArgument` if the text isn't TOML. If values are wrong, the `InvalidArgument` names the first
+    /// such key, in the order of the fields. Also fails with `Memory`.
     pub fn from_toml(alloc: Global, text: &str) -> Result<Config>
         ensures { GivesSettingsOf result text.now }
     {
@@ -98,7 +101,8 @@ impl Config {
     }
 
     /// The keys of a TOML text that `from_toml` ignores, in the order of their bytes: those of raft-engine that this
-    /// log doesn't have, and others, as misspelled ones. If the text isn't TOML, fails with an invalid argument.
+    /// log doesn't have, and others, such as misspelled ones. Fails with `InvalidArgument` if the text isn't TOML, or
+    /// with `Memory`.
     pub fn dropped_keys(alloc: Global, text: &str) -> Result<Vec<String>>
         ensures { GivesDroppedKeys result text.now }
     {
@@ -110,8 +114,8 @@ impl Config {
     }
 
     /// The settings as TOML, which `from_toml` reads as the same settings: each key that has a value. A size of 2^63 or
-    /// more, for which TOML has no number, is a text. Any other such number fails with an invalid argument that names
-    /// its key.
+    /// more, for which TOML has no number, is a text. Any other such number fails with `InvalidArgument`, which names
+    /// its key. Also fails with `Memory`.
     pub fn to_toml(&self, alloc: Global) -> Result<String>
         ensures ok { IfOk result (λ text. SaysSettings (string_bytes text) (settings_of self.now)) }
         ensures rows { IfOk result (λ text. SaysRows (string_bytes text) (rows_of (settings_of self.now))) }
@@ -124,8 +128,8 @@ impl Config {
         }
     }
 
-    /// Rejects invalid settings with their first fault, in the order of `ConfigFault`, and leaves them unchanged.
-    /// Otherwise completes them, and warns of settings without effect.
+    /// Completes sound settings, and warns of settings without effect. Fails with `Other` for the first fault, in the
+    /// order of `ConfigFault`, or with `Memory` if there is no memory for that error. Then the settings are unchanged.
     pub fn sanitize<L: Log>(&mut self, rt: &L, alloc: Global) -> Result<()>
         ensures ok { OnOk result (HasNoFault (settings_of self.old)) }
         ensures whole { OnOk result (settings_of self.new ≡ sanitized (settings_of self.old)) }
@@ -140,7 +144,8 @@ impl Config {
         Ok(())
     }
 
-    /// How many files are kept for recycling.
+    /// How many files Append may have if a purge keeps one for recycling: its live files and the kept ones together. 0
+    /// if files can't be recycled, or if `purge_threshold` is below `target_file_size`.
     pub fn recycle_capacity(&self) -> usize
         ensures { result ≡ recycle_capacity (settings_of self.now) }
     {
@@ -151,7 +156,8 @@ impl Config {
         }
     }
 
-    /// How many files an open prefills with zeros.
+    /// How many files an open prefills with zeros, at most. 0 if it may not prefill, or if `prefill_limit` is absent or
+    /// below `target_file_size`.
     pub fn prefill_capacity(&self) -> usize
         ensures { result ≡ prefill_capacity (settings_of self.now) }
     {
@@ -223,7 +229,7 @@ impl Config {
         }
     }
 
-    /// How many files an open prefills with zeros once the settings are complete.
+    /// How many files an open prefills with zeros, at most, once the settings are complete.
     fn files_to_prefill(&self) -> usize
         ensures { result ≡ prefill_capacity (sanitized (settings_of self.now)) }
     {
@@ -285,7 +291,7 @@ impl Config {
     }
 }
 
-/// One and a half times as many files as fit into so many bytes.
+/// One and a half times as many files as fit into so many bytes, at most 2^32 - 1.
 fn files_within(limit: u64, target: u64) -> usize
     ensures { result ≡ files_within limit target }
 {

@@ -6,17 +6,17 @@ use std::fmt;
 /// What may be wrong with settings, in the order in which it is reported.
 #[derive(Clone, Copy, Debug, PartialEq, Eq)]
 pub enum ConfigFault {
-    /// A purge would begin before a file is full.
+    /// The threshold of a purge is below the target size of a file.
     PurgeBelowTarget,
-    /// Files would have no size.
+    /// The target size of a file is 0.
     NoTargetSize,
-    /// The spill directory is the directory, or one of the two has the path of a log file in the other.
+    /// The spill directory is the main one, or one of the two has the path of a log file in the other.
     DirectoriesClash,
     /// Files of a format without signatures can't be recycled.
     RecycleUnsigned,
     /// Files are prefilled for recycling, but recycling is off.
     PrefillWithoutRecycle,
-    /// An open would prefill more than 65,536 files.
+    /// An open would be allowed to prefill more than 65,536 files.
     TooManyPrefilled,
 }
 

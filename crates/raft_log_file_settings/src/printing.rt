@@ -24,7 +24,8 @@ pub enum Entry<'a> {
     Switch(bool),
 }
 
-/// The settings as a table. A number of 2^63 or more fails with its key.
+/// The settings as a table. Fails with `InvalidArgument` for a number of 2^63 or more, which names its key, or with
+/// `Memory`.
 pub fn to_table(alloc: Global, config: &Config) -> Result<Table>
     ensures ok { IfOk result (λ table. HasRows (rows_of (settings_of config.now)) (table_view table)) }
     ensures fits { SizesFit (settings_of config.now) }

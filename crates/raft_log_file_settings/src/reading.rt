@@ -46,7 +46,7 @@ fn ratio_of(value: &Value) -> Option<u64>
     }
 }
 
-/// How many thousandths a fraction has, if it is the float nearest to 0 to 1,000 of them.
+/// How many thousandths a fraction has, if it is the float nearest to that number of them, from 0 to 1,000.
 fn thousandths_in(fraction: f64) -> Option<u64>
     ensures { result ≡ thousandths_up_to 1000 fraction }
 {
@@ -227,7 +227,7 @@ fn maybe_text_at<'a>(
     }
 }
 
-/// The error that names a key, or `Memory`. For the garbage ratio it goes on with the value.
+/// The error that names a key, or `Memory`. For the garbage ratio its text also has the value.
 fn wrong_value(alloc: Global, key: &str, value: &Value) -> Error
     ensures { NamesKey result key.now }
 {

@@ -1,6 +1,7 @@
 //! How a recovery handles damaged files.
 
-/// How a recovery handles damaged files.
+/// How a recovery handles damaged files. In every mode, an open fails if a read fails, or at a foreign record: a whole
+/// one with a compression that isn't read.
 #[derive(Clone, Copy, Debug, PartialEq, Eq)]
 pub enum RecoveryMode {
     /// Any damage fails the open.

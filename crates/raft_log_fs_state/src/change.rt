@@ -24,7 +24,7 @@ pub enum Change {
     },
     /// Extends a shorter file with zeros.
     Growth {
-        /// The file's size then, in bytes.
+        /// The size in bytes to which the file is extended; a longer file stays as it is.
         size: usize,
         /// How many zeros of a failed growth were not added.
         rest: usize,
@@ -38,7 +38,7 @@ pub struct Stamped {
     pub stamp: u64,
     /// What is changed.
     pub change: Change,
-    /// How many bytes the change wrote. They are in the content after it.
+    /// How many bytes the change wrote; 0 unless it is a write. They are in the content after it.
     pub length: usize,
     /// What the change replaced.
     pub former: Former,

@@ -15,7 +15,7 @@ pub enum Remainder {
         /// How many bytes of the next one.
         bytes: usize,
     },
-    /// What is said for each; those past the list are lost.
+    /// What each piece says of its change; changes past the end of the list are lost.
     Pieces(Vec<Piece>),
 }
 
@@ -26,6 +26,6 @@ pub enum Piece {
     Keep,
     /// Nothing.
     Lose,
-    /// Other bytes in place of a write's, at most as many. A truncation or an allocation is kept whole.
+    /// Other bytes in place of a write's, at most as many. A truncation or a growth is kept whole.
     Bytes(Vec<u8>),
 }

@@ -63,14 +63,14 @@ impl Storage {
         }
     }
 
-    /// What is at a path, if there is something.
+    /// What is at a path, or `None` if nothing is.
     pub fn node(&self, path: &str) -> Option<Node>
         ensures { result ≡ node_at self.now path.now }
     {
         self.paths.get(path).copied()
     }
 
-    /// The node number of the file at a path.
+    /// The node number of the file at a path, or `None` if there is no file.
     pub fn file(&self, path: &str) -> Option<usize>
         ensures { result ≡ file_named (node_at self.now path.now) }
     {
@@ -80,7 +80,7 @@ impl Storage {
         }
     }
 
-    /// Whether a file exists.
+    /// Whether the file with this node number exists.
     pub fn has(&self, id: usize) -> bool
         ensures { result ≡ is_some (held_of self.now.files.items id) }
     {
@@ -130,7 +130,7 @@ impl Storage {
         0
     }
 
-    /// The names of the files in a directory. Fails only if memory runs out.
+    /// The names of the files in a directory, in the order of their bytes. Fails only if memory runs out.
     pub fn list(&self, directory: &str) -> Result<Vec<String>, AllocError>
         ensures names { IfOk result (λ names.
             ListsNames directory.now self.now.paths.entries (map string_bytes names.items)) }
@@ -145,7 +145,7 @@ impl Storage {
         Ok(names)
     }
 
-    /// The storage that a crash leaves. Fails only if memory runs out.
+    /// The storage that a crash leaves, as `what` chooses: all its bytes are synced. Fails only if memory runs out.
     pub fn left(&self, what: &Remainder) -> Result<Storage, AllocError>
         requires { IsStorageSound self.now }
         ensures contents { IfOk result (IsLeftBy what.now self.now) }
@@ -164,7 +164,7 @@ impl Storage {
         })
     }
 
-    /// Writes into a file that exists, with zeros in a gap. Nothing is written if it fails:
+    /// Writes into a file that exists, with zeros in a gap. `free` is in bytes. Nothing is written if it fails:
     /// - `StorageFull`: the file would reach 2^63 bytes, or grow by more than `free`.
     /// - `OutOfMemory`: memory ran out.
     pub fn write(
@@ -198,8 +198,8 @@ impl Storage {
             .map_err(|_| ErrorKind::OutOfMemory)
     }
 
-    /// Writes the first `count` bytes of a write that fails, into a file that exists; the others count as asked for. If
-    /// it fails, nothing is written:
+    /// Writes the first `count` bytes of a write that fails, into a file that exists. The change keeps the others as
+    /// its rest. If it fails, nothing is written:
     /// - `StorageFull`: the whole write would make the file reach 2^63 bytes, or grow by more than `free`.
     /// - `OutOfMemory`: memory ran out.
     pub fn write_front(
@@ -235,7 +235,8 @@ impl Storage {
             .map_err(|_| ErrorKind::OutOfMemory)
     }
 
-    /// Truncates a file that exists to a size in bytes. Fails only with `OutOfMemory`.
+    /// Truncates a file that exists to a size in bytes; a shorter file keeps its bytes. Fails only with `OutOfMemory`;
+    /// then nothing changes.
     pub fn shorten(&mut self, id: usize, size: usize) -> Result<(), ErrorKind>
         requires there { (held_of self.old.files.items id ≡ None) → ⊥ }
         requires whole { IsStorageSound self.old }
@@ -279,8 +280,8 @@ impl Storage {
             .map_err(|_| ErrorKind::OutOfMemory)
     }
 
-    /// Notes a growth that fails of a file that exists: of the zeros up to `size`, none is added. Fails only with
-    /// `OutOfMemory`.
+    /// Adds a failed growth to the changes of a file that exists: of the zeros up to `size`, none is added. `size` is
+    /// below 2^63. Fails only with `OutOfMemory`; then nothing changes.
     pub fn fail_to_grow(&mut self, id: usize, size: usize) -> Result<(), ErrorKind>
         requires there { (held_of self.old.files.items id ≡ None) → ⊥ }
         requires short { size < file_limit }
@@ -298,8 +299,7 @@ impl Storage {
         }
     }
 
-    /// Reserves memory for a change after which a file that exists has `size` bytes. If it fails, that is why the
-    /// change would fail:
+    /// Reserves memory for a change after which a file has `size` bytes. Changes nothing. It fails as the change would:
     /// - `StorageFull`: `size` is 2^63 or more.
     /// - `OutOfMemory`: memory ran out.
     pub fn make_room(&mut self, id: usize, size: usize) -> Result<(), ErrorKind>
@@ -344,8 +344,8 @@ impl Storage {
         Ok(())
     }
 
-    /// Makes a file's bytes durable, in time linear in the number of its changes. It may fail for lack of memory,
-    /// though the code asks for none now.
+    /// Makes the bytes of a file that exists durable, in time linear in the number of its changes. It may fail for lack
+    /// of memory, though the code asks for none now.
     pub fn flush(&mut self, id: usize) -> Result<(), AllocError>
         requires there { (held_of self.old.files.items id ≡ None) → ⊥ }
         requires whole { IsStorageSound self.old }
@@ -357,8 +357,8 @@ impl Storage {
         Ok(())
     }
 
-    /// Adds an empty file under a new name in a directory that exists. Its node number is the number of files ever
-    /// created. Fails only if memory runs out.
+    /// Adds an empty file under a new name in a directory that exists. Its node number is the number of files created
+    /// before it. Fails only if memory runs out; then nothing changes.
     pub fn add_file(&mut self, path: &str) -> Result<(), AllocError>
         requires free { node_at self.old path.now ≡ None }
         requires home { HasDirectory path.now (contents_of self.old) }
@@ -387,7 +387,7 @@ impl Storage {
         Ok(())
     }
 
-    /// Deletes a name and its file.
+    /// Deletes a name and its file, with the file's unsynced changes.
     pub fn remove_file(&mut self, path: &str, id: usize)
         requires is { node_at self.old path.now ≡ Some (Node.File id) }
         requires whole { IsStorageSound self.old }
@@ -398,8 +398,8 @@ impl Storage {
         self.drop_file(id);
     }
 
-    /// Renames a file to a path whose directory exists. Another file at that path is deleted. Fails only if memory runs
-    /// out.
+    /// Renames a file to a path whose directory exists, and at which there is no directory. Another file at that path
+    /// is deleted. Fails only if memory runs out; then nothing changes.
     pub fn rename_file(&mut self, from: &str, to: &str, id: usize) -> Result<(), AllocError>
         requires is { node_at self.old from.now ≡ Some (Node.File id) }
         requires apart { node_at self.old to.now ≡ Some Node.Directory → ⊥ }
@@ -460,7 +460,7 @@ impl Storage {
     }
 }
 
-/// The file's name in a directory, if the path is that of a file there.
+/// The file's name in a directory, or `None` if the path isn't that of a file there.
 pub fn child<'a>(directory: &str, path: &'a str, node: Node) -> Option<&'a str>
     ensures { TellsChild directory.now path.now node result }
 {

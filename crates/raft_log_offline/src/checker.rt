@@ -15,8 +15,9 @@ use std::collections::BTreeMap;
 pub use telling::Finding;
 pub(crate) use telling::join_findings;
 
-/// Reads the batches of a queue, one after another. For each group it keeps where its runs begin and end, and the
-/// first hole between them. It declines a batch only for lack of memory, and may then only be dropped.
+/// Reads the batches of a queue, one after another. For each group it keeps the index at which its first run begins,
+/// that at which its last one ends, and the first hole between runs. It declines a batch only for lack of memory, and
+/// may then only be dropped.
 #[derive(Drop)]
 pub struct ConsistencyChecker {
     alloc: Global,

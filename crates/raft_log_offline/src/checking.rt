@@ -24,15 +24,15 @@ struct CheckedQueues {
     rewrite: ConsistencyChecker,
 }
 
-/// Checks the log of these settings for holes. A run of entries has a hole after it if the next run starts past its
-/// end + 1. Returns the end of the first such run for each group that has one, in Rewrite or else in Append, sorted
-/// by group.
+/// Checks the log of these settings for holes. A run is the entries of one item. It has a hole after it if the next run
+/// of its group in the same queue starts past its end + 1. Returns the end of the first such run for each group that
+/// has one, in Rewrite or else in Append, sorted by group.
 ///
 /// The records are those that an open would read. What is missing before the first run or after the last one isn't
 /// seen. Files with an alignment are read too.
 ///
-/// Opens no engine. As an open does, makes missing directories, and if the settings tolerate damage, truncates
-/// damaged files after their last good record and syncs them.
+/// Opens no engine. As an open does, makes missing directories, and if the settings tolerate damage, truncates damaged
+/// files after their last good record and syncs them. If a queue can't be read, nothing is truncated.
 ///
 /// A file system that has stopped is reported first, as `Io(Other)`, so that no stop is reported as lack of memory.
 /// Then fails:
@@ -40,7 +40,8 @@ struct CheckedQueues {
 /// - as a scan does: with `Other`, `Corruption`, or `Io` of the directories
 /// - with `Io` if a file can't be read, or with `Corruption` or `Codec` for damage that isn't tolerated
 /// - with `Corruption` for a foreign record: it is whole, but has a compression that isn't read
-/// - with `Io` if a file isn't truncated or synced, or with `Memory`
+/// - with `Io` if a file isn't truncated or synced; the damaged ones before it are
+/// - with `Memory`
 pub fn check_log<R: Threads + Log + Sync, F: FileSystem + Sync>(
     rt: &R,
     alloc: Global,
@@ -111,7 +112,7 @@ fn find<R: Log, F: FileSystem>(
     }
 }
 
-/// Checks and sanitizes settings, for a log without a known file.
+/// Checks and completes settings, for a log whose files aren't known yet.
 fn begin<R: Log>(rt: &R, alloc: Global, config: Config) -> Result<DualPipesBuilder>
     ensures ok { IfOk result (IsBegun config) }
     ensures err { IfErr result (IsRefusedFor (settings_of config)) }

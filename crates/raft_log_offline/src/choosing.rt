@@ -8,8 +8,8 @@ use raft_log_record_base::Result;
 use raft_log_recovery_scan::scanning::found::FoundFile;
 use std::alloc::Global;
 
-/// Returns one of these files for each number, in the order of the numbers. If several have one number, it is the one
-/// in the last directory; if two are there, the one whose name has a sign. Fails only with `Memory`.
+/// Returns one of these files for each number, sorted by number. If several have one number, it is the one in the last
+/// directory. If two are there, it is the one whose name has a plus sign. Fails only with `Memory`.
 pub fn one_each(alloc: Global, mut found: Vec<FoundFile>) -> Result<Vec<FoundFile>>
     ensures ok { IfOk result (λ chosen. IsOneEach found.items chosen.items) }
     ensures err { IfErr result (λ error. error ≡ Memory) }
@@ -19,7 +19,7 @@ pub fn one_each(alloc: Global, mut found: Vec<FoundFile>) -> Result<Vec<FoundFil
     Ok(chosen)
 }
 
-/// The files that no other one of their number follows. Fails only with `Memory`.
+/// Of files sorted by number, the last of each number. Fails only with `Memory`.
 fn last_of_each(alloc: Global, found: &[FoundFile]) -> Result<Vec<FoundFile>>
     ensures ok { IfOk result (λ chosen. chosen.items ≡ lasts found.now) }
     ensures err { IfErr result (λ error. error ≡ Memory) }
@@ -33,7 +33,7 @@ fn last_of_each(alloc: Global, found: &[FoundFile]) -> Result<Vec<FoundFile>>
     Ok(chosen)
 }
 
-/// Whether no file follows this place, or one of another number.
+/// Whether the file at this place is the last one, or the next one has another number.
 fn is_next_another(found: &[FoundFile], at: usize) -> bool
     requires { at < length found.now }
     ensures { IsTrue result ↔ IsNextAnother found.now at }

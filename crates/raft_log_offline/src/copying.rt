@@ -13,8 +13,11 @@ use raft_log_record_base::Result;
 use std::alloc::Global;
 use std::io::ErrorKind;
 
-/// Copies a file into a directory, under the name that is built for its number, and syncs it. Returns its path there.
-/// If it fails, the copy may have been begun, and an `Io` has the kind that the file system returned.
+/// Copies a file into a directory that is there, under the name that is built for its number, and syncs it. Returns its
+/// path there.
+///
+/// Fails with `Memory`, or with `Io` and the kind of the call that failed: a read, the creation, the write or the sync.
+/// The copy may be incomplete then. Nothing else changes.
 pub fn copy_file<F: FileSystem>(
     alloc: Global,
     file_system: &mut F,

@@ -16,10 +16,11 @@ use std::alloc::Global;
 use std::io::ErrorKind;
 use std::thread::Threads;
 
-/// Checks the log in a directory for holes, as `check_log` does with the usual settings, under
-/// `TolerateAnyCorruption`. This truncates damaged files.
+/// Checks the log in a directory for holes, as `check_log` does with the usual settings, under `TolerateAnyCorruption`.
+/// This truncates damaged files.
 ///
-/// Fails with `InvalidArgument` if nothing has the path, and then nothing is done; else as `check_log` does.
+/// Fails with `InvalidArgument` if neither a directory nor a file has the path, and then nothing is done. Else it fails
+/// as `check_log` does.
 pub fn consistency_check_with_file_system<R: Threads + Log + Sync, F: FileSystem + Sync>(
     rt: &R,
     alloc: Global,
@@ -67,7 +68,7 @@ fn exists<F: FileSystem>(file_system: &F, path: &str) -> Result<bool>
     Ok(kind == ErrorKind::InvalidInput)
 }
 
-/// The error for a path that nothing has.
+/// The error for a path that nothing has: `InvalidArgument`, or `Memory` if there is no memory for its text.
 fn absent(alloc: Global, path: &str) -> Error
     ensures { TellsAbsence path.now result }
 {

@@ -1,4 +1,4 @@
-//! The items of a log's files, whatever state these are in.
+//! Lists the items of a log's files, also if these are damaged.
 ghost use Rattle.std.specs.Prelude.{codes, IfOk, IfErr};
 ghost use Rattle.raft_log_file_reader.specs.Telling.{TellsAbsent};
 ghost use Rattle.raft_log_offline.specs.Dump.{Dumps, IsNoDump};
@@ -9,9 +9,9 @@ use raft_log_record_base::{Error, Result};
 use std::alloc::Global;
 use std::io::ErrorKind;
 
-/// Returns the items of all log files of a directory, or of the one log file with this path. Rewrite's files come
-/// first, each queue's by their numbers, and each file's items in order. If something in a file can't be read, its
-/// error takes the place of the file's remaining items. Changes nothing.
+/// Returns a reader of the items of all log files of a directory, or of the one log file with this path. Rewrite's
+/// files come first, each queue's by their numbers, and each file's items in order. If something in a file can't be
+/// read, its error takes the place of the file's remaining items. Changes nothing.
 ///
 /// Fails:
 /// - with `InvalidArgument` if neither a directory nor a file has the path, or if the file's name isn't a log file's

@@ -39,15 +39,16 @@ pub struct CopyDetails {
 }
 
 /// Copies a log that no engine has open into a directory, which is made if it is missing. Copies all files of both
-/// queues; of several with one number, the one in the last directory. Copies no reserved file. Syncs each copy.
+/// queues; of several with one number, the one that `one_each` chooses. Copies no reserved file. Syncs each copy.
 /// Nothing of the log changes.
 ///
 /// Before anything is changed, fails:
 /// - as `permit` does
 /// - with `Io` if a directory of the log isn't there
 /// - with `Corruption` if a name in it begins with a number and has more between it and the end
+/// - with `Memory`
 ///
-/// Later it fails with `Io` or `Memory`, and what was copied stays.
+/// Later it fails with `Io` or `Memory`. What was copied stays, and the last copy may be incomplete.
 ///
 /// A file system that has stopped is reported first, as `Io(Other)`, so that no stop is reported as lack of memory.
 pub fn fork<F: FileSystem, L: Log>(
@@ -148,7 +149,7 @@ fn of_kind(alloc: Global, kind: FileKind, files: &[File]) -> Result<Vec<SourceFi
     Ok(sources)
 }
 
-/// Makes a directory if nothing has the path.
+/// Makes a directory unless it is there.
 fn make_target<F: FileSystem>(file_system: &mut F, target: &str) -> Result<()>
     ensures ok { OnOk result
         (MakesIfAbsent target.now (F.disk file_system.old) (F.disk file_system.new)) }

@@ -6,14 +6,15 @@ ghost use Rattle.raft_log_offline.specs.Runs.{run_in, run_of_content};
 
 use raft_log_record_items::{EntryIndex, LogItem, LogItemContent};
 
-/// What is kept of the runs of one group: of consecutive entries in the records of a queue.
+/// What is kept of the runs of one group in the records of a queue. A run is the entries of one
+/// item.
 #[derive(Clone, Copy, Debug, PartialEq, Eq)]
 pub struct GroupRuns {
     /// The index at which the first run begins.
     pub first: u64,
     /// The index at which the last one ends.
     pub last: u64,
-    /// The end of the first run after which the next one starts past the end + 1.
+    /// The last index of the first run after which indexes are missing before the next one.
     pub hole_after: Option<u64>,
 }
 
@@ -41,7 +42,7 @@ impl GroupRuns {
         })
     }
 
-    /// These runs and later ones.
+    /// What is kept of these runs and later ones together.
     pub fn followed_by(self, later: GroupRuns) -> GroupRuns
         ensures { result ≡ followed self later }
     {

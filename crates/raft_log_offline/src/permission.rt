@@ -17,12 +17,15 @@ use raft_log_record_base::{Error, FileId, Result};
 use std::alloc::Global;
 use std::io::ErrorKind;
 
-/// Rejects a copy that may damage the log, or that has no place of its own. Fails with `InvalidArgument`:
+/// Checks whether a log with these settings may be copied into `target`. Changes nothing. `paths` are the log's
+/// directories. Fails with `InvalidArgument`:
 /// - if files are recycled
-/// - if damaged files that aren't the last may be truncated
-/// - if the target is in the log's own directories, or has log files
+/// - if damaged files that aren't the last may be truncated (`TolerateAnyCorruption`)
+/// - if the target is one of the log's directories or inside one
+/// - if the target has files with names of log files or of reserved ones
 ///
-/// Then fails with `Other` for unsound settings.
+/// Then fails with `Other` if the settings have a fault. Also fails with `Io` if the file system has stopped, or with
+/// `Memory`.
 pub fn permit<F: FileSystem, L: Log>(
     rt: &L,
     alloc: Global,
@@ -153,7 +156,7 @@ fn copy_of_spill_dir(alloc: Global, config: &Config) -> Result<Option<String>>
     }
 }
 
-/// An invalid argument, in these words.
+/// `InvalidArgument` with these words, or `Memory` if there is no memory for them.
 fn invalid(alloc: Global, words: &str) -> Error
     ensures { TellsWords words.now result }
 {

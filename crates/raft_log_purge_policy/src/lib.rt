@@ -1,5 +1,5 @@
-//! Which queues a purge collects, and how far. Which groups a purge of Append asks to be compacted, and which it
-//! rewrites itself: first for one group, by its table, then for all.
+//! Which queues a purge collects, and up to which files. Which groups a purge of Append asks its caller to compact, and
+//! which it rewrites itself: first for one group, by its table, then for all.
 #![tactic(auto)]
 
 pub mod picking;

@@ -22,15 +22,15 @@ use std::alloc::{AllocError, Global};
 /// A group with so many entries in Rewrite, or fewer, isn't returned for those.
 const MOST_REWRITTEN: usize = 32;
 
-/// The groups that a purge of Append picks, each list from the least up.
+/// The groups that a purge of Append picks, each list sorted.
 #[derive(Drop)]
 pub struct GroupLists {
-    /// Those that it asks to be compacted.
+    /// Those that it asks its caller to compact.
     pub asked: Vec<u64>,
     /// Those that it rewrites itself.
     pub rewritten: Vec<u64>,
-    /// Those that it returns to its caller: it asks them to be compacted, or Rewrite was rewritten, and they have
-    /// many entries there.
+    /// Those that it returns to its caller. It asks the caller to compact them; or Rewrite was rewritten, and they have
+    /// more than 32 entries there.
     pub answered: Vec<u64>,
 }
 
@@ -49,9 +49,9 @@ impl GroupLists {
     }
 }
 
-/// The groups that a purge returns to its caller, from the least up:
-/// - those that are asked to be compacted, if Append is purged up to watermarks
-/// - those that have many entries in Rewrite, if Rewrite was rewritten
+/// The groups that a purge returns to its caller, sorted:
+/// - those that the caller is asked to compact, if Append is purged up to watermarks
+/// - those that have more than 32 entries in Rewrite, if Rewrite was rewritten
 pub fn answered_groups(
     alloc: Global,
     tables: &MemTables,
@@ -138,7 +138,7 @@ fn answers(watermarks: Option<Watermarks>, restated: bool, table: &MemTable) -> 
     asks_by(watermarks, table) || (restated && MOST_REWRITTEN < table.rewritten_count())
 }
 
-/// Whether a group is asked to be compacted, if Append is purged up to watermarks.
+/// Whether the caller is asked to compact a group, if Append is purged up to watermarks.
 fn asks_by(watermarks: Option<Watermarks>, table: &MemTable) -> bool
     ensures { result ≡ asks_by watermarks table.now }
 {

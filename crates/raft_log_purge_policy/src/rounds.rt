@@ -7,7 +7,7 @@ ghost use Rattle.raft_log_purge_policy.specs.Behind.{round_behind};
 use std::alloc::{AllocError, Global};
 use std::collections::BTreeMap;
 
-/// After so many purges in a row that ask a group to be compacted, it is rewritten.
+/// After so many purges in a row that ask for a group to be compacted, the next one rewrites it.
 pub const ROUNDS_OF_ASKING: u32 = 9;
 
 /// In how many purges in a row each group was asked to be compacted; in none, if it isn't listed.
@@ -19,7 +19,7 @@ pub struct Rounds {
 impl Rounds {
     ghost use Rattle.raft_log_purge_policy.specs.Picking.{count_of};
 
-    /// No group was asked yet.
+    /// No purge asked for a group yet.
     pub fn new(alloc: Global) -> Rounds
         ensures { (g : ℕ) → count_of result g ≡ 0 }
     {
@@ -28,7 +28,7 @@ impl Rounds {
         }
     }
 
-    /// In how many purges in a row a group was asked.
+    /// In how many purges in a row the caller was asked to compact a group.
     pub fn count_of(&self, group: u64) -> u32
         ensures { result ≡ count_of self.now group }
     {
@@ -38,8 +38,8 @@ impl Rounds {
         }
     }
 
-    /// The counts after a purge that asked these groups: one more for each, and none for all others. A group that
-    /// nine purges asked is rewritten, and starts anew. The old counts stay unchanged.
+    /// The counts after a purge that asked for these groups to be compacted: one more for each, and 0 for all others.
+    /// If nine purges in a row had asked for a group before, it starts anew at 0. These counts stay unchanged.
     pub fn behind(&self, alloc: Global, asked: &[u64]) -> Result<Rounds, AllocError>
         ensures { IfOk result (λ next. (g : ℕ) → count_of next g
             ≡ round_behind (list_any (λ k. k == g) asked.now) (count_of self.now g)) }
@@ -51,7 +51,7 @@ impl Rounds {
         Ok(next)
     }
 
-    /// Notes in how many purges in a row a group was asked.
+    /// Sets the count of a group.
     fn note(&mut self, group: u64, count: u32) -> Result<(), AllocError>
         ensures { OnOk result ((g : ℕ) → count_of self.new g
             ≡ (if group == g then count else count_of self.old g)) }
@@ -61,7 +61,7 @@ impl Rounds {
     }
 }
 
-/// In how many purges in a row a group was asked, after it was asked again.
+/// The count of a group after one more purge asked for it.
 fn round_behind(count: u32) -> u32
     ensures { result ≡ round_behind true count }
 {

@@ -1,4 +1,4 @@
-//! Which groups a purge of Append asks to be compacted, and which it rewrites itself.
+//! Which groups a purge of Append asks its caller to compact, and which it rewrites itself.
 
 ghost use Rattle.std.specs.Prelude.{◌≡◌};
 ghost use Rattle.raft_log_record_base.specs.declared.pipe_log.LogQueue.TheVariants.{Append};
@@ -21,14 +21,17 @@ use raft_log_record_base::{FileId, FileSeq, LogQueue};
 /// A group with so many entries is heavy.
 const HEAVY_ENTRIES: usize = 32;
 
-/// Whether a group is asked to be compacted: it is old and heavy.
+/// Whether the caller is asked to compact a group: it is old and heavy.
 pub fn asks(watermarks: &Watermarks, table: &MemTable) -> bool
     ensures { result ≡ asks watermarks.now table.now }
 {
     is_old(watermarks, table) && is_heavy(watermarks, table)
 }
 
-/// Whether a group is rewritten, if so many purges in a row asked it to be compacted before.
+/// Whether a group is rewritten, if `rounds` purges in a row asked for it to be compacted before.
+/// It must have something in Append up to the watermark of rewriting. If the caller is asked to
+/// compact it, nine purges in a row must have asked before. Otherwise it must have fewer than 32
+/// entries in Append up to the watermark.
 pub fn rewrites(watermarks: &Watermarks, rounds: u32, table: &MemTable) -> bool
     ensures { result ≡ rewrites watermarks.now rounds table.now }
 {
@@ -46,7 +49,8 @@ fn is_old(watermarks: &Watermarks, table: &MemTable) -> bool
     is_below(watermarks.compact, table) || 0 < table.rewritten_count()
 }
 
-/// Whether a group has 32 entries or more up to the watermark of rewriting.
+/// Whether a group has 32 entries or more in Rewrite and in Append up to the watermark of
+/// rewriting, together.
 fn is_heavy(watermarks: &Watermarks, table: &MemTable) -> bool
     ensures { result ≡ is_heavy watermarks.now table.now }
 {
@@ -54,7 +58,7 @@ fn is_heavy(watermarks: &Watermarks, table: &MemTable) -> bool
     table.has_at_least_some_entries_before(gate, HEAVY_ENTRIES)
 }
 
-/// Whether a group has fewer than 32 entries in Append up to there.
+/// Whether a group has fewer than 32 entries in Append up to the watermark of rewriting.
 fn is_light(watermarks: &Watermarks, table: &MemTable) -> bool
     ensures { result ≡ is_light watermarks.now table.now }
 {
@@ -63,7 +67,7 @@ fn is_light(watermarks: &Watermarks, table: &MemTable) -> bool
     !table.has_at_least_some_entries_before(gate, count)
 }
 
-/// Whether a group has something in Append up to there.
+/// Whether a group has something in Append up to the watermark of rewriting.
 fn has_to_rewrite(watermarks: &Watermarks, table: &MemTable) -> bool
     ensures { result ≡ has_to_rewrite watermarks.now table.now }
 {

@@ -14,7 +14,7 @@ use std::alloc::{AllocError, Global};
 /// What a purge of Append has to know of all groups before it begins.
 #[derive(Drop)]
 pub struct Survey {
-    /// Up to which files of Append the purge goes.
+    /// Up to which files of Append the purge rewrites.
     pub watermarks: Watermarks,
     /// The groups that it picks.
     pub picked: GroupLists,
@@ -52,8 +52,9 @@ pub fn survey_groups(
     })
 }
 
-/// Returns the survey for a purge of Append up to these watermarks. Reuses the known one if it was made up to them
-/// and Rewrite wasn't rewritten since, else makes a new one.
+/// Returns the survey for a purge of Append up to these watermarks. Reuses the known one if it was made for them and
+/// Rewrite wasn't rewritten since; else makes a new one. The known one must have been made of these tables with these
+/// counts.
 pub fn survey_unless_known(
     alloc: Global,
     tables: &MemTables,

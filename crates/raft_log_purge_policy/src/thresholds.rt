@@ -7,14 +7,16 @@ ghost use Rattle.raft_log_purge_policy.specs.Thresholds.{thresholds_of};
 
 use raft_log_file_settings::Config;
 
-/// The sizes from which on a purge collects the queues of a log.
+/// Above which size, and for Rewrite above which share of garbage, a purge collects the queues of a
+/// log. A queue's size in bytes counts each of its files with the target size.
 #[derive(Clone, Copy, Debug, PartialEq, Eq)]
 pub struct Thresholds {
-    /// Append is purged if it is larger than this, in bytes.
+    /// Append is purged if it is larger than this.
     pub append: u64,
-    /// Rewrite is rewritten if it is larger than this; without it, never.
+    /// Rewrite is rewritten only if it is larger than this; without it, never.
     pub rewrite: Option<u64>,
-    /// Rewrite is rewritten if more than so many thousandths of what was written to it are garbage.
+    /// Rewrite is rewritten only if more than so many thousandths of the entries and values written
+    /// to it are garbage.
     pub garbage_ratio: u64,
 }
 

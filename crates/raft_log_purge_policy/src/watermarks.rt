@@ -1,4 +1,4 @@
-//! Which queues a purge collects, and how far.
+//! Which queues a purge collects, and up to which files.
 
 ghost use Rattle.std.specs.Prelude.{◌≡◌, ◌↔◌, ◌<◌, IsTrue};
 ghost use Rattle.raft_log_machine_laws.specs.Calls.Which.{InAppend};
@@ -23,7 +23,7 @@ const COMPACT_THOUSANDTHS: u32 = 200;
 /// What is in an Append file up to this share of the live range is rewritten.
 const REWRITE_THOUSANDTHS: u32 = 700;
 
-/// Up to which files of Append a purge goes.
+/// The files of Append that a purge compares a group's entries and values with.
 #[derive(Clone, Copy, Debug, PartialEq, Eq)]
 pub struct Watermarks {
     /// What is in files up to this one is rewritten.
@@ -32,7 +32,8 @@ pub struct Watermarks {
     pub compact: FileSeq,
 }
 
-/// Up to which files of Append a purge goes; never up to the last one, which is being written.
+/// Returns the watermarks of a purge of Append: the files after 70 and after 20 percent of its live range, but at most
+/// the last one before the active file.
 pub fn append_watermarks<P: PipeLog>(pipes: &P) -> Watermarks
     ensures { result ≡ watermarks_of (P.shown pipes.now) }
 {
@@ -46,15 +47,15 @@ pub fn append_watermarks<P: PipeLog>(pipes: &P) -> Watermarks
     }
 }
 
-/// Whether a purge collects Append: it has more than one file, and is larger than its threshold.
+/// Whether a purge collects Append: it has more than one file, and is larger than its threshold (`Thresholds`).
 pub fn takes_append<P: PipeLog>(thresholds: &Thresholds, pipes: &P) -> bool
     ensures { IsTrue result ↔ TakesAppend thresholds.now (P.shown pipes.now) }
 {
     is_past(pipes, LogQueue::Append, thresholds.append)
 }
 
-/// Whether a purge rewrites Rewrite: it has more than one file, is larger than its threshold, and has more garbage
-/// than is allowed. Without a threshold it never is.
+/// Whether a purge rewrites Rewrite: it has more than one file, is larger than its threshold, and has more garbage than
+/// the ratio allows. Without a threshold, never.
 pub fn takes_rewrite<P: PipeLog>(thresholds: &Thresholds, stats: &GlobalStats, pipes: &P) -> bool
     ensures { IsTrue result ↔ TakesRewrite thresholds.now stats.now (P.shown pipes.now) }
 {

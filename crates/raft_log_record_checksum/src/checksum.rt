@@ -71,8 +71,8 @@ fn after_bytes(register: u32, bytes: &[u8]) -> u32
     register
 }
 
-/// The register after sixteen bytes. It is xored into the first four, and then each byte counts by itself. The bytes
-/// that don't need the register are computed first.
+/// The register after sixteen bytes. The register is xored into the first four of them, and then each byte counts by
+/// itself. The bytes that don't need the register are computed first.
 #[inline]
 fn after_chunk(register: u32, chunk: &[u8; 16]) -> u32
     ensures { result ≡ crc_after register chunk.now }

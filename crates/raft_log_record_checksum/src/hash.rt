@@ -24,7 +24,7 @@ pub fn hash_u64(number: u64) -> u64
     number ^ (number >> 31)
 }
 
-/// The number that has this hash.
+/// The number below 2^64 that has this hash.
 #[inline]
 pub fn unhash_u64(hash: u64) -> u64
     ensures { (number : ℕ) → number < 2 ^ 64 → hash ≡ hash_of number → result ≡ number }
@@ -34,7 +34,7 @@ pub fn unhash_u64(hash: u64) -> u64
     unfold_down(number, 30)
 }
 
-/// The number whose xor with itself, shifted down by `bits`, is `folded`.
+/// The number whose xor with itself, shifted right by `bits`, is `folded`.
 #[inline]
 fn unfold_down(folded: u64, bits: u32) -> u64
     requires least { 22 ≤ bits }

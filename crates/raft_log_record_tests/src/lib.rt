@@ -1,5 +1,5 @@
-//! Tests of records and files that no case can carry: calls whose allocations fail, and laws, which have nothing to
-//! show. All others are the cases of `raft_log_record_cases`.
+//! Tests of records and files that can't be cases: calls whose allocations fail, and laws, which print nothing. All
+//! other tests are the cases of `raft_log_record_cases`.
 #![tactic(auto)]
 
 #[cfg(test)]

@@ -1,4 +1,4 @@
-//! What a log means.
+//! Each law of the contents of a log once, at concrete types.
 use raft_log_model_laws::{groups, hostile, meaning, renaming, segments, tables};
 use raft_log_record_base::laws::{file_order, no_number_begins_another};
 

@@ -1,4 +1,4 @@
-//! Names, headers and settings that run out of memory: each call fails as such, and succeeds when it is made again.
+//! Names, headers and settings if memory runs out: each call fails with `Memory`, and succeeds when it is made again.
 //! Run it with each allocation failing in turn.
 use raft_log_file_format::{FileNameExt, LogFileFormat, build_reserved_file_name};
 use raft_log_file_settings::Config;

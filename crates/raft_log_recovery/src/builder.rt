@@ -69,10 +69,11 @@ impl DualPipesBuilder {
         &self.config
     }
 
-    /// Finds and opens the log's files. Makes missing directories, and changes no file. Deletes what the file system
-    /// keeps beside files below the first ones; a failure of that is logged.
+    /// Finds and opens the log's files, of each queue those after the last gap in their numbers. Makes missing
+    /// directories, and changes no file. Deletes the metadata that the file system keeps for files below the first
+    /// ones; a failure of that is logged.
     ///
-    /// If it fails, the builder is unchanged. Fails:
+    /// If it fails, the builder is unchanged; directories may have been made. Fails:
     /// - with `Other` if a file has the path of a directory
     /// - with `Corruption` if a name begins with a number and has more between it and the end
     /// - with `Io` if a directory isn't made or the file system has stopped
@@ -104,16 +105,19 @@ impl DualPipesBuilder {
         Ok(())
     }
 
-    /// Reads both queues at once, each by its share of the workers, into machines, Append's and Rewrite's. Then
-    /// truncates the damaged files, Append's first, each after its last good record, and syncs them.
+    /// Reads both queues at once, each by its share of the workers, into machines. Then truncates the damaged files,
+    /// Append's first, each after its last good record, and syncs them. Returns Append's machine and Rewrite's. The
+    /// settings need at least one worker, as `sanitize` leaves them. Without one, files may stay unread, and `finish`
+    /// fails then.
     ///
-    /// Truncates nothing unless all files of both queues could be read and none has an alignment. Fails:
+    /// Truncates nothing unless all files of both queues could be read and none has an alignment. If it fails, the
+    /// builder is unchanged. Fails:
     /// - with `Io` if a read fails, which is never taken for damage
     /// - with `Corruption` or `Codec` for damage that isn't tolerated
     /// - with `Corruption` for a foreign record, in every mode: it is whole, but has a compression that isn't read
-    /// - with a machine's error if it declines a record
+    /// - with a machine's error if it declines batches
     /// - with `InvalidArgument` for an alignment, or with `Memory`
-    /// - with `Io` if a file isn't truncated or synced; those before it are
+    /// - with `Io` if a file isn't truncated or synced; the damaged ones before it are
     pub fn recover<
         R: Threads + Log + Sync,
         F: FileSystem + Sync,
@@ -181,7 +185,7 @@ impl DualPipesBuilder {
     }
 
     /// Reads both queues and truncates the damaged files, as `recover` does; takes files with an alignment too. It is
-    /// for callers that read the log and open no pipe over it: the builder counts no file as recovered.
+    /// for callers that read the log and open no pipe over it: the builder keeps no result.
     ///
     /// Fails as `recover` does, except for an alignment.
     pub fn recover_for_reading<
@@ -237,8 +241,8 @@ impl DualPipesBuilder {
         Ok((append, rewrite))
     }
 
-    /// Truncates the damaged files of both queues, Append's first, and syncs them. If it fails, those before the
-    /// failed one are truncated.
+    /// Truncates the damaged files of both queues, Append's first, and syncs them. If it fails, those before the failed
+    /// one are truncated and synced.
     pub(crate) fn cut_both<F: FileSystem, L: Log>(
         &self,
         rt: &L,
@@ -274,8 +278,9 @@ impl DualPipesBuilder {
         )
     }
 
-    /// Reads one queue by workers into a machine, as `config` requires. Then truncates its damaged files, each after
-    /// its last good record, and syncs them. Fails as `recover` does.
+    /// Reads the queue that `config` names, by as many workers as it says, and returns the machine that has read it.
+    /// Then truncates its damaged files, each after its last good record, and syncs them. Leaves the other queue. Fails
+    /// as `recover` does; the builder is unchanged then.
     pub fn recover_queue<
         R: Threads + Log + Sync,
         F: FileSystem + Sync,
@@ -308,16 +313,17 @@ impl DualPipesBuilder {
         }
     }
 
-    /// Prepares the reserved files. With `prefill_for_recycle`, makes as many as the settings want in addition to the
-    /// files of Append, filled with zeros. Deletes those past that, from the newest on. Call it after `scan` and
-    /// before `finish`.
+    /// Prepares the reserved files. Makes files, filled with zeros, until there are `prefill_capacity` of them, or
+    /// fewer if Append's files and these would be more than `recycle_capacity`. Deletes those past that, from the
+    /// newest on; if a write finds no space, deletes all. A write or a deletion that fails is only logged. Call it
+    /// after `scan` and before `finish`.
     ///
     /// Fails with `Memory` before anything is done, and leaves the builder unchanged. Later it fails:
     /// - with `Io` if a file isn't made
     /// - with `NumberRange` if there is no name for one that is to be made or deleted
     /// - with `Memory`
     ///
-    /// Then those before it were made or deleted, and the builder has none.
+    /// Then files may have been made or deleted, and the builder has no reserved file.
     pub fn initialize_files<F: FileSystem, L: Log>(
         &mut self,
         alloc: Global,
@@ -345,15 +351,15 @@ impl DualPipesBuilder {
         Ok(())
     }
 
-    /// Opens the pipes of the log over its files as they were recovered, Append's first. The file system moves to the
-    /// pipes.
+    /// Syncs all files that were recovered, and those that are kept for recycling. Then opens the log's pipes over
+    /// them, Append's first. The file system moves to the pipes.
     ///
-    /// Before that, syncs all files, so that a stop loses nothing that was recovered. It also syncs those that are
-    /// kept for recycling, so that no record that one may contain counts under its next number.
+    /// Old records in a file kept for recycling don't count under its next number, because the signature differs: in
+    /// version 2, the low 32 bits of the number are part of each record's checksum.
     ///
-    /// If it fails, the file system is returned. Fails with `InvalidArgument` if not all files were recovered, or
-    /// with `Memory`: then nothing was done. Fails with `Io` if a file isn't synced, or as the open of either pipe
-    /// does. Then all that was recovered is still there, and may be scanned again.
+    /// If it fails, the file system is returned. Fails with `InvalidArgument` if not all files were recovered, or with
+    /// `Memory`: then nothing was done. Fails with `Io` if a file isn't synced, or as the open of either pipe does.
+    /// Then another builder may scan the files again.
     pub fn finish<F: FileSystem, L: Log>(
         self,
         alloc: Global,
@@ -407,8 +413,8 @@ impl DualPipesBuilder {
         Ok((append, rewrite))
     }
 
-    /// Syncs the files of both queues, Append's first, and after them those that are kept for recycling. If it fails,
-    /// those before the failed one are synced.
+    /// Syncs the files of both queues, Append's first, and then those that are kept for recycling. If it fails, those
+    /// before the failed one are synced.
     fn sync_all<F: FileSystem>(&self, file_system: &mut F) -> Result<(), ErrorKind>
         ensures ok { OnOk result
             (SyncsLog self.now (F.disk file_system.old) (F.disk file_system.new)) }

@@ -1,4 +1,4 @@
-//! Deletes what a file system keeps beside files that a log no longer has.
+//! Deletes the metadata that a file system keeps for files that a log no longer has.
 
 ghost use Rattle.std.specs.Prelude.{◌≡◌, ◌<◌, ◌^◌, All, IfErr};
 ghost use Rattle.raft_log_record_base.specs.declared.errors.Error.TheVariants.{Memory};
@@ -13,8 +13,8 @@ use raft_log_recovery_scan::scanning::ScannedFiles;
 use raft_log_recovery_scan::scanning::metadata::clear_metadata;
 use std::alloc::Global;
 
-/// Deletes what the file system keeps beside files below the first ones of both queues; a failure is logged. Fails
-/// only with `Memory`; then not all were deleted.
+/// Deletes the metadata that the file system keeps for files below the first ones of both queues; a failure is logged.
+/// Fails only with `Memory`; then some may be left.
 pub(crate) fn clear_old<F: FileSystem, L: Log>(
     alloc: Global,
     rt: &L,
@@ -45,7 +45,7 @@ pub(crate) fn clear_old<F: FileSystem, L: Log>(
     )
 }
 
-/// Deletes what the file system keeps beside files of a kind below the first one of these.
+/// Deletes the metadata that the file system keeps for files of a kind below the first one of these.
 fn clear_below<F: FileSystem, L: Log>(
     alloc: Global,
     rt: &L,

@@ -19,9 +19,11 @@ const ROOM: usize = 4096;
 /// How many bytes of what is truncated are searched for a whole record.
 const SEARCHED: usize = 1 << 18;
 
-/// Logs which bytes of a file are truncated, and what is wrong with them. It is a warning if the file has no good
-/// header, or if a whole record is among the first 256 KiB that are truncated. Zeros are no damage: a file that was
-/// grown ahead of its records ends in them after a crash.
+/// Logs which bytes of a file are truncated, and what is wrong with them. Zeros alone are no damage: a file that was
+/// grown ahead of its records ends in them after a crash. Other bytes give a warning in three cases:
+/// - the file has no good header
+/// - a whole record is among the first 256 KiB that are truncated
+/// - the bytes can't be read, or memory runs out
 pub(crate) fn log_cut<F: FileSystem, L: Log>(
     rt: &L,
     alloc: Global,
@@ -74,7 +76,7 @@ fn path_in(alloc: Global, settings: &Config, queue: LogQueue, file: File) -> Res
     layout.file_path(alloc, &file)
 }
 
-/// Whether a file of this size has only zeros from an offset on. If they can't be read, the answer is no.
+/// Whether a file of this size has only zeros from an offset on; `false` if they can't be read.
 fn has_only_zeros<F: FileSystem>(file_system: &F, file: File, offset: usize, size: usize) -> bool {
     let mut room = [0; ROOM];
     for start in (offset..size).step_by(ROOM) {
@@ -126,7 +128,7 @@ fn cause_of(
     }
 }
 
-/// Whether a whole record of this file begins somewhere in these bytes. Zeros at their end aren't looked at.
+/// Whether a whole record of this file begins somewhere in these bytes. No record is sought in the zeros at their end.
 fn holds_record(alloc: Global, tail: &[u8], id: FileId, ending: FileEnding) -> bool {
     let signature = LogFileContext::new(id, ending.format.version).get_signature();
     let len = filled_len(tail);

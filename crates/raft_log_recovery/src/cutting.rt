@@ -1,4 +1,4 @@
-//! Files are truncated after what was read of them.
+//! Damaged files are truncated.
 
 ghost use Rattle.std.specs.Prelude.{◌≡◌, ◌≤◌, length, IfErr, OnOk};
 ghost use Rattle.raft_log_recovery.specs.Cutting.{CutsEach, CutsOne, FailsToCutEach, FailsToCutOne};
@@ -13,8 +13,9 @@ use raft_log_recovery_read::FileEnding;
 use std::alloc::Global;
 use std::io::ErrorKind;
 
-/// Truncates each damaged one of these files of a queue after its last good record, or to nothing if it has no header,
-/// and syncs it, in order. Logs what is truncated. If it fails, those before the failed one are truncated.
+/// Truncates each damaged file of a queue after its last good record, or to nothing if it has no header, and syncs it,
+/// in order. `endings` has the results of reading the first of these files; the others are left. Logs what is
+/// truncated. If it fails, the damaged ones before the failed one are truncated and synced.
 pub fn cut_files<F: FileSystem, L: Log>(
     rt: &L,
     alloc: Global,

@@ -10,8 +10,8 @@ use raft_log_fs::FileSystem;
 use raft_log_record_base::Result;
 use std::alloc::Global;
 
-/// Deletes a file; if the file system fails to, that is logged. Fails if the file has no name, or memory runs out;
-/// then nothing is done.
+/// Deletes a file; if the file system fails to, that is logged. Fails with `NumberRange` if the file's number has no
+/// name, or with `Memory`; then nothing is done.
 fn drop_or_not<G: PipeFormat, F: FileSystem, L: Log>(
     alloc: Global,
     layout: &G,
@@ -34,8 +34,8 @@ fn drop_or_not<G: PipeFormat, F: FileSystem, L: Log>(
     }
 }
 
-/// Deletes these files from the newest on, all but so many of the oldest; continues after a deletion that fails.
-/// Fails if one has no name, or memory runs out; the newer ones were deleted so.
+/// Deletes these files except for the `left` oldest ones, from the newest on; continues after a deletion that fails.
+/// Fails with `NumberRange` if one has no name, or with `Memory`; then deletions of newer ones were tried.
 pub(crate) fn drop_newest<G: PipeFormat, F: FileSystem, L: Log>(
     alloc: Global,
     layout: &G,

@@ -7,8 +7,8 @@ use log::{Log, warn};
 use raft_log_fs::{FileSystem, Handle};
 use std::io::ErrorKind;
 
-/// Writes these bytes into a file again and again, from its start, until it reaches a size. If it fails, the writes
-/// before are done.
+/// Writes these bytes into a file again and again, from its start, until it has at least `size` bytes. If it fails, the
+/// writes before are done.
 fn fill<F: FileSystem>(
     file_system: &mut F,
     handle: Handle,
@@ -28,7 +28,7 @@ fn fill<F: FileSystem>(
     Ok(())
 }
 
-/// Fills a file so, as far as writes succeed; a failure is logged. Returns whether there was no space.
+/// Fills a file as `fill` does; a write that fails is logged. Returns whether there was no space.
 pub(crate) fn fill_or_not<F: FileSystem, L: Log>(
     rt: &L,
     file_system: &mut F,

@@ -17,7 +17,7 @@ use raft_log_recovery_read::FileEnding;
 use std::alloc::Global;
 use std::collections::VecDeque;
 
-/// The pipe that the settings want for a queue without a known file. Fails only with `Memory`.
+/// The pipe that the settings want for a queue, without files yet. Fails only with `Memory`.
 pub(crate) fn wanted_pipe(alloc: Global, config: &Config, queue: LogQueue) -> Result<FoundPipe>
     ensures ok { IfOk result (IsWantedAs queue config.now) }
     ensures err { IfErr result (λ error. error ≡ Memory) }
@@ -72,7 +72,7 @@ pub(crate) fn recovered_pipe(wanted: FoundPipe, read: RecoveredQueue, kept: Vec<
     }
 }
 
-/// How far the last file was read, if there is one.
+/// The offset up to which the last file was read, if there is a file and it has a header.
 fn end_of_last(endings: &[FileEnding]) -> Option<usize>
     ensures { result ≡ end_of_last endings.now }
 {
@@ -92,7 +92,7 @@ fn set_formats(files: &mut [File], endings: &[FileEnding])
     }
 }
 
-/// The error if files weren't recovered.
+/// The error if files weren't recovered: `InvalidArgument`, or `Memory` if there is no memory for its text.
 pub(crate) fn unread(alloc: Global) -> Error
     ensures { TellsUnread result }
 {

@@ -1,5 +1,5 @@
-//! Scans and recovers a directory that no engine has open. Workers read both queues, nothing is truncated before all
-//! could be read, and the files that the settings want are prepared for later records.
+//! Scans and recovers a log's directories that no engine has open. Workers read both queues, and nothing is truncated
+//! before all files could be read. Then the files that the settings want are made for later records.
 #![tactic(auto)]
 
 pub mod builder;

@@ -13,8 +13,8 @@ use raft_log_fs::{FileSystem, Handle, Permission};
 use raft_log_record_base::{Error, FileSeq, Result};
 use std::alloc::Global;
 
-/// Makes a file under the reserved name of a number, in the first directory with room for it. Fills it with zeros, as
-/// far as writes succeed. Returns it, and whether there was no space.
+/// Makes a file under the reserved name of a number, in the first directory with room for it, else in the main one.
+/// Fills it with zeros, as far as writes succeed. Returns it, and whether there was no space.
 ///
 /// Fails with `Memory`, or with `NumberRange` if there is no such name: then nothing is done. Fails with `Io` if its
 /// creation fails.
@@ -49,8 +49,8 @@ fn make_file<G: PipeFormat, F: FileSystem, L: Log>(
     Ok((file, full))
 }
 
-/// Makes so many files with the numbers from one on, and appends them to these. Returns whether there was no space
-/// for one of them. If one fails, those before it are there.
+/// Makes `count` files with the numbers from `first` on, and appends them to `files`. Returns whether there was no
+/// space for one of them. If one fails, those before it are there.
 pub(crate) fn make_files<G: PipeFormat, F: FileSystem, L: Log>(
     alloc: Global,
     layout: &G,

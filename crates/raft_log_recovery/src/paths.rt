@@ -10,7 +10,7 @@ use raft_log_file_settings::Config;
 use raft_log_record_base::Result;
 use std::alloc::Global;
 
-/// The directories in the settings, the main one first. Fails only with `Memory`.
+/// The log's directories, the main one first. Fails only with `Memory`.
 pub fn paths(alloc: Global, config: &Config) -> Result<Paths>
     ensures ok { IfOk result (λ paths. map string_bytes paths.items ≡ paths_of config.now) }
     ensures err { IfErr result (λ error. error ≡ Memory) }

@@ -17,15 +17,15 @@ use std::alloc::Global;
 use std::marker::Send;
 use std::thread::{Threads, join};
 
-/// Reads the files of a queue by workers, each a part of them in one of these threads. Joins what they have read, in
-/// the order of the files. Changes nothing; the result says where files are to be truncated. Without a worker no file
-/// is read.
+/// Reads the files of a queue by workers, on `threads`. Each worker reads consecutive files. Joins what they have read,
+/// in the order of the files. Changes nothing; the result says where files are to be truncated. Without a worker no
+/// file is read.
 ///
-/// Fails with `Memory`, or with the error of the first file that isn't read:
+/// Fails with `Memory`, or with the error of the first part of the files that isn't read or joined:
 /// - `Io` if a read fails
 /// - `Corruption` or `Codec` for damage that isn't tolerated
 /// - `Corruption` for a foreign record, in every mode: it is whole, but has a compression that isn't read
-/// - the machine's error if it declines a record
+/// - the machine's error if it declines batches
 pub fn recover_files<F: FileSystem + Sync, M: ReplayMachine + Send, FA: Factory<M>>(
     rt: &(impl Threads + Sync),
     alloc: Global,
@@ -93,7 +93,7 @@ pub(crate) fn recover_files_in_turn<F: FileSystem + Sync, M: ReplayMachine, FA: 
     answer
 }
 
-/// Reads both queues at once, each by its own workers as `recover_files` does: no worker of one queue waits for those
+/// Reads both queues at once, each by its own workers, as `recover_files` does. No worker of one queue waits for those
 /// of the other.
 pub(crate) fn recover_both<
     R: Threads + Sync,

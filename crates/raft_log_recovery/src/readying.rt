@@ -12,15 +12,15 @@ use raft_log_fs::FileSystem;
 use raft_log_record_base::{FileSeq, Result};
 use std::alloc::Global;
 
-/// How many zeros are written at a time, at most.
+/// How many zeros are written at a time, at most: 16 MiB.
 const PREFILL_BUFFER_SIZE: usize = 16777216;
 
-/// Makes files under reserved names after these, filled with zeros up to a size, until there are as many as are
-/// wanted. Deletes the newest of those past that; if there is no space for filling one, deletes all. A write or a
-/// deletion that fails is only logged.
+/// Makes files under reserved names after `files`, filled with zeros up to `size` bytes, until there are `wanted`.
+/// Deletes the newest of those past that; if a write finds no space, deletes all. Returns the files that are left. A
+/// write or a deletion that fails is only logged.
 ///
-/// Fails with `Io` if a file isn't made, with `NumberRange` if one to be made or deleted has no name, or with
-/// `Memory`. If it fails, those before it are made or deleted.
+/// Fails with `Io` if a file isn't made, with `NumberRange` if one to be made or deleted has no name, or with `Memory`.
+/// Then files before it may have been made or deleted.
 pub fn ready_reserved<G: PipeFormat, F: FileSystem, L: Log>(
     alloc: Global,
     layout: &G,
@@ -43,7 +43,7 @@ pub fn ready_reserved<G: PipeFormat, F: FileSystem, L: Log>(
     Ok(files)
 }
 
-/// Makes files after these until there are as many as are wanted. Returns whether there was no space for one.
+/// Makes files after these until there are `wanted`. Returns whether a write found no space.
 fn make_missing<G: PipeFormat, F: FileSystem, L: Log>(
     alloc: Global,
     layout: &G,
@@ -77,7 +77,7 @@ fn make_missing<G: PipeFormat, F: FileSystem, L: Log>(
     )
 }
 
-/// How many files are kept of those that are wanted: none if there was no space for one.
+/// How many files are kept: as many as are wanted, or none if a write found no space.
 fn kept_of(full: bool, wanted: usize) -> usize
     ensures { result ≡ kept_of full wanted }
 {
@@ -94,7 +94,7 @@ fn zeros(alloc: Global, size: usize) -> Result<Vec<u8>>
     Ok(bytes)
 }
 
-/// The number after that of the last of these files, or the greatest that there is.
+/// The number after that of the last of these files, at most 2^64 - 1; the first number if there is none.
 fn next_number(files: &[File]) -> FileSeq
     ensures { result ≡ next_number files.now }
 {

@@ -24,7 +24,7 @@ use std::thread::Threads;
 pub struct RecoveredQueue {
     /// The files.
     pub files: Vec<File>,
-    /// What each reads as; empty before they were read.
+    /// The result of reading each file; empty before they were read.
     pub endings: Vec<FileEnding>,
 }
 
@@ -47,16 +47,18 @@ impl RecoveredQueue {
         self.endings.len() == self.files.len()
     }
 
-    /// Reads the files by workers into a machine. Then truncates the damaged ones, each after its last good record,
-    /// and syncs them, in order. The log says what is truncated, with paths of the directories in `settings`.
+    /// Reads the files by workers, and returns the machine that has read them. Then truncates the damaged ones, each
+    /// after its last good record, and syncs them, in order. Logs what is truncated, with paths of the directories in
+    /// `settings`.
     ///
-    /// Truncates nothing unless all could be read and none has an alignment. Fails:
+    /// Truncates nothing unless all could be read and none has an alignment. If it fails, this queue's results are
+    /// unchanged. Fails:
     /// - with `Io` if a read fails, which is never taken for damage
     /// - with `Corruption` or `Codec` for damage that isn't tolerated
     /// - with `Corruption` for a foreign record, in every mode: it is whole, but has a compression that isn't read
-    /// - with the machine's error if it declines a record
+    /// - with the machine's error if it declines batches
     /// - with `InvalidArgument` for an alignment, or with `Memory`
-    /// - with `Io` if a file isn't truncated or synced; those before it are
+    /// - with `Io` if a file isn't truncated or synced; the damaged ones before it are
     pub fn recover<
         R: Threads + Log + Sync,
         F: FileSystem + Sync,

@@ -10,7 +10,7 @@ use raft_log_record_base::Result;
 use std::alloc::Global;
 
 /// Reads the segments of a queue as `replay_segments` does, but one after the other into one machine, on the caller's
-/// thread. So it needs no threads. Without a worker nothing is read.
+/// thread. Without a worker nothing is read.
 ///
 /// Fails as `replay_segments` does.
 pub fn replay_segments_in_turn<S: ReplaySource, M: ReplayMachine, FA: Factory<M>>(

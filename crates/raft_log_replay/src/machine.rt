@@ -17,18 +17,18 @@ pub trait ReplayMachine: Drop + Sized {
     // Why a machine fails at batches of a queue that it is to read one after the other.
     ghost declines: { LogQueue → List Batch → Error → Type 0 };
 
-    /// Takes the items of a batch that was read in a file.
+    /// Takes the items of a batch that was read in a file. Fails only as `declines` allows.
     fn replay(&mut self, items: Vec<LogItem>, file: FileId) -> Result<()>
         ensures ok { OnOk result (TakesBatch reads file items.items self.old self.new) }
         ensures errors { IfErr result (DeclinesBatch reads declines file items.items self.old) };
 
-    /// Merges a machine that read the next batches of the same queue into this one.
+    /// Merges a machine that read the next batches of the same queue into this one. Fails only as `declines` allows.
     fn merge(&mut self, later: Self, queue: LogQueue) -> Result<()>
         ensures ok { OnOk result (JoinsLater (reads queue) self.old later self.new) }
         ensures errors { IfErr result (DeclinesLater (reads queue) (declines queue) self.old later) };
 }
 
-/// Makes machines, one for each worker.
+/// Makes machines: one for each chunk of a queue, and one into which these are merged.
 pub trait Factory<M: ReplayMachine>: Sync {
     /// A machine that has read nothing. Fails only with `Memory`.
     fn new_target(&self) -> Result<M>

@@ -22,9 +22,10 @@ pub struct ReadSegments<M, E> {
 }
 
 /// Reads the segments of a queue, cut into at most as many chunks as there are workers, each with its own machine. Then
-/// it merges the machines in order: the result has read all segments in order. Without a worker nothing is read.
+/// merges the machines: the result has read all segments in order. Without a worker nothing is read.
 ///
-/// If it fails, it returns the error of the first segment that failed, and nothing else.
+/// Fails with the error of the first chunk that isn't read or merged: a segment can't be read, a machine declines its
+/// batches, or memory ran out. No machine is returned then.
 pub fn replay_segments<S: ReplaySource, M: ReplayMachine + Send, FA: Factory<M>>(
     rt: &(impl Threads + Sync),
     alloc: Global,

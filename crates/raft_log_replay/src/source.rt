@@ -37,7 +37,8 @@ pub trait ReplaySource: Sync {
     fn segment_count(&self) -> usize
         ensures { result ≡ count_of self.now };
 
-    /// Reads a segment's batches into the machine, and returns the segment's ending.
+    /// Reads a segment's batches into the machine, and returns the segment's ending. Fails if the segment can't be
+    /// read, if the machine declines its batches, or with `Memory`.
     fn replay_segment<M: ReplayMachine>(
         &self,
         index: usize,

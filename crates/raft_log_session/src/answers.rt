@@ -15,7 +15,7 @@ pub fn write_answer(text: &mut String, answer: &Answer) -> Result<(), AllocError
     text.push_str("\n")
 }
 
-/// Appends the line of a verdict. If memory runs out, the text is unchanged.
+/// Appends the line of a verdict.
 pub fn write_verdict(text: &mut String, verdict: bool) -> Result<(), AllocError>
     ensures { OnOk result (Gains text.old text.new (verdict_line verdict)) }
 {
@@ -61,7 +61,7 @@ fn write_index(text: &mut String, index: &Option<u64>) -> Result<(), AllocError>
     }
 }
 
-/// Appends entries, parted by commas, or `none`.
+/// Appends entries, separated by commas, or `none`.
 fn write_entries(text: &mut String, entries: &[Vec<u8>]) -> Result<(), AllocError>
     ensures { OnOk result (Gains text.old text.new (list_text (map bytes_text (all_bytes entries.now)))) }
 {
@@ -83,7 +83,7 @@ fn write_more_entries(text: &mut String, entries: &[Vec<u8>]) -> Result<(), Allo
     Ok(())
 }
 
-/// Appends keys with their values, parted by commas, or `none`.
+/// Appends keys with their values, separated by commas, or `none`.
 fn write_pairs(text: &mut String, pairs: &[(Vec<u8>, Vec<u8>)]) -> Result<(), AllocError>
     ensures { OnOk result (Gains text.old text.new (list_text (map pair_text (pairs_of pairs.now)))) }
 {

@@ -8,8 +8,9 @@ use std::alloc::{AllocError, Global};
 /// The most times that a term may be repeated.
 const MOST_TIMES: u64 = 1_048_576;
 
-/// Returns the bytes that a word spells. A term is an even number of hex digits, or a text in single quotes, perhaps
-/// with `*` and how often it is repeated, at most 1,048,576 times.
+/// Returns the bytes that a word spells: those of its terms, which are joined by `+`. A term is an even number of hex
+/// digits, or a text in single quotes without `+` and `*`. `*` and a number after it repeat it, at most 1,048,576
+/// times.
 pub fn read_bytes(alloc: Global, word: &[u8]) -> Result<Bytes, Unread> {
     let mut bytes = Items::new(alloc);
     let mut left = word;
@@ -21,7 +22,7 @@ pub fn read_bytes(alloc: Global, word: &[u8]) -> Result<Bytes, Unread> {
     Ok(bytes)
 }
 
-/// Returns the bytes that each word of a list by commas spells.
+/// Returns the bytes that each word of a list spells. The words are separated by commas, so none has one.
 pub fn read_list(alloc: Global, text: &[u8]) -> Result<Items<Bytes>, Unread> {
     let mut list = Items::new(alloc);
     let mut left = text;
@@ -45,7 +46,8 @@ fn add_term(alloc: Global, bytes: &mut Bytes, term: &[u8]) -> Result<(), Unread>
     Ok(())
 }
 
-/// Returns a term without `*` and what follows, and how often it is repeated.
+/// Returns a term without `*` and what follows, and how often it is repeated; `None` if that isn't a number up to the
+/// most.
 fn split_times(term: &[u8]) -> Option<(&[u8], u64)> {
     let Some((word, count)) = split_at_byte(term, b'*') else {
         return Some((term, 1));

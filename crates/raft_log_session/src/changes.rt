@@ -26,7 +26,7 @@ pub fn read_change(word: &str, words: &mut Words<'_>) -> Result<Option<Change>, 
     Ok(Some(change))
 }
 
-/// `append group=G index=I entries=B,..`: entries of a group, from an index on. None is at index 2^64 - 1.
+/// `append group=G index=I entries=B,..`: entries of a group, from an index on. No entry may have index 2^64 - 1.
 fn read_append(words: &mut Words<'_>) -> Result<Change, Unread> {
     let group = words.number(b" group=")?;
     let first = words.number(b" index=")?;

@@ -48,7 +48,8 @@ fn read_fork(words: &mut Words<'_>) -> Result<SessionEvent, Unread> {
     Ok(Event::Fork { target })
 }
 
-/// `refuse call=N [part=N]`: the call of this number fails, and a write writes so many bytes first.
+/// `refuse call=N [part=N]`: the call of this number fails. If it is a write, it writes the first `part` bytes, by
+/// default none.
 fn read_refuse(words: &mut Words<'_>) -> Result<SessionEvent, Unread> {
     let call = words.number(b" call=")?;
     let part = words.number_if(b" part=")?.unwrap_or(0);
@@ -127,9 +128,12 @@ fn read_purge(word: &str, words: &mut Words<'_>) -> Result<Option<Purge>, Unread
     Ok(Some(kind))
 }
 
-/// `keep=R`: what a crash leaves of the changes that aren't synced. `synced` means none of them, `all` all, and `none`
-/// a list of none. `first changes=N [bytes=N]` means the first ones, and some bytes of the next one. Otherwise it is a
-/// list.
+/// `keep=R`: what a crash leaves of the changes that aren't synced:
+/// - `synced`: none of them
+/// - `all`: all
+/// - `none`: an empty list, so none of them
+/// - `first changes=N [bytes=N]`: the first changes, and the first bytes of the next one
+/// - otherwise a list, separated by commas
 fn read_remainder(words: &mut Words<'_>) -> Result<Remainder, Unread> {
     let alloc = words.alloc;
     let word = words.word(b" keep=")?;
@@ -158,7 +162,7 @@ fn read_first(words: &mut Words<'_>) -> Result<Remainder, Unread> {
     })
 }
 
-/// Returns what a crash leaves of each change, a list by commas.
+/// Returns what a crash leaves of each change, from a list separated by commas.
 fn read_pieces(alloc: Global, list: &[u8]) -> Result<Remainder, Unread> {
     let mut pieces = Vec::new(alloc);
     let mut left = list;

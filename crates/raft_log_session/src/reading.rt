@@ -10,7 +10,8 @@ use raft_log_judge::Batch;
 use raft_log_world::{Call, Event};
 use std::alloc::{AllocError, Global};
 
-/// Reads the session of a text. A line that begins with `#` is a comment, and an empty line means nothing.
+/// Reads the session of a text. A line that begins with `#` is a comment, and an empty line means nothing. Fails at the
+/// first line that can't be read, if changes after the last `write` are left, or if memory runs out.
 pub fn read_session(alloc: Global, text: &[u8]) -> Result<Session, SessionFault> {
     let mut reading = Reading::new(alloc)?;
     let mut left = text;
@@ -90,7 +91,7 @@ impl Reading {
         Ok(())
     }
 
-    /// Reads the settings, if no command came before.
+    /// Reads the settings. Fails if another command came before.
     fn read_settings(&mut self, alloc: Global, text: &[u8]) -> Result<(), Unread> {
         if self.is_begun {
             return Err(Unread::Form);

@@ -21,7 +21,7 @@ pub struct Session {
 /// Why a text is no session.
 #[derive(Clone, Copy, Debug, PartialEq, Eq, Error)]
 pub enum SessionFault {
-    /// The line of this number, counted from 1, has no command.
+    /// The line of this number, counted from 1, doesn't begin with the word of a command.
     #[error("line {0}: unknown command")]
     Unknown(usize),
     /// The line of this number, counted from 1, doesn't have the form of its command.

@@ -8,7 +8,7 @@ use std::alloc::{AllocError, Global};
 /// The directory of the log.
 const DIRECTORY: &str = "log";
 
-/// The keys whose values are numbers, `true` or `false`.
+/// The keys whose values are numbers, `true` or `false`; TOML has these without quotes.
 const PLAIN: [&str; 9] = [
     "recovery-read-block-size",
     "format-version",
@@ -30,7 +30,7 @@ pub fn usual_settings(alloc: Global) -> Result<Config, AllocError> {
 }
 
 /// Returns the settings of a line: the words `KEY=VALUE` after its first one, and the usual settings for all other
-/// keys. Fails for another key, or a wrong value.
+/// keys. Fails with `Form` for a key that sessions don't set, or for a wrong value.
 pub fn read_settings(alloc: Global, text: &[u8]) -> Result<Config, Unread> {
     let mut lines = format!(in alloc; "dir = \"{DIRECTORY}\"\n")?;
     let mut left = text;

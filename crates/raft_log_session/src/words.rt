@@ -9,7 +9,7 @@ use crate::session::Unread;
 use raft_lists::{Bytes, Items};
 use std::alloc::Global;
 
-/// Returns the place of the first space, or the length if there is none.
+/// Returns the position of the first space, or the length if there is none.
 pub fn end_of_word(text: &[u8]) -> usize
     ensures value { result ≡ position_or_len parts_words text.now }
     ensures within { result ≤ length text.now }
@@ -40,7 +40,7 @@ pub fn split_at_byte(text: &[u8], byte: u8) -> Option<(&[u8], &[u8])>
     None
 }
 
-/// Returns the number that a word has in decimal; `None` if it has none below 2^64.
+/// Returns the number that a word is in decimal, perhaps after a plus sign; `None` if it is none below 2^64.
 pub fn read_number(word: &[u8]) -> Option<u64>
     ensures { (n : ℕ) → (result ≡ Some n) ↔ IsNumberWord word.now n }
 {
@@ -51,7 +51,7 @@ pub fn read_number(word: &[u8]) -> Option<u64>
 }
 
 /// Returns the value of the argument with which a text begins, and the text after it. `front` is a space, the
-/// argument's key and `=`. Returns `None` if the text doesn't begin so.
+/// argument's key and `=`. Returns `None` if the text doesn't begin with it.
 #[tactic(auto, unfolding(crate::specs::Words::argument_at))]
 fn split_argument<'a>(text: &'a [u8], front: &[u8]) -> Option<(&'a [u8], &'a [u8])>
     ensures { option_map (λ parts. (parts.0.now, parts.1.now)) result ≡ argument_at front.now text.now }
@@ -61,7 +61,7 @@ fn split_argument<'a>(text: &'a [u8], front: &[u8]) -> Option<(&'a [u8], &'a [u8
 }
 
 /// The arguments of a line that aren't read yet. Each is `KEY=VALUE` after a space. They are read in the order of the
-/// line's form, each by a space, its key and `=`.
+/// line's form. `front` is a space, the key and `=`.
 #[derive(Drop)]
 pub struct Words<'a> {
     /// The allocator for what is read.
@@ -78,7 +78,7 @@ impl<'a> Words<'a> {
         Words { alloc, left: text }
     }
 
-    /// Reads the next argument, if it has this key.
+    /// Reads the next argument if it has this key; otherwise reads nothing.
     pub fn word_if(&mut self, front: &[u8]) -> Option<&'a [u8]>
         ensures value { option_map (λ word. word.now) result
             ≡ option_map (λ parts. parts.0) (argument_at front.now self.old.left.now) }
@@ -90,7 +90,7 @@ impl<'a> Words<'a> {
         Some(value)
     }
 
-    /// Reads the next argument, which must have this key.
+    /// Reads the next argument. Fails if it doesn't have this key.
     pub fn word(&mut self, front: &[u8]) -> Result<&'a [u8], Unread>
         ensures { IfOk result (λ word.
             argument_at front.now self.old.left.now ≡ Some (word.now, self.new.left.now)) }
@@ -138,7 +138,7 @@ impl<'a> Words<'a> {
         read_list(self.alloc, value)
     }
 
-    /// Reads the rest of the line, if it is this.
+    /// Whether the rest of the line is this text; if so, reads it.
     pub fn is_last(&mut self, text: &[u8]) -> bool {
         if self.left != text {
             return false;
@@ -157,7 +157,7 @@ impl<'a> Words<'a> {
     }
 }
 
-/// Returns the number that a word has. Fails if it has none.
+/// Returns the number that a word is in decimal. Fails if it is none below 2^64.
 fn number_in(word: &[u8]) -> Result<u64, Unread>
     ensures { IfOk result (IsNumberWord word.now) }
 {

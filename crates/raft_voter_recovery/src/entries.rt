@@ -17,7 +17,8 @@ use std::alloc::Global;
 /// The most bytes of entries that are read at once, except for one longer entry.
 pub const PIECE_BYTES: usize = 1024 * 1024;
 
-/// Entries of a group from one index on, all below another: at least one, and as many as fit in a piece.
+/// Entries of a group from one index on, all below another: at least one, and as many as fit in a piece. The group must
+/// have these entries. Fails as `read_outlines` does.
 pub fn read_piece<P: PipeLog>(
     alloc: Global,
     engine: &mut LogEngine<P>,

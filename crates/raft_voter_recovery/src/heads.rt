@@ -22,7 +22,7 @@ pub struct Head {
     pub end: u64,
 }
 
-/// Reads what comes before a group's entries; none if the group is empty.
+/// Reads what comes before a group's entries; `None` if the group is empty. Fails as `read_outlines` does.
 pub fn read_head<P: PipeLog>(engine: &LogEngine<P>, group: u64) -> Result<Option<Head>, Unread>
     ensures ok { IfOk result (TellsHead (shows_of P.shown engine.now) group) }
     ensures err { IfErr result (λ cause. IsUnreadFor cause (shows_of P.shown engine.now)) }

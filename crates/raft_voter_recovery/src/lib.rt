@@ -1,7 +1,7 @@
 //! Reads the voters of many groups from the log of an engine that was just opened: their outlines, or whole voters.
 //!
-//! For each group that isn't empty it reads the one key, and the entries in pieces. It writes nothing. If a group holds
-//! something other than a voter, it returns only that group.
+//! For each group that isn't empty it reads the one key, and the entries in pieces. It writes nothing. If a group has
+//! something other than a voter, it fails and names that group.
 #![tactic(auto)]
 
 mod entries;

@@ -17,17 +17,19 @@ use raft_log_engine_core::LogEngine;
 use raft_voter_outline::{Outline, Outlines};
 use std::alloc::Global;
 
-/// The outline of each group's voter, read from the log of an engine that was just opened. Any map that the log may be
-/// means voters, and these are their outlines. It reads the index and term of each entry in pieces, and each block of
-/// entries once. It needs memory only for a piece and for the outlines. There are at most two copies of the outlines,
-/// while they are put into their tree.
+/// The outline of each group's voter, read from the log of an engine that was just opened. If nothing is pending, the
+/// log's contents store voters, and these are their outlines.
+///
+/// It reads the index and term of each entry, in pieces of at most 1,024 entries. It needs memory for the list of
+/// groups, a piece, a block of entries, and the outlines. There are at most two copies of the outlines, while they are
+/// put into their tree.
 ///
 /// Fails with:
 /// - `Foreign` if this group's contents aren't a voter.
 /// - `Engine` if the engine has failed, or failed to read a block of entries.
 /// - `Memory`.
 ///
-/// The engine is unchanged in either case, except for the block that it read last.
+/// Whether it succeeds or fails, the engine is unchanged, except for the block that it read last.
 pub fn read_outlines<P: PipeLog>(
     alloc: Global,
     engine: &mut LogEngine<P>,

@@ -18,8 +18,10 @@ use std::alloc::Global;
 const PIECE_ENTRIES: u64 = 1024;
 
 /// Appends the terms of a group's entries from one index on, all below another, to the outline of its voter. Returns
-/// how many: at least one, and no more than a piece has. The entries' own bytes aren't copied, so a piece takes the
-/// same memory however long they are. If it fails, the outline is of no use.
+/// how many: at least one, and at most 1,024. The group must have these entries. The entries' own bytes aren't copied,
+/// so a piece takes the same memory however long they are.
+///
+/// Fails as `read_outlines` does; then the outline may only be dropped.
 pub fn read_terms_piece<P: PipeLog>(
     alloc: Global,
     engine: &mut LogEngine<P>,

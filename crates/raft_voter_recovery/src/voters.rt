@@ -16,10 +16,10 @@ use raft_voter::Voter;
 use raft_voter_messages::{Entry, Items};
 use std::alloc::Global;
 
-/// The voters in the log of an engine that was just opened, each with its group, in ascending order of group. For any
-/// map that the log may be, these groups hold these voters, and every other group is empty.
+/// The voters in the log of an engine that was just opened, each with its group, in ascending order of group. If
+/// nothing is pending, these groups have these voters, and every other group is empty.
 ///
-/// It fails as [`read_outlines`] does, and leaves the same.
+/// Fails as [`read_outlines`] does. The engine is unchanged, except for the block that it read last.
 ///
 /// [`read_outlines`]: crate::read_outlines
 pub fn read_voters<P: PipeLog>(

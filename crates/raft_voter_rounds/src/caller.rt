@@ -27,8 +27,8 @@ pub struct Caller<L: Opening> {
 }
 
 impl<L: Opening> Caller<L> {
-    /// Returns the answer to a round with these replies: its place and its replies. The claim proves that the history
-    /// has its record there. The book and the share count the record.
+    /// Returns the answer to a round with these replies: its place and its replies. The round has at most 4,096
+    /// requests. The claim proves that the history has its record there. The book and the share count the record.
     pub fn answered(
         self,
         book: &mut Book<L>,
@@ -59,7 +59,8 @@ impl<L: Opening> Caller<L> {
         }
     }
 
-    /// Returns the answer to a round that was cut off for this cause. The book and the share count its record.
+    /// Returns the answer to a round that was cut off for this cause, which is `TooLong` exactly if the round has more
+    /// than 4,096 requests. The book and the share count its record.
     pub fn cut_off(self, book: &mut Book<L>, place: usize, cause: Cause) -> Done<L>
         requires within { book.old.total + 1 < 2 ^ 64 }
         requires cause { may_cut cause self.ticket.count ≡ true }
@@ -104,7 +105,8 @@ impl<L: Opening> Caller<L> {
     }
 }
 
-/// Counts another record, in the book and in a share that has counted so many. Returns how many it has counted now.
+/// Counts another record, in the book and in a share that has counted `turn` of them. Returns how many the share has
+/// counted now.
 fn count<L: Opening>(book: &mut Book<L>, share: &mut Share<L>, turn: u64) -> u64
     requires some { 0 < share.old.parts }
     requires counted { share.old.amount ≡ turn }

@@ -59,8 +59,8 @@ impl Draft {
         let _moved = asked.append(requests);
     }
 
-    /// Returns the record of the round, and the replies for its caller. Both are the first of these lists, and are
-    /// removed from them.
+    /// Returns the record of the round, and the replies for its caller. They have the first requests and replies of
+    /// these queues, which are removed.
     pub fn answered(
         self,
         asked: &mut VecDeque<(u64, Request)>,
@@ -94,9 +94,9 @@ impl Draft {
         (round, Items::from_vec(handed))
     }
 
-    /// Returns the record of the round if it was cut off. Its requests are the first of these, and are removed from
-    /// them. `refused` has the refused places of all rounds that were served together, and this one's first request is
-    /// at place `start`.
+    /// Returns the record of the round if it was cut off. It has the first requests of `asked`, which are removed.
+    /// `refused` has the refused places of all rounds that were served together, and this one's first request is at
+    /// place `start`.
     pub fn cut_off(
         self,
         asked: &mut VecDeque<(u64, Request)>,
@@ -126,7 +126,7 @@ impl Draft {
     }
 }
 
-/// Removes the first items of a queue, so many or all, and returns them in a list that has room for them.
+/// Removes the first `count` items of a queue, or all if it has fewer. Returns them in a list that has room for them.
 fn front<T>(queue: &mut VecDeque<T>, count: usize, room: Vec<T>) -> Vec<T>
     requires empty { room.items ≡ [] }
     requires room { count ≤ vec_capacity room }
@@ -166,8 +166,8 @@ fn is_refused(reply: &Reply) -> bool
     matches!(reply, Reply::Refused)
 }
 
-/// Returns those of these rising places that are in a round of so many requests, whose first one is at place `start`.
-/// They count from there. There must be room for them.
+/// Returns the places in a round of `count` requests whose first one is at place `start`; they count from there. There
+/// must be room for them.
 fn places_within(places: &[usize], start: usize, count: usize, room: Vec<usize>) -> Items<usize>
     requires empty { room.items ≡ [] }
     requires room { length (places_within start count places.now) ≤ vec_capacity room }

@@ -57,7 +57,7 @@ impl<L: Opening> Hall<L> {
         Ok(())
     }
 
-    /// Whether the caller of this round has to wait: another caller leads, and its answer isn't there.
+    /// Whether the caller of this round has to wait: the answer to its round isn't there, and a caller leads.
     pub fn must_wait(&self, ticket: Ticket) -> bool {
         self.is_led && !has_answer(self.done.as_slice(), ticket)
     }
@@ -73,14 +73,14 @@ impl<L: Opening> Hall<L> {
         answer
     }
 
-    /// Removes the merged round that waited longest and returns it.
+    /// Removes the merged round that waited longest and returns it, or `None` if no round waits.
     pub fn next(&mut self) -> Option<MergedRound<L>>
         ensures { self.old.rounds.items ≡ option_to_list result ++ self.new.rounds.items }
     {
         self.rounds.pop_front()
     }
 
-    /// Takes over these answers, unless there is no memory for them, and nobody leads any more.
+    /// Takes over these answers; if there is no memory for them, they stay in `done`. Nobody leads afterwards.
     pub fn take_over(&mut self, done: &mut Vec<Done<L>>)
         ensures { self.new.done.items ++ done.new.items ≡ self.old.done.items ++ done.old.items }
     {

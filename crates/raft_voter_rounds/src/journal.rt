@@ -30,7 +30,7 @@ impl<L: Opening> Journal<L> {
     ghost use Rattle.raft_voter_rounds.specs.Proving.{IsAt};
     ghost use Rattle.raft_voter_rounds.specs.Taking.{HasTaken, TakesKept};
 
-    /// Returns an empty journal, which keeps its records in memory or not.
+    /// Returns an empty journal. It keeps its records in memory if `keeps` is true.
     pub fn new(alloc: Global, history: Keeper<L>, keeps: bool) -> Journal<L>
         requires { history ≡ [] }
         ensures { result.history ≡ [] }
@@ -51,7 +51,7 @@ impl<L: Opening> Journal<L> {
         self.count
     }
 
-    /// Makes room for so many records.
+    /// Makes room for `more` records. Fails if memory runs out, or if the history would have 2^64 records or more.
     pub fn reserve(&mut self, more: usize) -> Result<(), AllocError>
         ensures history { self.new.history ≡ self.old.history }
         ensures room { OnOk result (vec_len self.new.kept + more ≤ vec_capacity self.new.kept) }
@@ -89,8 +89,8 @@ impl<L: Opening> Journal<L> {
         claim
     }
 
-    /// Removes the records from memory and returns them, if they follow those that were taken before: then all records
-    /// were taken. Otherwise nothing changes and none are returned. The history stays.
+    /// Removes the records from memory and returns them if they follow those that were taken before. Then all records
+    /// of the history were taken. Otherwise nothing changes, and none are returned. The history stays.
     pub fn take<R: Wait>(
         &mut self,
         rt: &R,
@@ -137,8 +137,8 @@ impl<L: Opening> Journal<L> {
         }
     }
 
-    /// Returns the records that are kept, and the place of the first. The history has all records that were taken, as
-    /// its first ones.
+    /// Returns the place of the first record that is kept, and the records that are kept. If none is, the place is the
+    /// number of all records. The history has all records that were taken, as its first ones.
     pub fn close<R: Wait>(
         self,
         rt: &R,
@@ -162,7 +162,7 @@ impl<L: Opening> Journal<L> {
         (count - kept.len(), kept)
     }
 
-    /// Returns the claim that no records were taken yet.
+    /// Returns the claim for no records, from which taking begins.
     pub fn none_taken(&mut self, history: &History<L>) -> Taken<L>
         ensures taken { result ≡ [] }
         ensures history { self.new.history ≡ self.old.history }
@@ -172,7 +172,7 @@ impl<L: Opening> Journal<L> {
         Taken::none(self.history.claim(history, 0, none.as_slice()))
     }
 
-    /// Returns the place of the first record that is kept.
+    /// Returns the place of the first record that is kept; if none is, the number of all records.
     pub fn first(&self) -> usize
         ensures { result ≡ length self.now.history - length self.now.kept.items }
     {

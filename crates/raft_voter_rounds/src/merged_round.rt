@@ -9,8 +9,8 @@ use crate::opening::Opening;
 use raft_voter::{MAX_ROUND_REQUESTS, Reply, Request};
 use std::alloc::{AllocError, Global};
 
-/// Rounds that the store serves together, as one round and so with one sync. Also the memory for their replies and
-/// answers. They have at most 4,096 requests, or there is only one round.
+/// Rounds that the store serves together, as one round with one sync. Also the memory for their replies and answers.
+/// They have at most 4,096 requests, or there is only one round.
 #[derive(Drop)]
 pub struct MergedRound<L: Opening> {
     /// The requests of all rounds, in order.
@@ -52,7 +52,8 @@ impl<L: Opening> MergedRound<L> {
         self.parts.is_empty()
     }
 
-    /// Whether a round of so many requests may be added.
+    /// Whether a round of `count` requests may be added: there is no other round, or all have at most 4,096 requests
+    /// together.
     pub fn has_room(&self, count: usize) -> bool
         ensures { result ≡ may_join (length self.now.parts.items) (length self.now.asked.items) count }
     {

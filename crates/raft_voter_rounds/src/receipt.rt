@@ -74,8 +74,8 @@ impl<L: Opening> Receipt<L> {
 /// Why there is no receipt for a round.
 #[derive(Clone, Copy, Debug, PartialEq, Eq, Error)]
 pub enum SharedFault {
-    /// The round was cut off for this cause, and its record is in the journal at this place. If the cause is
-    /// `FileSystem` or `Memory`, each round that was served with it was cut off, too.
+    /// The round was cut off for this cause, and its record is in the journal at this place. Each round that was served
+    /// with it was cut off for the same cause.
     #[error("round {place} cut off: {cause}")]
     Cut {
         /// The place of its record.

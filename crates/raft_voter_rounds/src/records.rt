@@ -18,7 +18,8 @@ use std::collections::VecDeque;
 use std::sync::Wait;
 use std::sync::ledger::Book;
 
-/// Returns the replies for the records and for the callers, which are the same. There must be room for both.
+/// Returns the replies for the records and those for the callers; both are the same. Each is the store's reply, or
+/// `Refused` if the entries of a Read can't be copied for lack of memory. There must be room for both lists.
 pub fn hand_out(
     alloc: Global,
     told: Vec<Reply>,
@@ -50,8 +51,8 @@ fn twice(alloc: Global, reply: Reply) -> (Reply, Reply)
     }
 }
 
-/// Appends the records of rounds with these requests and replies to the journal, which has room for them, and returns
-/// the answers to their callers. There must be room for these too.
+/// Appends the records of rounds with these requests and replies to the journal, and returns the answers to their
+/// callers. Each round has at most 4,096 requests. There must be room for the records and the answers.
 pub fn note_answers<L: Opening, R: Wait>(
     rt: &R,
     history: &History<L>,
@@ -92,9 +93,9 @@ pub fn note_answers<L: Opening, R: Wait>(
     done
 }
 
-/// Appends the records of rounds that were cut off together for this cause to the journal, which has room for them, and
-/// returns the answers to their callers. There must be room for these too. `refused` has the refused places of all
-/// their requests.
+/// Appends the records of rounds that were cut off together for this cause to the journal, and returns the answers to
+/// their callers. If the cause is `TooLong`, each round has more than 4,096 requests; otherwise none has. `refused` has
+/// the refused places of all their requests, rising. There must be room for the records and the answers.
 pub fn note_cuts<L: Opening, R: Wait>(
     rt: &R,
     history: &History<L>,
@@ -136,7 +137,8 @@ pub fn note_cuts<L: Opening, R: Wait>(
     told
 }
 
-/// Returns the answers to the callers of rounds for whose records there was no memory. There must be room for these.
+/// Returns the answers to the callers of rounds for whose records there was no memory: `Memory` for each. There must be
+/// room for them.
 pub fn refuse_all<L: Opening>(parts: Vec<Part<L>>, room: Vec<Done<L>>) -> Vec<Done<L>>
     requires { (room.items ≡ []) × (length parts.items ≤ vec_capacity room) }
     ensures answers { map (λ done. done.answer) result.items

@@ -30,7 +30,7 @@ impl<L: Opening> Model for Taken<L> {
 impl<L: Opening> Taken<L> {
     ghost use Rattle.raft_voter_rounds.specs.Taking.{HasTaken};
 
-    /// Returns the claim that no records were taken yet.
+    /// Returns the claim for no records, from which taking begins.
     pub fn none(claim: Claim<L>) -> Taken<L>
         requires { claim ≡ (0, []) }
         ensures { result ≡ [] }
@@ -49,7 +49,7 @@ impl<L: Opening> Taken<L> {
         self.count
     }
 
-    /// Adds the records of a claim, which follow, to those that were taken.
+    /// Adds the records of a claim, which begin at the first place that wasn't taken.
     pub(crate) fn add(&mut self, history: &History<L>, claim: Claim<L>, more: usize)
         requires follows { claim.0 ≡ length self.old }
         requires more { (more ≡ length claim.1) × (length self.old + more < 2 ^ 64) }

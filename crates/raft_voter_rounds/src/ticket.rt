@@ -2,7 +2,7 @@
 ghost use Rattle.std.specs.Prelude.{◌≡◌};
 ghost use Rattle.std.specs.Bool.{Decides};
 
-/// A seat's next round, named by numbers. No two rounds of a store have the same `number` and `turn`.
+/// A seat's next round, named by numbers. No two rounds in a journal have the same `number` and `turn`.
 #[derive(Clone, Copy)]
 pub struct Ticket {
     /// The number of the seat.

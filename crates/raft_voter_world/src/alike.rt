@@ -4,21 +4,22 @@ ghost use Rattle.raft_voter_world.specs.LawsAlike.{StoresAnswerAlike, StoresAnsw
 
 use raft_voter::RoundService;
 
-/// Suppose two stores serve the same voters and reply to the same rounds, and both refuse only requests out of range.
-/// Then their replies are the same. They serve the same voters afterwards. It doesn't matter what stores they are, or
-/// how they keep their voters.
+/// Suppose two stores serve the same voters and reply to the same rounds, and both refuse exactly the requests out of
+/// range. Then their replies are the same, and they serve the same voters afterwards. The stores may be of different
+/// types.
 pub fn stores_answer_alike<R, S: RoundService<R>, T: RoundService<R>>()
     ensures { StoresAnswerAlike S.service T.service }
 {}
 
-/// A store that refuses exactly the requests out of range is a model of any other store. If the other store refuses
-/// only such requests too, its replies to the same rounds are the model's.
+/// A store that can refuse only the requests out of range, and always refuses these, is a model of any other store. If
+/// the other store refuses exactly these too, it gives the model's replies to the same rounds. Both serve the same
+/// voters afterwards.
 pub fn stores_answer_as_models<R, S: RoundService<R>, T: RoundService<R>>()
     ensures { StoresAnswerAsModels S.service T.service }
 {}
 
-/// The same holds whatever the other store refused. If the model gets just the requests that the store took, its
-/// replies are the store's replies to them.
+/// The same, whatever the other store refused. If the model gets just the requests that the store took, its replies are
+/// the store's replies to them. Both serve the same voters afterwards.
 pub fn stores_answer_taken_as_models<R, S: RoundService<R>, T: RoundService<R>>()
     ensures { StoresAnswerTakenAsModels S.service T.service }
 {}

@@ -12,16 +12,19 @@ use std::alloc::Global;
 use std::thread::Threads;
 
 /// Files that keep the voters of a store while it isn't open. They can be opened and copied, and a close returns them.
-/// A crash of the machine leaves others of them. Calls that change them can be made to fail.
+/// Calls that change them can be made to fail. `crashed` returns what a crash of the machine leaves of them.
 pub trait VoterDisk<R, S: VoterStorage<R>>: Sized {
     ghost use Rattle.raft_voter_world.specs.Stores.{Disk};
 
-    /// Which voters the next open finds, and when that is certain. What calls and crashes do to the files.
+    /// Which voters the next open may find, and when files have no CRC collision. What calls and crashes do to the
+    /// files.
     ghost disk: { Disk S Self };
 
-    /// Opens the store with at least one worker, which may be threads of the runtime; a store that was just opened
-    /// hasn't failed. Fails if memory runs out, the file system fails, or the files can't be read. The error returns
-    /// the files, which may be opened again.
+    /// Opens the store with this many workers, at least one; these may be threads of the runtime. The store hasn't
+    /// failed. It serves voters that the files leave, if these have no CRC collision.
+    ///
+    /// Fails with `Memory`, or with `FileSystem` if a file call fails or the files can't be read. The error returns the
+    /// files, which may be opened again. They leave the same voters, if they have no CRC collision.
     fn open<T: Threads + Sync>(
         self,
         rt: &T,
@@ -36,19 +39,20 @@ pub trait VoterDisk<R, S: VoterStorage<R>>: Sized {
         ensures stands { IfErr result (λ refused. LeavesStanding S.service disk self self refused.files) }
         ensures errors { IfErr result (λ refused. IsFromOutside refused.cause) };
 
-    /// Closes the store, whether it has failed or not.
+    /// Closes the store, whether it has failed or not. Returns its files, which leave the voters that the store left.
     fn close(store: S, rt: &R) -> Self
         ensures closes { disk.closes store result }
         ensures stands { LeavesInFiles S.service disk store result };
 
-    /// Returns what a crash of the machine leaves of these files, with no fault armed. Fails only for lack of memory.
+    /// Returns what a crash of the machine leaves of these files; the disk runs. What is left leaves the same voters,
+    /// if it has no CRC collision. Fails only with `Memory`.
     fn crashed(&self, left: &Left) -> Result<Self, Memory>
         ensures crashes { IfOk result (disk.crashes self.now left.now) }
         ensures stands { IfOk result (λ files. LeavesStanding S.service disk self.now files files) }
         ensures runs { IfOk result (λ files. disk.has_stopped files ≡ false) };
 
-    /// Returns what a crash of the machine leaves of the files below an open store, with no fault armed. Fails only for
-    /// lack of memory.
+    /// Returns what a crash of the machine leaves of the files of an open store; the disk runs. What is left leaves the
+    /// voters that the store left, if it has no CRC collision. Fails only with `Memory`.
     fn crashed_under(store: &S, left: &Left) -> Result<Self, Memory>
         ensures crashes { IfOk result (disk.crashes_under store.now left.now) }
         ensures stands { IfOk result (LeavesUnder S.service disk store.now) }
@@ -66,7 +70,7 @@ pub trait VoterDisk<R, S: VoterStorage<R>>: Sized {
         ensures stands { StaysInFiles S.service disk self.old self.new }
         ensures stopped { disk.has_stopped self.new ≡ disk.has_stopped self.old };
 
-    /// Whether the files have stopped: every later call that changes them fails.
+    /// Whether the disk has stopped.
     fn has_stopped(&self) -> bool
         ensures { result ≡ disk.has_stopped self.now };
 }

@@ -10,8 +10,8 @@ use crate::report::WorldReport;
 use raft_voter::{Items, Memory, Round, Transcript, Voters};
 use std::alloc::Global;
 
-/// A round that was cut off and may have been taken up to some place, which the next open will show. Also the rounds
-/// after it, of which nothing was taken, with their cuts.
+/// A round that was cut off, of which a part may have been taken; the next open shows how far. Also the rounds after
+/// it, of which nothing was taken, with their cuts.
 #[derive(Drop)]
 struct Unsettled {
     round: Round,
@@ -20,7 +20,7 @@ struct Unsettled {
 }
 
 /// The notes of a run: the settled rounds, with the cuts of those that were cut off; the voters after them; the round
-/// that isn't settled, if there is one; and the events that were lost.
+/// that isn't settled, if there is one; and the events that lost voters.
 #[derive(Drop)]
 pub struct Notes {
     alloc: Global,
@@ -50,7 +50,8 @@ impl Notes {
         }
     }
 
-    /// A round got replies: the voters take it.
+    /// Adds a round that got replies; the voters take its requests. Requires that no round is unsettled, and that the
+    /// round's refused places are rising.
     pub fn answered(&mut self, round: Round) -> Result<(), Memory>
         requires none { self.old.unsettled ≡ None }
         requires rising { (high : ℕ) × IsTrue (are_rising 0 high round.refused) }
@@ -62,7 +63,7 @@ impl Notes {
         Ok(())
     }
 
-    /// A round was cut off, and may have been taken up to some place.
+    /// Adds a round that was cut off, and may have been taken up to some place. Requires that no round is unsettled.
     pub fn cut_off(&mut self, round: Round)
         requires none { self.old.unsettled ≡ None }
         ensures { NotesCut self.old round self.new }
@@ -74,7 +75,7 @@ impl Notes {
         });
     }
 
-    /// A round was cut off, and nothing of it was taken.
+    /// Adds a round that was cut off, and of which nothing was taken: its cut is 0.
     pub fn idle(&mut self, round: Round) -> Result<(), Memory>
         ensures { OnOk result (NotesIdle self.old round self.new) }
     {
@@ -92,8 +93,8 @@ impl Notes {
         }
     }
 
-    /// An open shows these voters: the unsettled round was taken up to the least place that fits. If no place fits,
-    /// this event is lost.
+    /// Notes that an open showed these voters: the unsettled round was taken up to the least place that fits. If no
+    /// place fits, this event lost voters, and the cut is 0.
     pub fn show(&mut self, event: usize, shown: Voters) -> Result<(), Memory>
         ensures { OnOk result ((place : Option ℕ) × NotesShown self.old event (world_of shown) place self.new) }
     {
@@ -108,8 +109,9 @@ impl Notes {
         }
     }
 
-    /// Returns the least place up to which taking the unsettled round leads to these voters. If no round is unsettled,
-    /// returns 0 if these are the voters. The voters take the round up to there.
+    /// Returns the least place up to which taking the unsettled round leads to these voters, or `None` if no place
+    /// fits. If no round is unsettled, returns 0 if these are the voters. The voters take the round up to there, or all
+    /// of it.
     fn look_for(&mut self, shown: &Voters) -> Result<Option<usize>, Memory>
         ensures found { IfOk result (IsPlaceFound (cut_of self.old) (world_of shown.now)) }
         ensures rounds { self.new.rounds ≡ self.old.rounds }

@@ -20,8 +20,9 @@ pub enum Opened<S, F> {
     Closed(F),
 }
 
-/// Opens a store over its files with this many workers, unless the disk has stopped. If it stops in the open, a crash
-/// leaves `left`. If the voters can't be read, closes the store again.
+/// Opens a store over its files with this many workers, unless the disk has stopped. If the open succeeds but the disk
+/// stopped in it, returns what a crash leaves, as `left` says. If the voters can't be read, closes the store again. If
+/// the open fails, returns the files.
 pub fn open_files<R: Threads + Sync, S: VoterStorage<R> + Drop, F: VoterDisk<R, S> + Drop>(
     rt: &R,
     alloc: Global,
@@ -41,7 +42,7 @@ pub fn open_files<R: Threads + Sync, S: VoterStorage<R> + Drop, F: VoterDisk<R, 
 }
 
 /// Reads the voters of a store that was just opened, unless the disk stopped in the open. If they can't be read, closes
-/// the store. A later round would otherwise be served by unknown voters.
+/// the store: else it would serve later rounds with unknown voters.
 fn read_store<R, S: VoterStorage<R> + Drop, F: VoterDisk<R, S> + Drop>(
     rt: &R,
     alloc: Global,

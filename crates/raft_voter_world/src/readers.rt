@@ -1,17 +1,20 @@
-//! A run for a reader who checks the premise that there is no CRC collision.
+//! The field `transparent` of a run, for a reader who checks that there was no CRC collision.
 
 ghost use Rattle.raft_voter_world.specs.Readers.{AllGoBy, RunsGoBy};
 
 use crate::{VoterDisk, VoterStorage};
 
-/// Whatever happens, the reader may pick anew at each moment by which knowledge of what is left to check the premise.
-/// Unless there is a CRC collision by that knowledge, each open finds the place of the round that was cut off. Voters
-/// that never fail explain the rounds, and what is left at the end means the voters that they led to.
+/// Suppose a history starts with files that store no voter, and each open finds the least place that fits. The
+/// condition on CRC collisions depends on a proof of what the files leave. After each moment the reader may choose
+/// another such proof.
+///
+/// Without a CRC collision, each open finds a place that fits. Voters that never fail explain the rounds, and can end
+/// as any voters that may be left at the end.
 pub fn all_go_by<R, S: VoterStorage<R>, F: VoterDisk<R, S>>()
     ensures { AllGoBy S.service S.upkeep F.disk }
 {}
 
-/// The same holds for a run: the reader picks the knowledge by which the premise on CRC collisions is checked.
+/// The same holds for each run that starts with files that store no voter.
 pub fn runs_go_by<R, S: VoterStorage<R>, F: VoterDisk<R, S>>()
     ensures { RunsGoBy S.service S.upkeep F.disk }
 {}

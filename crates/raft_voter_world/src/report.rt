@@ -6,12 +6,12 @@ use raft_voter::{Items, Transcript};
 pub struct WorldReport<F> {
     /// Each round, with its requests, refused places and outcome.
     pub transcript: Transcript,
-    /// The place up to which each round that was cut off was taken: the least that fits the voters of the next open. 0
-    /// if no open followed, or if nothing was taken.
+    /// The cut of each round that was cut off: the least place that fits the voters of the next open. It is 0 if no
+    /// place fits, if no later open read voters, or if nothing was taken.
     pub cuts: Items<usize>,
     /// The files, on which no store is open.
     pub files: F,
-    /// The events, counted from 0, whose opens showed voters that don't fit the rounds before, wherever the last one
-    /// was cut. The cut before such an event may be wrong.
+    /// The events, counted from 0, whose open showed voters that fit at no place of the last round that was cut off.
+    /// That round's cut is 0 then, and may be wrong.
     pub lost: Items<usize>,
 }

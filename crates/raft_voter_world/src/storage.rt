@@ -48,7 +48,7 @@ impl<S: Drop, F: Drop> Storage<S, F> {
         }
     }
 
-    /// Returns what a crash of the machine leaves. No store is open then.
+    /// Returns what a crash of the machine leaves of the files. Fails only with `Memory`.
     pub fn crashed<R>(&self, left: &Left) -> Result<F, Memory>
     where
         S: VoterStorage<R>,
@@ -61,7 +61,7 @@ impl<S: Drop, F: Drop> Storage<S, F> {
         }
     }
 
-    /// Serves a round. It is cut off if no store is open. Returns its requests, places and outcome.
+    /// Serves a round. It is cut off if no store is open. Returns its requests, refused places and outcome.
     pub fn serve<R>(
         &mut self,
         rt: &R,

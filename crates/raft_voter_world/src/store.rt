@@ -14,24 +14,29 @@ pub trait VoterStorage<R>: RoundService<R> {
     /// Whether the disk below the store has stopped. What purges do that succeed, and that fail. What armed faults do.
     ghost upkeep: { Upkeep Self };
 
-    /// Whether the store failed: then it serves nothing until it is opened again.
+    /// Whether the store has failed: then it serves nothing until it is opened again.
     fn is_failed(&self) -> bool
         ensures { result ≡ Self.service.is_failed self.now };
 
-    /// Whether the disk below the store has stopped: every later call that changes files fails.
+    /// Whether the disk below the store has stopped.
     fn has_stopped(&self) -> bool
         ensures { result ≡ upkeep.has_stopped self.now };
 
-    /// Returns the voters that it serves: each group that has taken a request, with its voter. Fails if memory runs out
-    /// or a read fails. Changes nothing.
+    /// Returns the voters that the store serves, each with its group. The first one listed for a group counts, and a
+    /// group that isn't listed has a fresh voter. Nothing is promised of the list if the store has failed.
+    ///
+    /// Fails with `Memory` or `FileSystem`. Whether it succeeds or fails, the store serves the same voters afterwards.
     fn voters(&mut self, rt: &R, alloc: Global) -> Result<Vec<(u64, Voter)>, Cause>
         ensures ok { IfOk result (λ voters. TellsVoters Self.service self.old voters.items) }
         ensures stays { StaysAsItWas Self.service self.old self.new }
         ensures stopped { upkeep.has_stopped self.new ≡ upkeep.has_stopped self.old }
         ensures errors { IfErr result IsFromOutside };
 
-    /// Purges its files. Whether it succeeds or fails, no voter changes. If the store fails in it, what it left before
-    /// is still left. Fails with the cause.
+    /// Purges the files. The store serves the same voters afterwards, unless it has failed. Whether the purge succeeds
+    /// or fails, the store leaves the voters that it left before.
+    ///
+    /// Fails with `Failed` if the store had failed before, with `Memory`, or with `FileSystem`: only then the store may
+    /// fail.
     fn purge(&mut self, rt: &R, purge: Purge) -> Result<(), Cause>
         ensures purges { OnOk result (upkeep.purges purge self.old self.new) }
         ensures refuses { IfErr result (λ cause. upkeep.refuses purge cause self.old self.new) }

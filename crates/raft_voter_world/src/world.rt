@@ -23,6 +23,9 @@ use std::thread::Threads;
 
 /// A store of voters and its disk: the storage, the notes of the run so far, and what a stop leaves at the call that
 /// was armed last.
+///
+/// Each event has a method, and `place` is the event's number in the run. If the disk has stopped after an event, a
+/// crash follows at once. A method fails only with `Memory`, and the world is gone then.
 #[derive(Drop)]
 pub struct World<S, F> {
     alloc: Global,
@@ -74,7 +77,8 @@ impl<S: Drop, F: Drop> World<S, F> {
         })
     }
 
-    /// Requests are submitted together: the store serves them, if one is open.
+    /// Submits these requests together. The store serves them; if no store is open, the round is cut off. Requires that
+    /// no round is unsettled if a store is open and hasn't failed.
     pub fn round<R>(
         mut self,
         rt: &R,
@@ -95,7 +99,7 @@ impl<S: Drop, F: Drop> World<S, F> {
         self.fallen()
     }
 
-    /// Purges the store, if one is open.
+    /// Purges the store if one is open. A purge that fails isn't reported.
     pub fn purge<R>(mut self, rt: &R, place: usize, purge: Purge) -> Result<World<S, F>, Memory>
     where
         S: VoterStorage<R>,
@@ -106,7 +110,7 @@ impl<S: Drop, F: Drop> World<S, F> {
         self.fallen()
     }
 
-    /// The machine stops: only what the crash leaves is there, and no store is open.
+    /// Crashes the machine. Of the unsynced changes, only what `left` says remains. No store is open then.
     pub fn crash<R>(self, place: usize, left: Left) -> Result<World<S, F>, Memory>
     where
         S: VoterStorage<R>,
@@ -128,7 +132,7 @@ impl<S: Drop, F: Drop> World<S, F> {
         })
     }
 
-    /// Arms a failure: a later call that changes files fails. 0 means none.
+    /// Arms a failure: the call number `calls` that changes files, counted from here, fails. 0 arms nothing.
     pub fn refuse<R>(mut self, place: usize, calls: u64) -> Result<World<S, F>, Memory>
     where
         S: VoterStorage<R>,
@@ -166,7 +170,8 @@ impl<S: Drop, F: Drop> World<S, F> {
     }
 
     /// Opens the store with this many workers; one that is open is closed first. Notes the voters that it shows. If
-    /// they can't be read, closes the store again.
+    /// they can't be read, closes the store again. If the open fails, no store is open. If the disk had stopped, opens
+    /// nothing.
     pub fn open<R: Threads + Sync>(
         self,
         rt: &R,
@@ -201,7 +206,7 @@ impl<S: Drop, F: Drop> World<S, F> {
         opened.fallen()
     }
 
-    /// Copies the files into a directory, if no store is open.
+    /// Copies the files into a directory if no store is open. A copy that fails isn't reported.
     pub fn fork<R>(mut self, rt: &R, place: usize, target: String) -> Result<World<S, F>, Memory>
     where
         S: VoterStorage<R>,
@@ -212,7 +217,8 @@ impl<S: Drop, F: Drop> World<S, F> {
         self.fallen()
     }
 
-    /// Arms a stop: the disk stops at a later call that changes files, and a crash leaves `left`. 0 means none.
+    /// Arms a stop: the disk stops at the call number `calls` that changes files, counted from here. The crash then
+    /// leaves what `left` says. 0 arms nothing.
     pub fn stop_at<R>(mut self, place: usize, calls: u64, left: Left) -> Result<World<S, F>, Memory>
     where
         S: VoterStorage<R>,

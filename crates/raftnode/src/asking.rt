@@ -40,8 +40,8 @@ pub enum Asked {
 }
 
 impl Asked {
-    /// What the arguments after the program's name request. One that isn't UTF-8 is wrong. Fails only for lack of
-    /// memory.
+    /// What the arguments after the program's name request. If one isn't UTF-8, returns `Others`. Fails only for lack
+    /// of memory.
     pub fn read<R: Env + AllocGlobal>(rt: &R) -> Result<Asked, AllocError> {
         match env::args(rt) {
             Ok(words) => {
@@ -55,7 +55,7 @@ impl Asked {
         }
     }
 
-    /// What these words request. A path is the word, unchanged. Fails only for lack of memory.
+    /// What these words request. A path is one word, unchanged. Fails only for lack of memory.
     pub fn of(words: &[String]) -> Result<Asked, AllocError>
         ensures { IfOk result (Asks (map string_bytes words.now)) }
     {

@@ -1,5 +1,6 @@
 //! A node of Raft voters over a directory. It reads rounds of requests from standard input, as lines of the session
-//! language. It writes the replies to standard output after no crash can lose them. `raftnode --help` prints the usage.
+//! language. It writes a round's replies to standard output once all that the round changed is durable. `raftnode
+//! --help` prints the usage.
 //!
 //! The status is 0 if the input ended and the log is closed, 1 if the log or something else failed, and 2 for wrong
 //! arguments. Standard error says what failed.
@@ -60,7 +61,7 @@ fn serve<
     Ok(())
 }
 
-/// The exit after a text that may not have been written.
+/// The exit with this status, or with 1 if the text before it wasn't written.
 fn exit_after(text: io::Result<()>, status: u8) -> ExitCode {
     match text {
         Ok(()) => ExitCode::from(status),

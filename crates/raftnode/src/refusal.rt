@@ -5,7 +5,7 @@ use std::alloc::AllocError;
 use std::io;
 use thiserror::Error;
 
-/// Why the program ends with status 1. One about a file has its path.
+/// Why the program ends with status 1. A fault of the settings names their file.
 #[derive(Debug, Drop, Error)]
 pub enum Refusal {
     /// The file of settings could not be read.
@@ -16,7 +16,7 @@ pub enum Refusal {
         /// The operating system's error.
         error: io::Error,
     },
-    /// The file has no settings.
+    /// The settings in the file are wrong: it isn't TOML, a value is wrong, or they have a fault.
     #[error("settings of {path:?}: {error}")]
     Settings {
         /// The file.

@@ -6,8 +6,9 @@ use std::fs;
 use std::fs::File;
 use std::rt::Files;
 
-/// The settings of this file, or the default ones if there is none, in this directory. Settings with which no log can
-/// be opened are rejected here, with the path of the file.
+/// The settings of this file, or the default ones if there is none, for a log in this directory. The file's own `dir`
+/// is ignored. Fails with `Unread` if the file can't be read, with `Settings` if its settings are wrong, or for lack of
+/// memory.
 pub fn settings<R: Files<File = File> + Log + AllocGlobal>(
     rt: &R,
     directory: String,

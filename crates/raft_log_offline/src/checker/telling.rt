@@ -7,11 +7,11 @@ use super::ConsistencyChecker;
 use std::alloc::{AllocError, Global};
 use std::collections::BTreeMap;
 
-/// A group, and the end of its first run after which the next one starts past the end + 1.
+/// A group, and the last index of its first run after which indexes are missing before the next run.
 pub type Finding = (u64, u64);
 
 impl ConsistencyChecker {
-    /// The findings, by group.
+    /// The findings, sorted by group.
     pub fn finish(self) -> Result<Vec<Finding>, AllocError>
         ensures { IfOk result (λ findings. Lists (told_by self) findings.items) }
     {
@@ -21,7 +21,7 @@ impl ConsistencyChecker {
         list(alloc, found)
     }
 
-    /// Puts the findings over those of another queue. If it fails, some are.
+    /// Puts the findings into a map, in place of those of the same groups. If it fails, some are there.
     fn tell_over(self, found: &mut BTreeMap<u64, u64>) -> Result<(), AllocError>
         ensures { OnOk result (TellsOver (told_by self) found.old found.new) }
     {
@@ -32,7 +32,7 @@ impl ConsistencyChecker {
     }
 }
 
-/// Puts the finding of a group, if it has one, over that in a map. If it fails, nothing changes.
+/// Puts the finding of a group, if it has one, into a map, in place of its earlier one. If it fails, nothing changes.
 fn note(found: &mut BTreeMap<u64, u64>, group: u64, end: Option<u64>) -> Result<(), AllocError>
     ensures { OnOk result (NotesFinding group end found.old found.new) }
 {
@@ -42,7 +42,7 @@ fn note(found: &mut BTreeMap<u64, u64>, group: u64, end: Option<u64>) -> Result<
     Ok(())
 }
 
-/// The findings of both queues, by group: for a group with two, the one in Rewrite.
+/// The findings of both queues, sorted by group: for a group with two, the one in Rewrite.
 pub(crate) fn join_findings(
     alloc: Global,
     append: ConsistencyChecker,

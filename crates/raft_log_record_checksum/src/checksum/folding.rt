@@ -3,10 +3,11 @@
 //! The polynomial of the CRC divides x³⁰⁰ + x¹⁵⁵ + x¹¹⁷ + x⁸⁹ + 1. It also divides the eighth power of this, which over
 //! bits is the same sum with x⁸ for x. A byte therefore counts in the register just as it does in four later places
 //! together: 145, 183, 211 and 300 bytes after its own (300 minus 155, 117, 89 and 0). A byte may be taken out of the
-//! input if it is xored into those four, and then no table is read for it. Each folded byte is the byte of the input,
-//! xored with the folded bytes at these four distances before it, which lets many be made side by side. What they owe
-//! to the last bytes of the input is xored into these, which are then read through the tables. This is Sam Russell's
-//! method (Chorba), by bytes in place of words.
+//! input if it is xored into those four, and then no table is read for it.
+//!
+//! Each folded byte is the byte of the input, xored with the folded bytes at these four distances before it. Many
+//! folded bytes can be computed side by side. What they owe to the last bytes of the input is xored into these, which
+//! are then read through the tables. This is Sam Russell's method (Chorba), by bytes in place of words.
 
 ghost use Rattle.std.specs.Prelude.{◌≡◌, ℕ, ◌*◌, ◌-◌, ◌≤◌, length, take, bit_xor};
 ghost use Rattle.raft_log_record_checksum.specs.Checksum.{crc_bits, crc_after};
@@ -64,7 +65,7 @@ fn fold(window: &mut [u8; WINDOW], bytes: &[u8])
     fold_part(window, rest);
 }
 
-/// Folds bytes that fit the window.
+/// Folds at most 2,048 bytes.
 fn fold_part(window: &mut [u8; WINDOW], part: &[u8])
     requires { length part.now ≤ 2048 }
     ensures { (register : ℕ)
@@ -81,7 +82,7 @@ fn fold_part(window: &mut [u8; WINDOW], part: &[u8])
     window.copy_within(part.len()..part.len() + REACH, 0);
 }
 
-/// The register after the last bytes, into which what is owed is xored.
+/// The register after the last bytes of the input. What is owed is xored into them first.
 fn after_last(window: &[u8; WINDOW], last: &[u8; REACH]) -> u32
     ensures { (register : ℕ)
         → owed (take 300 window.now) ≡ crc_bits 2400 register

@@ -17,8 +17,7 @@ impl DualPipesBuilder {
     ghost use Rattle.raft_log_recovery.specs.ForReading.{HasReadQueues, QueuesAreUnread};
     ghost use Rattle.raft_log_recovery.specs.Recovering.{FailsToRecoverLog, RecoversLog};
 
-    /// Recovers the log as `recover` does, but reads it on the caller's thread: Append's files, and then Rewrite's. So
-    /// it needs no threads.
+    /// Recovers the log as `recover` does, but reads it on the caller's thread: Append's files, and then Rewrite's.
     ///
     /// Fails as `recover` does.
     pub fn recover_in_turn<L: Log, F: FileSystem + Sync, M: ReplayMachine, FA: Factory<M>>(

@@ -15,10 +15,11 @@ use std::alloc::Global;
 use std::collections::VecDeque;
 use std::thread::Threads;
 
-/// Plays events one after another, starting from these files. Closes a store that is still open after the last event.
-/// Returns the report: the rounds with their outcomes, how far those that were cut off were taken, and the files.
+/// Plays events one after another, starting with these files. Closes a store that is still open after the last event.
+/// Returns the report: the rounds with their outcomes, the cuts of those that were cut off, the files, and the events
+/// that lost voters.
 ///
-/// Fails with `Memory` if there is no room for the report, or for what a crash leaves. There is no report then.
+/// Fails only with `Memory`; there is no report then.
 pub fn run_world<R: Threads + Sync, S: VoterStorage<R> + Drop, F: VoterDisk<R, S> + Drop>(
     rt: &R,
     alloc: Global,
@@ -46,8 +47,8 @@ fn standing<R, S: VoterStorage<R>, F: VoterDisk<R, S> + Drop>(
 }
 
 impl<S: Drop, F: Drop> World<S, F> {
-    /// Plays one event; `place` is its number among all, counted from 0. If the disk stops in it, the crash follows at
-    /// once.
+    /// Plays one event; `place` is its number among all, counted from 0. If the disk has stopped after it, a crash
+    /// follows at once. Requires that no round is unsettled if a store is open and hasn't failed.
     pub fn step<R: Threads + Sync>(
         self,
         rt: &R,
@@ -95,7 +96,7 @@ impl<S: Drop, F: Drop> World<S, F> {
         Ok(world)
     }
 
-    /// Closes a store that is open, settles the run, and returns its report.
+    /// Closes a store that is open, settles the run with 0 as the cut of the unsettled round, and returns its report.
     fn finish<R>(self, rt: &R) -> Result<WorldReport<F>, Memory>
     where
         S: VoterStorage<R>,

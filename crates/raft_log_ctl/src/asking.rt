@@ -7,7 +7,7 @@ use std::{env, io};
 /// The status if the task was done.
 pub const DONE: u8 = 0;
 
-/// The status if the task was done, and found a hole, a gap or a damaged file.
+/// The status if the task was done and returned `Faulty`.
 pub const FAULTY: u8 = 1;
 
 /// The status for wrong arguments.
@@ -16,7 +16,7 @@ pub const WRONG_ARGUMENTS: u8 = 2;
 /// The status if the task failed.
 pub const REFUSED: u8 = 3;
 
-/// What is left to do.
+/// What the arguments leave to do.
 pub enum Asked {
     /// Nothing: the program ends with this status.
     Done(u8),
@@ -42,7 +42,7 @@ pub fn read_arguments<R: Env + Print + Eprint + AllocGlobal>(rt: &R) -> Asked {
     }
 }
 
-/// The command in the arguments. An argument that isn't UTF-8 is no command.
+/// The command in the arguments. Fails as `Command::parse` does, and with `Usage` if an argument isn't UTF-8.
 fn parsed<R: Env + AllocGlobal>(rt: &R) -> Result<Command, Unread> {
     match env::args(rt) {
         Ok(arguments) => {

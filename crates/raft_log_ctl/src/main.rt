@@ -2,7 +2,7 @@
 //!
 //! The status is:
 //! - 0 if the task was done;
-//! - 1 if it was done and found a hole, a gap or a damaged file;
+//! - 1 if it was done and found a hole, a gap or a damaged file, or `stat` couldn't open an engine;
 //! - 2 for wrong arguments;
 //! - 3 if the task failed; standard error says why.
 //!

@@ -9,8 +9,10 @@ use std::rt::Files;
 use std::{fs, io};
 
 /// Copies the one log file whose path is the main one into a file system in memory, and returns its place there. No
-/// other file of its directory is read, so the file may be a copy anywhere. The directory is locked while the file is
-/// read: no other program writes the log meanwhile.
+/// other file of its directory is read, so the file may be a copy anywhere. A shared lock on the directory is held
+/// while the file is read.
+///
+/// Fails with `InUse` if another program has locked the directory for itself, with `Memory`, or else with `Refused`.
 pub fn read_one_file<R: Files<File = File> + AllocGlobal>(
     rt: &R,
     place: &Place,
@@ -30,7 +32,8 @@ pub fn read_one_file<R: Files<File = File> + AllocGlobal>(
     }
 }
 
-/// Locks a directory until the handle is dropped. Readers share the lock.
+/// Locks a directory until the handle is dropped. Readers share the lock. Fails with `WouldBlock` if another program
+/// has it for itself.
 fn lock<R: Files<File = File>>(rt: &R, directory: &str) -> io::Result<File> {
     let opened = File::open(rt, directory)?;
     opened.try_lock_shared()?;

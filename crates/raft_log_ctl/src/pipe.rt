@@ -10,8 +10,8 @@ pub struct Pipe<W> {
 }
 
 impl<W> Pipe<W> {
-    /// Wraps a writer. If the task goes on after the pipe was closed, what it writes from then on is dropped; else the
-    /// write fails.
+    /// Wraps a writer. `goes_on` says what a write does after the reader closed the pipe: it succeeds and drops the
+    /// bytes, or it fails.
     pub fn new(inner: W, goes_on: bool) -> Pipe<W> {
         Pipe { inner, goes_on }
     }

@@ -62,8 +62,9 @@ impl Refusal {
     }
 }
 
-/// Runs a task on the log in these directories, and returns the status; prints a failure to standard error. `quiet`
-/// starts the threads, and takes what is logged.
+/// Runs a task on the log in these directories, and returns the status. Prints a failure to standard error, unless it
+/// is that the reader of standard output closed it; then the status is 0. `quiet` starts the threads, and takes what is
+/// logged.
 pub fn serve<
     R: Files<File = File> + Threads + Print + Eprint + AllocGlobal + Clone + Sync + Drop,
     Q: Threads + Log + Sync,
@@ -123,7 +124,7 @@ fn dump_one_file<R: Files<File = File> + Print + AllocGlobal>(
 }
 
 /// Runs a task, and writes what it prints to standard output. If that is a pipe that its reader closes, a dump fails at
-/// once, since it may be long. Any other task goes on: its status has to be right.
+/// once, since it may be long. Any other task continues, so that its status is right.
 fn run_to_output<R: Print + AllocGlobal, Q: Threads + Log + Sync, F: FileSystem>(
     rt: &R,
     quiet: &Q,
@@ -143,7 +144,7 @@ fn is_dump(task: &Task) -> bool {
     matches!(task, Task::Dump(_))
 }
 
-/// Opens the directories of a log as a task needs them: only `unpad` writes to the log's files.
+/// Opens the directories of a log: for writing if the task is `unpad`, else for reading.
 fn open<R: Files<File = File> + Threads + Eprint + AllocGlobal + Clone + Sync + Drop>(
     rt: &R,
     place: &Place,

@@ -10,7 +10,7 @@ use thiserror::Error;
 /// Why files weren't copied.
 #[derive(Debug, Drop, Error)]
 pub enum CopyFault {
-    /// The operating system failed a call on one of its paths, for example because nothing is there.
+    /// The operating system failed a call on one of its paths, for example because nothing has this path.
     #[error("{path:?}: {error}")]
     System {
         /// The path of the call.
@@ -18,7 +18,8 @@ pub enum CopyFault {
         /// The error that it returned.
         error: io::Error,
     },
-    /// The file system failed a call on one of its paths, for example because nothing is there.
+    /// The file system failed a call on one of its paths, for example because nothing has this path. The path is empty
+    /// if there was no memory for it.
     #[error("{path:?} of the file system: {kind}")]
     FileSystem {
         /// The path of the call.
@@ -46,7 +47,8 @@ impl CopyFault {
         }
     }
 
-    /// The fault for a file system's error on a path. If there is no memory for the path, it names none.
+    /// The fault for a file system's error on a path: `Memory` if it is lack of memory, else `FileSystem`, with an
+    /// empty path if there is no memory for the path.
     pub(crate) fn of_file_system(alloc: Global, path: &str, kind: ErrorKind) -> CopyFault
         ensures { result ≡ Memory → kind ≡ ErrorKind.OutOfMemory }
     {

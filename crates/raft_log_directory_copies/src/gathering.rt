@@ -12,8 +12,8 @@ use std::alloc::Global;
 use std::io::ErrorKind;
 
 /// The files of a directory of a file system, each once, as they are read now, in no promised order. Fails with
-/// `FileSystem` if the directory doesn't exist or a file can't be read. If the file system has stopped, the error isn't
-/// `Memory`.
+/// `FileSystem` if the directory doesn't exist or a file can't be read, or with `Memory`. If the file system has
+/// stopped, the error isn't `Memory`.
 pub fn gather<F: FileSystem>(
     alloc: Global,
     file_system: &F,

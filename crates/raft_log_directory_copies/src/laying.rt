@@ -10,12 +10,12 @@ use raft_log_fs::FileSystem;
 use std::alloc::Global;
 use std::io::ErrorKind;
 
-/// Makes a directory with each of these files, synced. If it succeeds, the directory has exactly these files, all at
-/// rest. If it fails, it may have some of them:
-/// - `FileSystem`: the file system failed a call. It is `AlreadyExists` if the directory exists, or if two files have
+/// Makes a directory with exactly these files, all synced. If it fails, the directory may have been made, and may have
+/// some of the files. The errors:
+/// - `FileSystem`: the file system failed a call, with `AlreadyExists` if the directory exists, or if two files have
 ///   one name.
 /// - `Occupied`: the directory had a file after it was made.
-/// - `Memory`: memory ran out. A stop isn't reported as this.
+/// - `Memory`: memory ran out. After a stop, the error isn't this.
 pub fn lay_out<F: FileSystem>(
     alloc: Global,
     files: &[StoredFile],

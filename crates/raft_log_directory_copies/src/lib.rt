@@ -1,6 +1,6 @@
-//! Copies the files of a directory between a real directory and a file system. `load_directory` makes each file of a
-//! real directory in a file system, at rest. `save_directory` writes each file of a file system's directory into a real
-//! one.
+//! Copies the files of a directory between a real directory and a file system. `load_directory` copies each regular
+//! file of a real directory into a file system, synced. `save_directory` writes each file of a file system's directory
+//! into a real one.
 //!
 //! Both go through a list of files (`StoredFile`). It is proved what a file system then holds of such a list, and which
 //! list is read from it. What a real directory returns and stores is up to the operating system.

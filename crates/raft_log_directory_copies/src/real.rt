@@ -12,10 +12,11 @@ use std::io::{ErrorKind, Write};
 use std::rt::Files;
 use std::{fs, io};
 
-/// Makes a directory in a file system, with each regular file of a real directory, with its bytes, at rest. Links and
-/// directories are skipped, and nothing in the real directory is changed. Fails with `System` if the real directory
-/// can't be read, for example if it doesn't exist or a name in it isn't UTF-8; the file system is then unchanged.
-/// Otherwise fails as `lay_out` does; the file system may then have some of the files.
+/// Makes a directory in a file system, and copies each regular file of a real directory into it, synced. Links and
+/// directories are skipped, and nothing in the real directory is changed.
+///
+/// Fails as `read_directory` does; the file system is then unchanged. Otherwise fails as `lay_out` does; the file
+/// system may then have some of the files.
 pub fn load_directory<R: Files<File = File> + AllocGlobal + Clone + Drop, F: FileSystem>(
     rt: &R,
     path: &str,
@@ -28,9 +29,8 @@ pub fn load_directory<R: Files<File = File> + AllocGlobal + Clone + Drop, F: Fil
     lay_out(rt.alloc(), files.as_slice(), file_system, directory)
 }
 
-/// Writes each file of a file system's directory, as it is read now, into a real directory that exists. Fails with
-/// `FileSystem` if the file system can't return the files, for example if the directory doesn't exist; nothing was
-/// written then. Otherwise fails as `write_directory` does.
+/// Writes each file of a file system's directory, as it is read now, into a real directory that exists. Fails as
+/// `gather` does; nothing was written then. Otherwise fails as `write_directory` does.
 pub fn save_directory<R: Files<File = File> + AllocGlobal, F: FileSystem>(
     rt: &R,
     file_system: &F,
@@ -42,7 +42,7 @@ pub fn save_directory<R: Files<File = File> + AllocGlobal, F: FileSystem>(
 }
 
 /// The regular files of a real directory, in no promised order. Links and directories in it are skipped. Fails with
-/// `System` if it can't be read.
+/// `System` if it or a file can't be read, for example if it doesn't exist or a name isn't UTF-8, or with `Memory`.
 pub fn read_directory<R: Files<File = File> + AllocGlobal + Clone + Drop>(
     rt: &R,
     path: &str,
@@ -68,8 +68,10 @@ pub fn read_directory<R: Files<File = File> + AllocGlobal + Clone + Drop>(
 }
 
 /// Writes files into a real directory that exists, and syncs each of them, and then the directory. A file with one of
-/// the names is overwritten; other files stay. Fails with `System` if the directory doesn't exist or a file can't be
-/// written; some files may then have been written.
+/// the names is overwritten; other files stay.
+///
+/// Fails with `System` if the directory doesn't exist or isn't synced, or if a file can't be written; or with `Memory`.
+/// Then some files may have been written, and one may have only a part of its bytes.
 pub fn write_directory<R: Files<File = File> + AllocGlobal>(
     rt: &R,
     files: &[StoredFile],

@@ -4,12 +4,12 @@ ghost use Rattle.raft_log_dual_pipes.specs.Beginning.{BegunLogIsEmpty, NoFilesAr
 
 use crate::queues::LogQueues;
 
-/// Two queues that have begun correspond to the numbered files in which nothing was written.
+/// If both queues have just begun and have no file 0, the log's numbered files are one empty file 1 of each queue.
 pub fn begun_log_is_empty<G: LogQueues>()
     ensures { (log : G) → BegunLogIsEmpty (G.queues log) }
 {}
 
-/// A disk without log files is the empty log.
+/// If a disk has no file of either queue, a log on it is empty, and no batch is pending.
 pub fn no_files_are_nothing<G: LogQueues>()
     ensures { (log : G) → NoFilesAreNothing (G.queues log) }
 {}

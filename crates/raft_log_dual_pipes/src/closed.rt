@@ -8,7 +8,8 @@ pub struct Closed<F> {
     /// The file system, whatever the result of the close.
     pub files: F,
     /// - `Ok`: everything that was written to the log is durable.
-    /// - `Io`: truncating or syncing a last file failed, and what was written since the last sync may not be durable.
+    /// - `Io`: truncating or syncing an active file failed. What was written to its queue since the last sync may not
+    ///   be durable.
     /// - `Failed`: the log had failed before, and the close didn't touch it.
     pub result: Result<()>,
 }

@@ -10,13 +10,14 @@ pub fn close_is_a_step<G: LogQueues>()
     ensures { (log : G) → CloseIsAStep (G.queues log) }
 {}
 
-/// Giving reserved names to files kept for recycling removes nothing from the log.
+/// Giving reserved names to files kept for recycling removes nothing from the log, even if some calls fail. The files
+/// must be below the live range.
 pub fn names_are_reserved<G: LogQueues>()
     ensures { (log : G) → NamesAreReserved (G.queues log) }
 {}
 
-/// If both pipes are closed, the active files first, what an engine's contracts stated of its log is true of what is on
-/// the disk.
+/// If both pipes are closed, even with calls that fail, the log is on the disk. What an engine's contracts stated of it
+/// still holds, except that a prefix of the pending batches may be synced.
 pub fn closed_log_is_a_log<G: LogQueues>()
     ensures { (log : G) → ClosedLogIsALog (G.queues log) }
 {}

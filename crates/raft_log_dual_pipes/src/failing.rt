@@ -4,8 +4,8 @@ ghost use Rattle.raft_log_dual_pipes.specs.Failing.{FailedPipesLeaveLogs};
 
 use crate::queues::LogQueues;
 
-/// After a pipe fails, at a sync, a rotation or a batch, the log is on the disk, with or without the batch; so a crash
-/// and an open find it.
+/// If a pipe fails in a sync, in a rotation or in a write to Append, the log is on the disk. After a failed write it
+/// has the batch or not. After a rotation or a write, a prefix of the pending batches may be synced.
 pub fn failed_pipes_leave_logs<G: LogQueues>()
     ensures { (log : G) → FailedPipesLeaveLogs (G.queues log) }
 {}

@@ -1,7 +1,7 @@
-//! The two pipes of a log over one file system. For an engine, their contracts describe only the steps of its log,
-//! without files, names or offsets. The laws below them state what each pipe call does to the two queues on one disk,
-//! in terms of the machine's numbered files. All public functions except those of `DualPipes` and `PipeLog` are such
-//! laws: they do nothing, and their contracts are what is proved.
+//! The two pipes of a log over one file system. The clauses `ok` and `err` of their calls state the steps of the log,
+//! without paths. The laws state what each call does to the two queues on one disk, in terms of the machine's numbered
+//! files. All public functions except those of `DualPipes` and `PipeLog` are laws: they do nothing, and their contracts
+//! are what is proved.
 #![tactic(auto)]
 
 pub mod appending;

@@ -10,8 +10,8 @@ pub fn logs_go_on_disks<G: LogQueues>()
     ensures { (log : G) → LogsGoOnDisks (G.queues log) }
 {}
 
-/// Both pipes of a log at rest may be opened: the map is the same, and nothing is unsynced. Wherever an open fails, the
-/// log is still on the disk.
+/// If both pipes of a log at rest are opened over what was found of it, the map is the same, and nothing is unsynced.
+/// If either open fails, the log is still on the disk, with the same map.
 pub fn resting_logs_open<G: LogQueues>()
     ensures { (log : G) → RestingLogsOpen (G.queues log) }
 {}

@@ -13,7 +13,7 @@ use raft_log_fs::FileSystem;
 use raft_log_record_base::Error;
 use std::alloc::Global;
 
-/// A queue of a log as it was found: where its files are, how its pipe should write them, and which files exist.
+/// What a scan found of a queue, and how its pipe is to write the files.
 #[derive(Drop)]
 pub struct FoundPipe {
     /// Where the queue's files are.
@@ -34,10 +34,11 @@ pub struct OpenRefused<F> {
 }
 
 impl<F: FileSystem> DualPipes<F> {
-    /// Opens both pipes, Append's first, over what was found of the log's queues.
+    /// Opens both pipes, Append's first, over what was found of the log's queues. If the log was at rest, its contents
+    /// are the same, and nothing is unsynced.
     ///
-    /// If opening a pipe fails, returns that pipe's error with the file system: the log is there unchanged, or all that
-    /// was read of it is synced.
+    /// If opening a pipe fails, returns that pipe's error with the file system. If the log was at rest, it is still on
+    /// the disk, with the same contents.
     pub fn open<L: Log>(
         alloc: Global,
         rt: &L,

@@ -11,8 +11,8 @@ pub fn appends_beside<G: LogQueues>()
     ensures { (log : G) → AppendsBeside (G.queues log) }
 {}
 
-/// A failed append leaves the pipe running, with all before it synced or unchanged; or the pipe has failed, and the
-/// record may be there or not. The other queue's state is unchanged.
+/// After a failed append that doesn't return `Failed`, the pipe still runs, and all before it is synced or unchanged.
+/// After `Failed`, the pipe has failed, and the record may be there or not. The other queue's state is unchanged.
 pub fn fails_to_append_beside<G: LogQueues>()
     ensures { (log : G) → FailsToAppendBeside (G.queues log) }
 {}

@@ -11,9 +11,9 @@ use raft_log_fs::Fault;
 use raft_log_record_base::{FileBlockHandle, FileId, FileSeq, LogQueue, Result};
 use std::alloc::Global;
 
-/// A log's two queues of files. Each clause holds for any log over which the pipes run.
+/// A log's two queues of files. The clauses `ok` and `err` hold for any log over which the pipes run.
 ///
-/// After a call returned `Failed`, every later call on either queue that would change something returns it too, and
+/// After an append, a sync, a rotation or a purge returned `Failed`, each later one on either queue returns it too, and
 /// changes nothing.
 pub trait PipeLog {
     ghost use Rattle.raft_log_dual_pipes.specs.State.{pipe_at};
@@ -99,15 +99,15 @@ pub trait PipeLog {
         ensures { result ≡ size_at (which_of queue) (shown self.now) };
 
     /// The bytes at a location; fewer if its file ends first. Fails with `Corruption` if its file isn't in the queue's
-    /// live range.
+    /// live range, with `Io` if the file system fails the read, or with `Memory`.
     fn read_bytes(&self, alloc: Global, block: FileBlockHandle) -> Result<Vec<u8>>
         ensures ok { IfOk result (λ bytes. IsReadAt (pipe_at (which_of block.id.queue)
             (files_of (shown self.now))) block bytes.items (shown self.now).disk) }
         ensures err { IfErr result (IsReadRefused (pipe_at (which_of block.id.queue)
             (files_of (shown self.now))) block (shown self.now).disk) };
 
-    /// Replaces the contents of `bytes` with the bytes at a location; fewer if its file ends first. Fails with
-    /// `Corruption` if its file isn't in the queue's live range. If it fails, `bytes` may hold anything.
+    /// Replaces the contents of `bytes` with the bytes at a location; fewer if its file ends first. Fails as
+    /// `read_bytes` does, and then `bytes` may hold anything.
     fn read_over(&self, alloc: Global, block: FileBlockHandle, bytes: &mut Vec<u8>) -> Result<()>
         ensures ok { OnOk result (IsReadAt (pipe_at (which_of block.id.queue)
             (files_of (shown self.now))) block bytes.new.items (shown self.now).disk) }
@@ -119,12 +119,12 @@ pub trait PipeLog {
     ///
     /// - `Io`: the write failed and was truncated away, and all before it is durable.
     /// - `TryAgain`: the same for lack of space, and the queue rotated.
-    /// - `Memory`, `NumberRange`: the queue couldn't rotate, and nothing is lost. `NumberRange` means that the numbers
-    ///   that a file's name can have have run out.
-    /// - `Failed`: the pipes have failed.
+    /// - `Memory`, `NumberRange`: the queue couldn't rotate, and nothing is lost. `NumberRange` means that the active
+    ///   file has the last number that a name can have.
+    /// - `Failed`: the pipes have failed, now or earlier. If now, the record may be in the log.
     ///
-    /// The listener hears of each file into which the queue rotated, and then, if the record is written, of the record
-    /// at its location.
+    /// The listener hears of each file into which the queue rotated, even if the append fails. If it succeeds, the
+    /// listener then hears of the record at its location.
     fn append<L: Log, B: ReactiveBytes>(
         &mut self,
         alloc: Global,
@@ -165,7 +165,7 @@ pub trait PipeLog {
         ensures fails { TellsFailure result (shown self.new) }
         ensures later { IsLater (shown self.old).disk (shown self.new).disk };
 
-    /// Makes all records of a queue durable. If it fails, returns `Failed`.
+    /// Makes all records of a queue durable. Fails only with `Failed`.
     fn sync<L: Log>(&mut self, rt: &L, queue: LogQueue) -> Result<()>
         ensures ok { OnOk result (SyncsQueue (which_of queue) (shown self.old) (shown self.new)) }
         ensures err { OnErr result (FailsToSyncQueue (which_of queue) (shown self.old) (shown self.new)) }
@@ -181,11 +181,11 @@ pub trait PipeLog {
         ensures later { IsLater (shown self.old).disk (shown self.new).disk };
 
     /// Rotates a queue into its next file: the oldest of those that are kept for recycling, or a new one if there is
-    /// none.
+    /// none. All that was written to the queue before is durable.
     ///
     /// - `Memory`: nothing was done.
-    /// - `NumberRange`: the active file has the last number, and nothing was done.
-    /// - `Failed`: a file call failed.
+    /// - `NumberRange`: the active file has the last number that a name can have, and nothing was done.
+    /// - `Failed`: a file call failed, now or earlier. If now, the queue may have rotated.
     fn rotate<L: Log>(&mut self, alloc: Global, rt: &L, queue: LogQueue) -> Result<()>
         ensures ok { OnOk result (RotatesQueue (which_of queue) (shown self.old) (shown self.new)) }
         ensures err { IfErr result (λ error. FailsToRotateQueue (which_of queue) error
@@ -204,11 +204,12 @@ pub trait PipeLog {
         ensures fails { TellsFailure result (shown self.new) }
         ensures later { IsLater (shown self.old).disk (shown self.new).disk };
 
-    /// Removes the files of a queue below this one from its live range, and returns how many.
+    /// Removes the files of a queue below this one from its live range, and returns how many. It keeps those of format
+    /// version 2 for recycling, the lowest numbers first, as far as the capacity allows, and deletes the others.
     ///
     /// - `Other` (the number isn't in the live range), `Memory`: nothing was done.
     /// - `NumberRange`: the same, as a file has a number that no name has; no log has such a file.
-    /// - `Failed`: a file wasn't deleted.
+    /// - `Failed`: the pipes had failed. Or a file wasn't deleted; all the files have left the live range anyway.
     fn purge_to<L: Log>(&mut self, alloc: Global, rt: &L, file_id: FileId) -> Result<usize>
         ensures ok { OnOk result (PurgesQueue (which_of file_id.queue) file_id.seq
             (shown self.old) (shown self.new)) }
@@ -236,13 +237,14 @@ pub trait PipeLog {
         ensures fails { TellsFailure result (shown self.new) }
         ensures later { IsLater (shown self.old).disk (shown self.new).disk };
 
-    /// The last record of this file was applied to the tables: the listener hears of it, and nothing changes.
+    /// Reports to the listener that the last record of this file was applied to the tables. Changes nothing else.
     fn post_apply_memtables(&mut self, file_id: FileId)
         ensures shown { shown self.new ≡ shown self.old }
         ensures files { files self.new ≡ files self.old }
         ensures told { Hears hears (RecordApplied file_id ∷ []) (listener self.old) (listener self.new) };
 
-    /// The number of the first file of a queue that the listener pins, if there is one; it must not be purged yet.
+    /// The number of the first file of a queue that the listener pins, if there is one. It pins all later ones too.
+    /// `purge_to` doesn't check this; its caller must.
     fn first_file_not_ready_for_purge(&self, queue: LogQueue) -> Option<FileSeq>
         ensures { holds_back self.now queue result };
 
@@ -250,8 +252,8 @@ pub trait PipeLog {
     /// syncs them, Append's first; then the files that are kept for recycling get reserved names.
     ///
     /// - `Ok`: all records of both queues are durable.
-    /// - `Io`: a truncation or a sync failed; if both queues failed, the error is Append's. What was durable still is,
-    ///   and the other queue was closed anyway.
+    /// - `Io`: a truncation or a sync failed. If both queues failed, the error is Append's. A failure in one queue
+    ///   doesn't keep the other from being closed. What was durable still is.
     /// - `Failed`: the pipes had failed, and nothing was touched.
     ///
     /// A failure to give a name is only logged.

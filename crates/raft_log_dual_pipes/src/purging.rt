@@ -9,8 +9,8 @@ pub fn purge_is_a_step<G: LogQueues>()
     ensures { (log : G) → PurgeIsAStep (G.queues log) }
 {}
 
-/// A purge that fails because memory ran out, or because the number isn't in the live range, changes nothing. If the
-/// pipe has failed, the images allow the numbered files, which are raised anyway.
+/// A purge that fails with `Memory`, `NumberRange` or `Other` (the number isn't in the live range) changes nothing. If
+/// the pipe has failed, the numbered files are raised anyway, and a recovery reads what they allow.
 pub fn refused_purge_is_a_step<G: LogQueues>()
     ensures { (log : G) → RefusedPurgeIsAStep (G.queues log) }
 {}

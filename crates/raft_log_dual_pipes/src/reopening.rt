@@ -11,7 +11,7 @@ pub fn crash_is_a_step<G: LogQueues>()
 {}
 
 /// A pipe that is opened over what was found of its queue runs, and all that was read is synced. The other queue's
-/// state is unchanged. A failed open leaves the disk unchanged, or all records that were read.
+/// state is unchanged. A failed open leaves the disk unchanged, or all records that were read, synced.
 pub fn open_is_a_step<G: LogQueues>()
     ensures { (log : G) → OpenIsAStep (G.queues log) }
 {}

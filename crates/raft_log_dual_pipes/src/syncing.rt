@@ -18,8 +18,8 @@ pub fn rotation_is_a_step<G: LogQueues>()
     ensures { (log : G) → RotationIsAStep (G.queues log) }
 {}
 
-/// A rotation that fails because memory or the file numbers ran out changes nothing. If the pipe has failed, the images
-/// allow the numbered files unchanged, or after the rotation.
+/// A rotation that fails because memory or the file numbers ran out changes nothing. If the pipe has failed, a recovery
+/// reads what the numbered files allow, unchanged or after the rotation.
 pub fn refused_rotation_is_a_step<G: LogQueues>()
     ensures { (log : G) → RefusedRotationIsAStep (G.queues log) }
 {}

@@ -10,7 +10,7 @@ use std::alloc::Global;
 /// The group whose entries the lines are.
 pub const GROUP: u64 = 1;
 
-/// Appends a line after the last entry, and returns its index when it is durable; the first index is 1.
+/// Appends a line after the last entry, syncs it, and returns its index; the first index is 1.
 pub fn append<P: PipeLog, R: Log>(
     rt: &R,
     alloc: Global,

@@ -42,8 +42,8 @@ fn keep<R: Log + Input + Print + AllocGlobal, P: PipeLog>(
     Ok(())
 }
 
-/// Opens the log in a directory over these files, prints the lines that are in it, keeps those that are read, and
-/// closes it.
+/// Opens the log in a directory over these files, and prints the lines that are in it. Appends each line of standard
+/// input, and confirms it after a sync. Closes the log at the end of the input.
 pub fn keep_lines<
     R: Threads + Log + Sync + Input + Print + AllocGlobal,
     F: FileSystem + Sync + Drop,

@@ -94,7 +94,7 @@ fn fill<R: Log + AllocGlobal, P: PipeLog>(rt: &R, engine: &mut LogEngine<P>) -> 
     Ok(())
 }
 
-/// A snapshot has all entries but the last two: they are dropped, and the files purged that no entry needs any more.
+/// A snapshot covers all entries but the last two. Drops those that it covers, and purges the log.
 fn snapshot<R: Log + AllocGlobal, P: PipeLog>(
     rt: &R,
     engine: &mut LogEngine<P>,
@@ -143,7 +143,7 @@ fn settings(alloc: Global, directory: &str) -> Result<Config, AllocError> {
     Ok(config)
 }
 
-/// Opens the log of these settings over these files, lives on it, and closes it. Returns the files.
+/// Opens the log of these settings over these files, does what the node does, and closes it. Returns the files.
 fn open_and_live<R: Threads + Log + Sync + Print + AllocGlobal, F: FileSystem + Sync + Drop>(
     rt: &R,
     config: Config,

@@ -9,8 +9,10 @@ use std::alloc::Global;
 use std::io::Print;
 use std::thread::Threads;
 
-/// Opens the log of these settings, saves a group's key in it, reads the key back, and closes the log, which is durable
-/// then. Returns the value that was read, and the file system.
+/// Opens the log of these settings, saves a group's key in it with a sync, reads the key back, and closes the log.
+/// Returns the value that was read, and the file system. All of the log is durable then.
+///
+/// If a call fails, returns its error, and drops the file system.
 pub fn save_in_log<R: Threads + Log + Sync, F: FileSystem + Sync + Drop>(
     rt: &R,
     alloc: Global,

@@ -20,7 +20,7 @@ const STATE: &[u8] = b"state";
 const BASE: &[u8] = b"base";
 
 /// Appends entries of the state's term, the first at this index, and stores the state, by one record and one sync. The
-/// entries replace all that the log has from their first index on. Once this returns, no crash loses any of it.
+/// entries replace all that the log has from their first index on. If it succeeds, all of it is durable.
 pub fn append<P: PipeLog, R: Log>(
     rt: &R,
     alloc: Global,
@@ -104,7 +104,7 @@ pub fn compact<P: PipeLog, R: Log>(
     Ok(())
 }
 
-/// The hard state: the stored one, or that of a new node.
+/// The hard state: the stored one, or that of a new node if none is stored or its bytes are too few.
 pub fn hard_state<P: PipeLog>(engine: &LogEngine<P>) -> Result<HardState> {
     let Some(bytes) = engine.get(GROUP, STATE)? else {
         return Ok(HardState::new());
@@ -115,7 +115,7 @@ pub fn hard_state<P: PipeLog>(engine: &LogEngine<P>) -> Result<HardState> {
     }
 }
 
-/// The base: the stored one, or 0 before the first compaction.
+/// The base: the stored one, or 0 if none is stored or its bytes are too few.
 pub fn base<P: PipeLog>(engine: &LogEngine<P>) -> Result<Base> {
     let Some(bytes) = engine.get(GROUP, BASE)? else {
         return Ok(Base { index: 0, term: 0 });
@@ -134,7 +134,8 @@ pub fn last_index<P: PipeLog>(engine: &LogEngine<P>) -> Result<u64> {
     }
 }
 
-/// The term and the data of the entry at an index, if it is there.
+/// The term and the data of the entry at an index; `None` if there is none or its bytes are too few. What isn't UTF-8
+/// in the data is replaced.
 pub fn entry<P: PipeLog>(
     alloc: Global,
     engine: &mut LogEngine<P>,

@@ -32,7 +32,7 @@ impl HardState {
         }
     }
 
-    /// The state in these bytes, if they are one.
+    /// The state with which these bytes begin; `None` if they have fewer than 24.
     pub fn decode(bytes: &[u8]) -> Option<HardState> {
         let (term, rest) = split_number(bytes)?;
         let (vote, rest) = split_number(rest)?;
@@ -42,7 +42,7 @@ impl HardState {
 }
 
 impl Base {
-    /// The base in these bytes, if they are one.
+    /// The base with which these bytes begin; `None` if they have fewer than 16.
     pub fn decode(bytes: &[u8]) -> Option<Base> {
         let (index, rest) = split_number(bytes)?;
         let (term, _) = split_number(rest)?;
@@ -59,7 +59,7 @@ pub fn encode_numbers(alloc: Global, numbers: &[u64]) -> Result<Vec<u8>, AllocEr
     Ok(bytes)
 }
 
-/// The number at the front of these bytes, and the rest.
+/// The number in the first eight of these bytes, the lowest byte first, and the rest; `None` if there are fewer.
 pub fn split_number(bytes: &[u8]) -> Option<(u64, &[u8])> {
     let (number, rest) = bytes.split_first_chunk::<8>()?;
     Some((u64::from_le_bytes(*number), rest))

@@ -35,7 +35,7 @@ impl Candidate {
         }
     }
 
-    /// The log with another standing. If it settles, all batches are durable.
+    /// The log with another standing. If `settles` is true, all batches are durable.
     pub fn turned(self, standing: Standing, settles: bool) -> Candidate
         ensures { log_of result ≡ turned standing settles self }
     {

@@ -9,8 +9,9 @@ use raft_log_world::{Answer, Event};
 use std::alloc::{AllocError, Global};
 use std::collections::VecDeque;
 
-/// Whether a log that never crashes, empty at first, explains these answers to these events. At each crash and each
-/// copy it may lose any number of the last pending batches; all numbers are tried. Fails only for lack of memory.
+/// Whether the model log, empty at first, gives these answers to these events in turn. At each crash, copy or open that
+/// allows it, the model may lose any number of its last pending batches; all numbers are tried. Returns false if there
+/// are not as many answers as events. Fails only for lack of memory.
 pub fn judge_log<C>(
     alloc: Global,
     events: &[Event<Batch, C>],

@@ -1,4 +1,4 @@
-//! Decides whether a log that never crashes explains the answers of a run.
+//! Decides whether the model log of `raft_log_world` explains the answers of a run.
 #![tactic(auto)]
 
 mod candidate;

@@ -1,4 +1,4 @@
-//! What an event comes to, by its answer.
+//! What an event does to a log, by its answer.
 ghost use Rattle.std.specs.Prelude.{◌≡◌};
 ghost use Rattle.raft_log_judge.specs.Views.{call_outcome, outcome};
 
@@ -15,7 +15,7 @@ pub enum Standing {
     Broken,
 }
 
-/// What an event comes to.
+/// What an event does to a log.
 #[derive(Clone, Copy, Debug, PartialEq, Eq)]
 pub enum Outcome {
     /// The answer is impossible.
@@ -36,11 +36,11 @@ pub enum Outcome {
         /// Whether all batches are durable.
         settles: bool,
     },
-    /// An engine opens the log, with the first few of the pending batches.
+    /// An engine opens the log, with any number of the first pending batches. All of them are durable then.
     Opens,
 }
 
-/// What an event comes to, for a log of this standing.
+/// What an event with this answer does to a log of this standing.
 pub fn outcome_of<B, C>(standing: Standing, event: &Event<B, C>, answer: &Answer) -> Outcome
     ensures { result ≡ outcome standing event.now answer.now }
 {
@@ -66,14 +66,14 @@ pub fn outcome_of<B, C>(standing: Standing, event: &Event<B, C>, answer: &Answer
     }
 }
 
-/// The log has this standing then. If it settles, all batches are durable.
+/// The outcome `Turns`.
 fn turns(standing: Standing, settles: bool) -> Outcome
     ensures { result ≡ Outcome.Turns standing settles }
 {
     Outcome::Turns { standing, settles }
 }
 
-/// What a call of an engine that runs comes to.
+/// What a call with this answer does to the log of an engine that runs.
 fn call_outcome<B>(call: &Call<B>, answer: &Answer) -> Outcome
     ensures { result ≡ call_outcome call.now answer.now }
 {
@@ -99,7 +99,7 @@ fn call_outcome<B>(call: &Call<B>, answer: &Answer) -> Outcome
     }
 }
 
-/// A batch is added, and the log has this standing then. If it settles, all batches are durable.
+/// The outcome `Adds`.
 fn adds(standing: Standing, settles: bool) -> Outcome
     ensures { result ≡ Outcome.Adds standing settles }
 {

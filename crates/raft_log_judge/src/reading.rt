@@ -22,7 +22,7 @@ use crate::content::{is_entry, is_value};
 use crate::scanning::is_scan;
 use raft_log_world::{Answer, Call, Event};
 
-/// Whether the contents after all batches are such that this event reads this answer.
+/// Whether this event, as a read of the contents after all batches, returns this answer.
 pub fn is_read<C>(batches: &[Batch], event: &Event<Batch, C>, answer: &Answer) -> bool
     ensures { IsTrue result ↔ IsRead (after_all batches.now) event.now answer.now }
 {
@@ -149,7 +149,7 @@ fn is_fetch(
     are_fetched(batches, group, begin, end, max, entries)
 }
 
-/// Whether a group has all these entries, and these are the first of them.
+/// Whether a group has an entry at each index from `begin` on, below `end`, and these are the first of them.
 fn are_fetched(
     batches: &[Batch],
     group: u64,
@@ -169,7 +169,7 @@ fn are_fetched(
     has_all(batches, group, begin, end)
 }
 
-/// Whether a read may return so many of all entries.
+/// Whether a read may return `count` of `all` entries.
 fn is_count(max: &Option<u64>, all: u64, count: u64) -> bool
     ensures { IsTrue result ↔ IsCount max.now all count }
 {
@@ -219,7 +219,7 @@ fn has_none(batches: &[Batch], group: u64, begin: u128, end: Option<u64>) -> boo
     true
 }
 
-/// Whether the entries within these bounds that a batch wrote are gone.
+/// Whether the entries within these bounds that a batch wrote don't exist any more.
 fn are_gone(
     batches: &[Batch],
     changes: &[Change],
@@ -237,7 +237,7 @@ fn are_gone(
     true
 }
 
-/// Whether the entries within these bounds that a change wrote are gone.
+/// Whether the entries within these bounds that a change wrote don't exist any more.
 fn is_gone(batches: &[Batch], kind: &ChangeKind, group: u64, begin: u128, end: Option<u64>) -> bool
     ensures { IsTrue result ↔ IsGone (after_all batches.now) group begin end (item_of kind.now) }
 {

@@ -13,7 +13,7 @@ use crate::change::{Batch, Change, ChangeKind};
 use crate::reading::{value_is, value_is_none};
 use std::cmp::Ordering;
 
-/// Whether a scan of a group's keys within these bounds returns these.
+/// Whether a scan of a group's keys within these bounds returns these pairs.
 pub fn is_scan(
     batches: &[Batch],
     group: u64,

@@ -11,11 +11,12 @@ use std::io;
 use std::io::Write;
 
 /// Writes a line for each of these, or that there is none:
-/// - a gap in a queue's file numbers,
-/// - a file that an open would truncate or reject,
-/// - a group that has a hole in its entries.
+/// - a gap in a queue's file numbers, or a number that two of its files have;
+/// - a damaged file, as `inspect` says;
+/// - in each queue, the first hole of each group in its entries.
 ///
-/// Changes nothing. Fails as `inspect` does, and if writing the output fails.
+/// If it returns `Sound`, the log is intact. Changes nothing. Fails as `inspect` does, or with `Output` if writing the
+/// output fails.
 pub fn check<F: FileSystem, W: Write>(
     alloc: Global,
     files: &F,

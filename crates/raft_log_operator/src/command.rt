@@ -47,7 +47,7 @@ pub enum Task {
     Stat,
     /// Copies the log into the directory with this path.
     Fork(String),
-    /// Writes the log's files that have an alignment anew without it.
+    /// Rewrites the log's padded files without padding.
     Unpad,
 }
 

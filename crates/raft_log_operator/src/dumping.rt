@@ -11,12 +11,11 @@ use std::alloc::Global;
 use std::io::Write;
 
 /// Writes a line for each item of a log, or of the one file whose path is the main one. If a group is named, it leaves
-/// out the items of other groups. The files are in the order of `find_files`. The items of each file are in order, up
-/// to its end or to what is broken in it. For broken bytes it writes a line instead of the rest, and returns `Faulty`.
-/// Changes nothing.
+/// out the items of other groups. Rewrite's files are first, and each queue's are in the order of their numbers. For
+/// broken bytes in a file it writes a line instead of the rest of the file, and returns `Faulty`. Changes nothing.
 ///
-/// Fails if the files aren't found, if a file isn't read, if memory runs out, and if writing the output fails; what was
-/// written stays.
+/// Fails with `File` if a directory isn't listed or a file isn't read, and with `Output` if writing the output fails.
+/// Fails with `Log` if memory runs out, or if the one file's name isn't a log file's. What was written stays.
 pub fn dump<F: FileSystem, W: Write>(
     alloc: Global,
     files: &F,

@@ -9,10 +9,10 @@ use thiserror::Error;
 /// Why a command fails.
 #[derive(Debug, Drop, Error)]
 pub enum CommandFault {
-    /// A call of the log failed, or one of the file system below it.
+    /// A call of the log failed that isn't about one path, or memory ran out.
     #[error("{0}")]
     Log(LogError),
-    /// A call on the file or the directory with this path failed.
+    /// A call on the file or the directory with this path failed, or the file has a foreign record.
     #[error("{path}: {error}")]
     File {
         /// The path.
@@ -28,9 +28,9 @@ pub enum CommandFault {
 /// The result of a command that succeeded.
 #[derive(Clone, Copy, Debug, PartialEq, Eq)]
 pub enum Outcome {
-    /// Nothing is wrong.
+    /// The task found no fault. `Fork` and `Unpad` look for none.
     Sound,
-    /// A hole, a gap or a damaged file was found.
+    /// The task found a hole, a gap or a damaged file, or `Stat` couldn't open an engine over its copy.
     Faulty,
 }
 

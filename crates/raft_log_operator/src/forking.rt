@@ -13,9 +13,11 @@ use std::alloc::Global;
 use std::io;
 use std::io::Write;
 
-/// Copies a log into a directory, which is created, and writes the path of each copy. Nothing of the log changes.
+/// Copies a log into a directory, which is created if it is missing, and writes the path of each copy. Changes nothing
+/// of the log.
 ///
-/// Fails as `fork` does, and then writes nothing. Also fails if writing the output fails, after all files were copied.
+/// Fails as `fork` does, with no output; what was copied stays. Fails with `Output` if writing the output fails, after
+/// all files were copied.
 pub fn fork_into<R: Log, F: FileSystem, W: Write>(
     rt: &R,
     alloc: Global,

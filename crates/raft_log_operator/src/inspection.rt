@@ -63,12 +63,16 @@ impl LogFaults {
     }
 }
 
-/// Reads all files of a log as an open reads them, and returns its faults: gaps in their numbers, files that an open
-/// would truncate or reject, and groups with holes in a queue. The step from Rewrite to Append isn't a hole. Changes
-/// nothing.
+/// Reads all files of a log, and returns its faults: gaps in their numbers, damaged files, and groups with holes in a
+/// queue. A file is damaged if an open would truncate or reject it, or if it has a broken entry block. An open may not
+/// see the latter. Indexes missing between Rewrite and Append are no hole. Changes nothing.
 ///
-/// Fails if a directory isn't listed, if a file isn't opened or read, or if memory runs out. Also fails if a file's
-/// name begins with a number and isn't that number's.
+/// Fails with `File`:
+/// - if a directory isn't listed
+/// - if a file isn't opened or read
+/// - if a foreign record follows a file's last good one
+///
+/// Fails with `Log` if a file's name begins with a number and isn't that number's, or if memory runs out.
 pub(crate) fn inspect<F: FileSystem>(
     alloc: Global,
     files: &F,

@@ -33,7 +33,7 @@ impl Place {
     }
 }
 
-/// A path without the slashes at its end; the root's slash stays.
+/// A path without the slashes at its end. A path of slashes alone stays as it is.
 pub fn trimmed(path: &str) -> &str {
     let rest = path.trim_end_matches('/');
     if rest.is_empty() { path } else { rest }

@@ -17,11 +17,14 @@ use std::alloc::Global;
 use std::io::Write;
 use std::thread::Threads;
 
-/// Runs a task on the log in these directories of a file system, and writes its output. Only a fork and an unpadding
-/// change anything. Fails as the task does.
+/// Runs a task on the log in these directories of a file system, and writes its output to `out`. Only `Fork` and
+/// `Unpad` change the disk.
 ///
-/// `Sound` of a check means that the log is intact: no file is damaged, no number is missing, and no group has a hole.
-/// `Sound` of `Stat` means this for the files alone.
+/// Fails with `Output` if writing to `out` fails, after `Fork` and `Unpad` have done their work. Else it fails with
+/// `File` or `Log`, as `CommandFault` says. Output that was written before stays.
+///
+/// If `Check` returns `Sound`, the log is intact: no file is damaged, the numbers of each queue's files are
+/// consecutive, and no group has a hole in one queue's records. If `Stat` returns `Sound`, all but the last is true.
 pub fn run<R: Threads + Log + Sync, F: FileSystem, W: Write>(
     rt: &R,
     alloc: Global,

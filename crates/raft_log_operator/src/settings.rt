@@ -7,7 +7,7 @@ use crate::place::Place;
 use raft_log_engine::Config;
 use std::alloc::{AllocError, Global};
 
-/// The usual settings of a log in these directories, except that no file is used again.
+/// The default settings for a log in these directories, except that no file is recycled.
 pub fn kept_settings(alloc: Global, place: &Place) -> Result<Config, AllocError>
     ensures { IfOk result (λ config. settings_of config ≡ kept_settings place.now) }
 {

@@ -46,10 +46,14 @@ impl Amount {
 /// - of the bytes of all files, how many are live entries, keys and values, and how many are garbage: dead, damaged or
 ///   duplicate ones.
 ///
-/// The groups are those of an engine that is opened, with the usual settings, over a copy in memory. If opening it
-/// fails, a line says why, and then only the bytes of all files are written. The log isn't touched.
+/// The groups are those of an engine that is opened, with the default settings and no recycling, over a copy in memory.
+/// If opening it fails, a line says why, and then only the bytes of all files are written. Changes nothing of the log.
 ///
-/// Fails as `inspect` and `copy_log` do, if the engine doesn't read an entry, and if writing the output fails.
+/// If it returns `Sound`, no file is damaged, and the numbers of each queue's files are consecutive. It returns
+/// `Faulty` if it finds a gap or damage, or if the engine doesn't open.
+///
+/// Fails as `inspect` and `copy_log` do, or with `Output` if writing the output fails. Fails with `Log` if the engine
+/// fails to read an entry that isn't damaged, or if memory runs out. What was written stays.
 pub fn stat<R: Threads + Log + Sync, F: FileSystem, W: Write>(
     rt: &R,
     alloc: Global,
@@ -78,7 +82,7 @@ struct Held {
     items: u64,
 }
 
-/// Writes the numbers. Returns `Faulty` if opening an engine over the copy fails.
+/// Writes all but the gaps and the damage. Returns `Faulty` if opening an engine over the copy fails.
 fn tell_all<R: Threads + Log + Sync, F: FileSystem, W: Write>(
     rt: &R,
     alloc: Global,

@@ -14,9 +14,10 @@ use std::alloc::Global;
 use std::io;
 use std::io::Write;
 
-/// Writes each file of a log that has an alignment anew without it, and writes a line for each, or that there was none.
+/// Rewrites the padded files of a log without padding, and writes a line for each, or that there was none.
 ///
-/// Fails as `unpad` does, and then writes nothing. Also fails if writing the output fails, after all files were done.
+/// Fails as `unpad` does, with no output; files may have been rewritten by then. Fails with `Output` if writing the
+/// output fails, after all files were done.
 pub fn unpad_log<F: FileSystem, W: Write>(
     alloc: Global,
     files: &mut F,

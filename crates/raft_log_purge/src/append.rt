@@ -1,4 +1,4 @@
-//! Append is rewritten up to a file, and the files up to it go.
+//! Append is rewritten up to a file, and the files up to it leave its live range.
 
 ghost use Rattle.std.specs.Prelude.{◌≡◌, true, IfErr, IfOk, OnErr, OnOk};
 ghost use Rattle.raft_log_machine_laws.specs.Calls.Which.{InAppend};
@@ -31,14 +31,17 @@ use raft_log_purge_copy::{rewrite_groups, rewrite_marks};
 use raft_log_record_base::{Error, FileId, FileSeq, LogQueue, Result};
 use std::alloc::Global;
 
-/// Rewrites Append up to a file, the watermark, but none after the last; up to the last if there is no watermark. Can
-/// end early, after the first or the second step:
-/// - syncs Append, rotates it if the last file is to be rewritten, and writes the owed tombstones
-/// - rewrites all groups, and syncs Rewrite
-/// - takes the files up to the watermark, and all others below the least in use, out of Append's live range
+/// Rewrites Append up to the file `watermark`, or up to the active file if that is lower or there is no watermark:
+/// - Step 1 syncs Append, rotates it if the active file is to be rewritten, and writes the owed tombstones.
+/// - Step 2 rewrites all groups, and syncs Rewrite.
+/// - Step 3 takes these files, and all others below the lowest one in use, out of Append's live range. It doesn't look
+///   at pins.
 ///
-/// Fails as a sync, a rotation, `rewrite_marks`, `rewrite_groups` or the last step does. If it fails, the map is
-/// kept.
+/// Ends after step 1 or 2 if `exit_after_step` is that number. Afterwards the map is the same, nothing is pending, and
+/// no tombstone is owed.
+///
+/// Fails as a sync, a rotation, `rewrite_marks`, `rewrite_groups` or `purge_to` does. If it fails, the map is kept,
+/// after `Failed` by the files.
 pub fn rewrite_append_queue<P: PipeLog, L: Log>(
     alloc: Global,
     rt: &L,
@@ -96,7 +99,7 @@ pub(crate) fn up_to(watermark: Option<FileSeq>, last: FileSeq) -> FileSeq
     }
 }
 
-/// Whether a call is to end after a step.
+/// Whether a call ends after a step.
 fn ends_after(step: u64, exit_after_step: Option<u64>) -> bool
     ensures { result ≡ ends_after step exit_after_step }
 {
@@ -106,7 +109,7 @@ fn ends_after(step: u64, exit_after_step: Option<u64>) -> bool
     }
 }
 
-/// What is done after the tombstones, as far as the call is to go.
+/// Steps 2 and 3, unless the call ends before.
 fn go_on<P: PipeLog, L: Log>(
     alloc: Global,
     rt: &L,
@@ -174,7 +177,7 @@ pub(crate) fn rewrite_synced<P: PipeLog, L: Log>(
     pipes.sync(rt, LogQueue::Rewrite)
 }
 
-/// Takes the files up to the gate out of Append's live range, and all others below the least in use.
+/// Takes the files up to the gate out of Append's live range, and all others below the lowest one in use.
 ///
 /// Fails:
 /// - with `Memory`

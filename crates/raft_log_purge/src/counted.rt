@@ -1,6 +1,5 @@
-//! Purges that count what is live in Rewrite before them, and after them if they succeed. Nothing else shows what of
-//! Rewrite is garbage. A purge that has nothing to do counts nothing. Between two that have, nothing is written to
-//! Rewrite, so the next one finds the same.
+//! Purges that bring the counts of Rewrite to what is live there, before they begin. If they succeed, `purge_and_count`
+//! and `rewrite_append_and_count` do so again at the end, and `rewrite_and_count` resets the counts.
 
 ghost use Rattle.std.specs.Prelude.{◌≤◌, IfErr, IfOk, OnErr, OnOk};
 ghost use Rattle.raft_log_record_base.specs.declared.pipe_log.LogQueue.TheVariants.{Append};
@@ -29,10 +28,9 @@ use raft_log_purge_policy::{Thresholds, is_any_past};
 use raft_log_record_base::{FileSeq, Result};
 use std::alloc::Global;
 
-/// Purges both queues as `purge_expired_files` does. If neither is past its threshold, nothing is counted.
-///
-/// If it fails and a queue is past its threshold, what is live in Rewrite was counted before, and then only what
-/// `purge_expired_files` counts.
+/// Purges both queues as `purge_expired_files` does, and returns the same groups. If a queue is past its threshold, it
+/// first brings the counts to what is live in Rewrite. If the purge succeeds, it does so again, else the counts are as
+/// `purge_expired_files` leaves them.
 pub fn purge_and_count<P: PipeLog, L: Log>(
     alloc: Global,
     rt: &L,
@@ -62,9 +60,8 @@ pub fn purge_and_count<P: PipeLog, L: Log>(
     Ok(answered)
 }
 
-/// Syncs Append and rewrites Rewrite as `sync_and_rewrite` does.
-///
-/// If it fails, what is live in Rewrite was counted before, and then what `sync_and_rewrite` counts.
+/// Syncs Append and rewrites Rewrite as `sync_and_rewrite` does. Before that, the counts are brought to what is live in
+/// Rewrite. Whether it succeeds or fails, they are then as `sync_and_rewrite` leaves them.
 pub fn rewrite_and_count<P: PipeLog, L: Log>(
     alloc: Global,
     rt: &L,
@@ -89,9 +86,8 @@ pub fn rewrite_and_count<P: PipeLog, L: Log>(
     sync_and_rewrite(alloc, rt, pipes, tables, cache, stats, number)
 }
 
-/// Rewrites Append as `rewrite_append_queue` does.
-///
-/// If it fails, what is live in Rewrite was counted before.
+/// Rewrites Append as `rewrite_append_queue` does. The counts are brought to what is live in Rewrite before it, and
+/// after it if it succeeds.
 pub fn rewrite_append_and_count<P: PipeLog, L: Log>(
     alloc: Global,
     rt: &L,

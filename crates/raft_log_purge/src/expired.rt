@@ -59,7 +59,7 @@ pub struct PickedGroups {
     pub rounds: Rounds,
 }
 
-/// Purges Append if it is past its threshold, else does nothing.
+/// Purges Append if it is past its threshold, else changes nothing.
 /// - If no tombstone is owed, deletes files before it writes anything, so that it frees space on a full disk: syncs
 ///   Rewrite, and takes the files below the lowest one in use out of Append's live range.
 /// - Writes the owed tombstones.
@@ -67,14 +67,16 @@ pub struct PickedGroups {
 /// - Takes the files below the lowest one in use out of Append's live range. The active file stays, and so does each
 ///   file from the first pinned one on.
 ///
-/// Returns the groups that the caller is asked to compact, in rising order, and counts the round. If Rewrite was
-/// rewritten before, also returns the groups that have many entries there.
+/// If Append is purged, returns the groups that the caller is asked to compact, and counts the round. If Rewrite was
+/// rewritten before (`restated`), also returns the groups that have many entries there, in any case. The groups are in
+/// rising order.
 ///
-/// If the caller has already surveyed the tables, and Rewrite wasn't rewritten since, that survey is reused instead
-/// of a walk over the groups.
+/// `known` is a survey of these tables and rounds, or `None`. If it is given, and Rewrite wasn't rewritten, it spares a
+/// walk over the groups.
 ///
-/// Fails with `Memory` before anything is done, or as `write_tombstones`, `rewrite_groups`, a sync or the last step
-/// does. If it fails, the map is kept, and no round is counted.
+/// Fails with `Memory` before anything is done, or as `write_tombstones`, `rewrite_groups`, a sync or `purge_to` does.
+/// If it fails, no round is counted. Whether it succeeds or fails, the map is kept if nothing of Append was pending,
+/// after `Failed` by the files.
 pub fn purge_append<P: PipeLog, L: Log>(
     alloc: Global,
     rt: &L,
@@ -110,7 +112,7 @@ pub fn purge_append<P: PipeLog, L: Log>(
     )
 }
 
-/// What a purge of Append has to know of all groups, if Append is past its threshold and Rewrite wasn't rewritten.
+/// If Append is past its threshold, what a purge of it has to know of all groups, unless Rewrite is rewritten before.
 /// `None` also if memory ran out.
 pub(crate) fn survey_if_past<P: PipeLog>(
     alloc: Global,

@@ -50,7 +50,8 @@ impl PurgeCounts {
     ghost use Rattle.raft_log_purge.specs.Standing.{StandIfTold};
     ghost use Rattle.raft_log_purge_policy.specs.Surveying.{SurveysIfTold};
 
-    /// This many entries and values were written to Rewrite before; nothing else was counted yet.
+    /// The counts at an open: this many entries and values were written to Rewrite, none of them is garbage, and no
+    /// group was asked. The next atomic group gets the number 1.
     pub fn new(alloc: Global, written: u64) -> PurgeCounts
         ensures rounds { (g : ℕ) → count_of result.rounds g ≡ 0 }
         ensures stats { result.stats ≡ added Rewrite written no_entries }
@@ -65,8 +66,8 @@ impl PurgeCounts {
         }
     }
 
-    /// Brings the counts to what is live in Rewrite. What is live there and wasn't counted was written; what was
-    /// counted and isn't live is garbage.
+    /// Brings the counts to what is live in Rewrite. If more is live than the counts say, the difference is counted as
+    /// written; if less, as garbage.
     pub fn count_live(&mut self, tables: &MemTables)
         ensures { CountsStanding tables.now self.old self.new }
     {
@@ -134,21 +135,21 @@ impl PurgeCounts {
     }
 }
 
-/// Purges both queues if they are past their thresholds. The map is kept, and nothing is pending.
+/// Purges both queues if they are past their thresholds. Afterwards the map is the same, and nothing is pending.
 /// - Syncs Append.
-/// - Rewrites Rewrite if enough of it is garbage.
-/// - Writes Append's owed tombstones, rewrites the groups that the rules pick, and lets files go that no listener
-///   pins.
+/// - Rewrites Rewrite if it is past its threshold and enough of it is garbage.
+/// - Purges Append if it is past its threshold. Writes the owed tombstones, rewrites the groups that the rules pick,
+///   and takes files that no listener pins out of its live range.
 ///
-/// Returns the groups that are asked to be compacted, from the least up; if Rewrite was rewritten, also those that
-/// have many entries there. Returns how much is live in Rewrite then, if Append was purged.
+/// If Append was purged, returns the groups that the caller is asked to compact, and how much is live in Rewrite now.
+/// If Rewrite was rewritten, also returns the groups that have many entries there. The groups are in rising order.
 ///
-/// If the caller has already surveyed the tables, and Rewrite isn't rewritten, that survey is reused instead of a
+/// `known` is a survey of these tables and rounds, or `None`. If it is given, and Rewrite isn't rewritten, it spares a
 /// walk over the groups.
 ///
-/// Fails as one of its steps does: a sync, a rotation, a write of tombstones or copies, or files that go. If it
-/// fails, the map is kept, and no round is counted. The old copies of what was written to Rewrite again are counted
-/// as garbage.
+/// Fails as one of its steps does: a sync, a rotation, a write of tombstones or copies, or a deletion. If it fails, the
+/// map is kept, after `Failed` by the files, and no round is counted. If Rewrite was rewritten in part, the old copies
+/// are counted as garbage.
 pub fn purge_expired_files<P: PipeLog, L: Log>(
     alloc: Global,
     rt: &L,
@@ -212,10 +213,10 @@ fn purge_rewrite<P: PipeLog, L: Log>(
 }
 
 /// Syncs Append, and rewrites Rewrite, whatever its size is: what is live there is written again, and its old files
-/// go.
+/// leave its live range. Afterwards the map is the same, and nothing is pending in either queue.
 ///
-/// Fails as one of its steps does: a sync, a rotation, a write, or files that go. If it fails, the map is kept, and
-/// the old copies of the groups that were written again are counted as garbage.
+/// Fails as one of its steps does: a sync, a rotation, a write, or a deletion. If it fails, the map is kept, after
+/// `Failed` by the files. The counts are then as `rewrite_rewrite_queue` leaves them.
 pub fn sync_and_rewrite<P: PipeLog, L: Log>(
     alloc: Global,
     rt: &L,

@@ -1,7 +1,8 @@
-//! Whole purges, put together from their parts. The map is kept at every exit.
+//! Whole purges, put together from their parts. Each works on a log's pipes and the tables of its groups.
 //!
-//! Each works on a log's pipes and the tables of its groups. Its contract holds for every map that the log had, with
-//! whatever batches were pending (`Represents`): it asks nothing of the caller.
+//! The map is kept, whether a purge succeeds or fails. After `Failed` the engine has failed, and its files can be
+//! opened with this map. `purge_append` and `rewrite_rewrite_queue` keep it only if nothing of Append is pending. The
+//! others sync Append first.
 #![tactic(auto)]
 
 pub mod append;

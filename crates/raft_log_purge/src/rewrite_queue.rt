@@ -26,9 +26,9 @@ use std::alloc::Global;
 /// The map is kept only if nothing of Append is pending: the caller has synced it.
 ///
 /// Fails with `Memory` before anything is done, or as a rotation, `compact_rewrite_groups`, a sync or
-/// `delete_stale_files` does. If it fails, the map is kept too. If all groups were restated and synced, the garbage is
-/// subtracted from the counts. Else the old copies of the groups that were restated are counted as garbage; what was
-/// written of a group that wasn't restated isn't counted.
+/// `delete_stale_files` does. If it fails, the map is kept too, after `Failed` by the files. If all groups were
+/// restated and synced, the garbage is subtracted from the counts. Else the old copies of the groups that were restated
+/// are counted as garbage. What was written of a group that wasn't restated isn't counted.
 pub fn rewrite_rewrite_queue<P: PipeLog, L: Log>(
     alloc: Global,
     rt: &L,

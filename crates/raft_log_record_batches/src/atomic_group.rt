@@ -4,7 +4,8 @@ use raft_log_record_frames::{AtomicGroupStatus, mark_value};
 use std::alloc::{AllocError, Global};
 use std::marker::Model;
 
-/// Marks the batches of one atomic group, the first, those between, and the last.
+/// Marks the batches of one atomic group: the first, those between, and the last. Each must be `Filling` and have no
+/// mark yet. If a mark isn't added for lack of memory, the builder and the batch's items stay as they were.
 ///
 /// Contracts see a builder as the group's number and the last mark that was added.
 #[derive(Debug, Drop)]
@@ -69,7 +70,7 @@ impl AtomicGroupBuilder {
         Ok(())
     }
 
-    /// Marks the first batch of the group, which has no mark yet. If it fails, no item changes.
+    /// Marks the first batch of a group that hasn't begun.
     pub fn begin(&mut self, alloc: Global, batch: &mut LogBatch) -> Result<(), AllocError>
         requires filling { batch.old.state ≡ Filling }
         requires unmarked { marking_of_items batch.old.items ≡ Unmarked }
@@ -82,7 +83,7 @@ impl AtomicGroupBuilder {
         self.mark(alloc, batch, AtomicGroupStatus::Begin)
     }
 
-    /// Marks a batch between the first and the last of the group, which has no mark yet. If it fails, no item changes.
+    /// Marks a batch between the first and the last. The group must have begun and not ended.
     pub fn add(&mut self, alloc: Global, batch: &mut LogBatch) -> Result<(), AllocError>
         requires filling { batch.old.state ≡ Filling }
         requires unmarked { marking_of_items batch.old.items ≡ Unmarked }
@@ -95,7 +96,7 @@ impl AtomicGroupBuilder {
         self.mark(alloc, batch, AtomicGroupStatus::Middle)
     }
 
-    /// Marks the last batch of the group, which has no mark yet. If it fails, no item changes.
+    /// Marks the last batch. The group must have begun and not ended.
     pub fn end(&mut self, alloc: Global, batch: &mut LogBatch) -> Result<(), AllocError>
         requires filling { batch.old.state ≡ Filling }
         requires unmarked { marking_of_items batch.old.items ≡ Unmarked }

@@ -1,6 +1,5 @@
-//! The most bytes of a record, computed from the entries, keys and values in its batch and their lengths. This crate
-//! has laws alone, no code that runs. With them a caller knows before it adds to a batch that nothing fails with
-//! `Full`.
+//! Laws on the most bytes of a record, computed from the entries, keys and values in its batch. By them a caller knows,
+//! before it adds to a batch, that nothing will fail with `Full`.
 ghost use Rattle.raft_log_record_batches.specs.Laws.{
   AdditionsRaise,
   BoundedRecordsAreMade,
@@ -15,13 +14,14 @@ pub fn no_record_is_longer()
     ensures { NoRecordIsLonger }
 {}
 
-/// Each addition to a batch raises its bound by at most 32 bytes, plus ten for each entry, and the bytes of the entries
-/// or of the pair.
+/// An empty batch has the bound 34. An addition raises it by at most 32 bytes, plus ten for each entry, and the bytes
+/// of the entries or of the key and value. Merging another batch adds that one's bound, less 34.
 pub fn additions_raise()
     ensures { AdditionsRaise }
 {}
 
-/// If a batch may have the bytes of these entries too, they don't fail with `Full`.
+/// If these entries keep a batch within the limit of 2,147,483,647 bytes of entries, adding them doesn't fail with
+/// `Full`.
 pub fn entries_that_fit_are_not_full()
     ensures { EntriesThatFitAreNotFull }
 {}
@@ -31,7 +31,7 @@ pub fn bounded_records_are_made()
     ensures { BoundedRecordsAreMade }
 {}
 
-/// The lengths and bounds of two records, computed byte by byte.
+/// The lengths and bounds of two example records.
 pub fn worked_records()
     ensures { WorkedRecords }
 {}

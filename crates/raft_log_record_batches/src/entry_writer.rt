@@ -1,9 +1,7 @@
 //! Entries that write their own bytes.
 use std::alloc::AllocError;
 
-/// Entries that write their own bytes. Each is known by its place among them.
-///
-/// Contracts see the bytes of each.
+/// A list of entries that write their own bytes. Contracts see the bytes of each.
 pub trait EntryWriter {
     ghost use Rattle.std.specs.Prelude.{◌≡◌, ◌<◌, ℕ, List, length, OnOk, OnErr};
     ghost use Rattle.raft_log_record_items.specs.Writing.{KeepsFront};

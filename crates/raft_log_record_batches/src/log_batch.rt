@@ -184,8 +184,8 @@ impl LogBatch {
         self.items.add_command(raft_group_id, command)
     }
 
-    /// Adds a put of a key. Fails with `InvalidArgument` if the key begins with two underscores. If it fails, no item
-    /// changes.
+    /// Adds a put of a key. Fails with `InvalidArgument` if the key begins with two underscores, or with `Memory`. If
+    /// it fails, no item changes.
     pub fn put(&mut self, alloc: Global, raft_group_id: u64, key: &[u8], value: &[u8]) -> Result<()>
         requires { self.old.state ≡ Filling }
         ensures ok { OnOk result (Puts self.old self.new raft_group_id key.now value.now) }
@@ -199,8 +199,7 @@ impl LogBatch {
         Ok(())
     }
 
-    /// Adds a put of a key with these bytes, which aren't copied. Fails with `InvalidArgument` if the key begins with
-    /// two underscores. If it fails, no item changes.
+    /// Adds a put of a key with these bytes, which aren't copied. Fails as `put` does; then no item changes.
     pub fn put_bytes(
         &mut self,
         alloc: Global,
@@ -220,8 +219,7 @@ impl LogBatch {
         Ok(())
     }
 
-    /// Adds a deletion of a key. Fails with `InvalidArgument` if the key begins with two underscores. If it fails, no
-    /// item changes.
+    /// Adds a deletion of a key. Fails as `put` does; then no item changes.
     pub fn delete(&mut self, alloc: Global, raft_group_id: u64, key: &[u8]) -> Result<()>
         requires { self.old.state ≡ Filling }
         ensures ok { OnOk result (AddsItem self.old self.new (del_item raft_group_id key.now)) }
@@ -235,8 +233,8 @@ impl LogBatch {
         Ok(())
     }
 
-    /// Adds a put of a key with the bytes of a message. Fails with `InvalidArgument` if the key begins with two
-    /// underscores. If it fails, no item changes.
+    /// Adds a put of a key with the bytes of a message, from which the message can be read back. Fails as `put` does;
+    /// then no item changes.
     pub fn put_message<M: Message>(
         &mut self,
         alloc: Global,
@@ -258,7 +256,7 @@ impl LogBatch {
     }
 
     /// Adds a put of a key as it was read from a log: the key may be one of the log's own. Fails with `InvalidArgument`
-    /// if it would be a mark of an atomic group. If it fails, no item changes.
+    /// if it would be a mark of an atomic group, or with `Memory`. If it fails, no item changes.
     pub fn put_as_read(
         &mut self,
         alloc: Global,
@@ -297,7 +295,8 @@ impl LogBatch {
     /// Makes the record, and returns its length in bytes, which is the same for every file that it may be signed for.
     /// An empty batch has no bytes, and doesn't fail.
     ///
-    /// Fails with `Full` if the record's length needs more than 56 bits. If it fails, only the buffer's memory changes.
+    /// Fails with `Full` if the record's length needs more than 56 bits, or with `Memory`. If it fails, only the
+    /// buffer's capacity changes.
     pub fn finish_populate(&mut self) -> Result<usize>
         requires { self.old.state ≡ Filling }
         ensures ok { OnOk result (IsButBuffer (record self.old { state = Populated }) self.new) }
@@ -326,8 +325,7 @@ impl LogBatch {
         }
     }
 
-    /// The record's length in bytes, the same for every file that it may be signed for. An empty batch has none. Its
-    /// entries are one after another in its block.
+    /// The record's length in bytes, the same for every file that it may be signed for; 0 for an empty batch.
     pub fn encoded_len(&self) -> usize
         requires { IsMade self.now.state }
         ensures ready { IsReadyForEach result self.now.items self.now.entries }
@@ -392,8 +390,8 @@ impl LogBatch {
         bytes
     }
 
-    /// Takes note that the record is written at this place. Each entry gets the place of the entry block, which begins
-    /// after the header, and each key gets the file.
+    /// Records that the batch was written at this place. Each entry gets the place of the entry block, which begins 16
+    /// bytes later, after the header. Each key gets the file.
     pub fn finish_write(&mut self, handle: FileBlockHandle)
         requires signed { IsSigned self.old.state }
         requires place { handle.offset + 16 < 2 ^ 64 }
@@ -414,7 +412,7 @@ impl LogBatch {
     }
 
     /// About how many bytes the record has: those of the header and the entry block, and those of the footer if each
-    /// number has eight; 2^64 - 1 if it would be more. An empty batch has none.
+    /// number has eight; at most 2^64 - 1, and 0 for an empty batch.
     pub fn approximate_size(&self) -> usize
         ensures { result ≡ min (batch_size self.now.items self.now.entries) (2 ^ 64 - 1) }
     {
@@ -424,9 +422,8 @@ impl LogBatch {
         items_size(self.items.as_slice()).saturating_add(28 + block_len(self.entries_len))
     }
 
-    /// Moves the items to the end of the vector, and leaves an empty batch in state `Filling`, with its capacity for
-    /// items. It can fail only if the vector has no room for them, and then changes nothing. The vector's capacity
-    /// doesn't shrink.
+    /// Moves the items to the end of the vector, and leaves an empty batch as `clear` does. It can fail only if the
+    /// vector has no room for them, and then moves none. The vector's capacity doesn't shrink.
     pub fn drain(&mut self, into: &mut Vec<LogItem>) -> Result<(), AllocError>
         ensures items { OnOk result (into.new.items ≡ into.old.items ++ self.old.items) }
         ensures room { vec_capacity into.old ≤ vec_capacity into.new }

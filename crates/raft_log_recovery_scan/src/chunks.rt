@@ -12,9 +12,11 @@ pub struct Workers {
     pub rewrite: usize,
 }
 
-/// How many workers each queue gets of so many threads, by how many files it has. There are no more workers than
-/// files. If both queues have files, each gets its share by their number, at least one worker. Else the queue with
-/// files gets all.
+/// How many workers each queue gets of so many threads, by how many files it has. There are as many workers as threads,
+/// but no more than files.
+///
+/// If both queues have files, each gets its share by their number, but at least one worker, even with fewer than two
+/// threads. If only one has files, both numbers are that of all workers.
 pub fn share_workers(threads: usize, append_files: usize, rewrite_files: usize) -> Workers
     ensures append { result.append
         ≡ append_share (min threads (append_files + rewrite_files)) append_files rewrite_files }

@@ -36,7 +36,8 @@ impl FileKind {
     ghost use Rattle.raft_log_recovery_scan.specs.Names.{end_of, name_of, IsNameOf, IsOther, FailsToName};
 
     /// Parses this name, if it is that of a file of this kind; `None` for other names. Fails with `Corruption` for a
-    /// name that begins with a number and has more between it and the end: the file couldn't be found again.
+    /// name that begins with a number and has more between it and the suffix. The log would look for this file under
+    /// another name. Also fails with `Memory`.
     pub fn read_name(self, alloc: Global, name: &str) -> Result<Option<FileName>>
         ensures ok { IfOk result (λ found. MatchOption found
             (IsOther self name.now) (λ said. IsNameOf self said.signed said.seq name.now)) }
@@ -56,7 +57,7 @@ impl FileKind {
         Err(misnamed(alloc, name))
     }
 
-    /// The number in a name, if it is that of a file of this kind.
+    /// The number with which a name begins, if it ends with this kind's suffix. There may be more between the two.
     pub fn parse_name(self, name: &str) -> Option<FileSeq>
         ensures { (n : ℕ) → (result ≡ Some n) ↔ IsNamed (end_of self) name.now n }
     {
@@ -67,7 +68,8 @@ impl FileKind {
         }
     }
 
-    /// The name of the file with this number. Fails with `NumberRange` for a number of more than sixteen digits.
+    /// The name of the file with this number, without a sign. Fails with `NumberRange` for a number of more than
+    /// sixteen digits, or with `Memory`.
     pub fn build_name(self, alloc: Global, seq: FileSeq) -> Result<String>
         ensures ok { IfOk result (λ name. IsNameOf self false seq (string_bytes name)) }
         ensures err { IfErr result (λ error. IsNameRefusal seq error) }
@@ -79,8 +81,8 @@ impl FileKind {
         }
     }
 
-    /// The name with this content; a number of sixteen digits leaves no room for a sign. Fails with `NumberRange` for
-    /// a number of more digits.
+    /// The name with this content. A number of sixteen digits leaves no room for a sign, and gets none. Fails with
+    /// `NumberRange` for a number of more digits, or with `Memory`.
     pub fn name_with(self, alloc: Global, said: FileName) -> Result<String>
         ensures ok { IfOk result (λ name. string_bytes name ≡ name_of self said.signed said.seq) }
         ensures small { OnOk result (said.seq < 10 ^ 16) }

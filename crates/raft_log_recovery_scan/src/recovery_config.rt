@@ -13,7 +13,7 @@ pub struct RecoveryConfig {
     pub queue: LogQueue,
     /// What is done about damaged files.
     pub mode: RecoveryMode,
-    /// How many workers read at once; none reads no file.
+    /// How many workers read at once; with 0, no file is read.
     pub concurrency: usize,
     /// How many bytes of a file are read at a time.
     pub read_block_size: u64,

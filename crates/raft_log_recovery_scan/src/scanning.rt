@@ -38,17 +38,19 @@ pub struct ScannedFiles {
 
 /// Finds and opens the files of both queues, and the reserved ones, in these directories, the main one first. Makes
 /// missing directories; changes no file.
-/// - The last file of a queue is opened for writing, and under `TolerateAnyCorruption` each of its files; the others
-///   for reading.
-/// - For each kind, only the files after the last gap are kept. The others stay in their directories, and a queue's
+/// - The last file of a queue is opened for writing, and under `TolerateAnyCorruption` each of its files. All others,
+///   and the reserved ones, are opened for reading.
+/// - For each kind, only the files after the last gap are returned. The others stay in their directories, and a queue's
 ///   are logged. A gap is a missing number, or two files with one number.
-/// - A file keeps its name, with a sign before the number or without one.
+/// - A file's name may have a plus sign before the number.
 ///
 /// Fails:
 /// - with `Other` if a file has the path of a directory
-/// - with `Corruption` if a name begins with a number and has more between it and the end
+/// - with `Corruption` if a name begins with a number and has more between it and the suffix
 /// - with `Io` if a directory isn't made or the file system has stopped
 /// - with `Memory`
+///
+/// If it fails, some of the directories may have been made, and nothing else changed.
 pub fn scan<F: FileSystem, L: Log>(
     alloc: Global,
     rt: &L,

@@ -51,7 +51,7 @@ pub enum Call<B> {
     Scan {
         /// The group.
         group: u64,
-        /// The least key, if the scan has one.
+        /// The scan has only keys from this one on, if there is one.
         start: Option<Vec<u8>>,
         /// The scan has only keys below this one, if there is one.
         end: Option<Vec<u8>>,
@@ -70,18 +70,18 @@ pub enum Call<B> {
 /// How garbage is collected.
 #[derive(Drop)]
 pub enum Purge {
-    /// In both queues, if they are past the thresholds of the settings.
+    /// Purges each queue if it is past its threshold in the settings.
     Expired,
-    /// All files that nothing in use is in. Nothing is copied.
+    /// Deletes the files that have nothing in use. Copies nothing.
     Stale,
-    /// What is live in Append is written to Rewrite.
+    /// Writes what is live in Append to Rewrite.
     RewriteAppend {
         /// The number of the last file to rewrite, if it isn't the last one of Append.
         watermark: Option<u64>,
         /// The step to end after, if it isn't the last one.
         exit_after_step: Option<u64>,
     },
-    /// What is live in Rewrite is written to it again.
+    /// Writes what is live in Rewrite to it again.
     RewriteRewrite,
 }
 
@@ -121,12 +121,12 @@ pub enum Event<B, C> {
         /// The directory. It is made if it doesn't exist.
         target: String,
     },
-    /// A fault of the file system is armed. It makes later calls fail.
+    /// Arms a fault of the file system. It may make later calls fail.
     Arm {
         /// The fault.
         fault: Fault,
     },
-    /// The machine stops. No engine has the log open then.
+    /// Stops the machine. No engine has the log open then.
     Crash {
         /// What remains of the unsynced changes.
         left: C,

@@ -9,12 +9,13 @@ use std::alloc::{AllocError, Global};
 use std::thread::Threads;
 
 /// The files of a log while no engine has it open. An open makes an engine `S` of them, which writes batches `B`. A
-/// crash leaves what `C` says. Each call ends as the model says, whichever log of the model the files or the engine
-/// are.
+/// crash leaves what `C` says. Each call ends as the model says, for each model log that the files or the engine
+/// represent. Opens, copies and crashes have a premise (`Asks`): no CRC collision, and a clear target of a copy.
 pub trait LogFiles<R, S, B, C>: Sized {
     ghost use Rattle.raft_log_world.specs.Logs.{LogOf};
 
-    /// Which log of the model the files or an engine are, what a batch says, and what is asked of chance.
+    /// Which model log the files or an engine represent, what a batch changes, what "no CRC collision" means, and which
+    /// targets are clear.
     ghost log: { LogOf S Self B C };
 
     /// Opens the log with this many workers, at least one, which may be threads of the runtime. If it fails, returns
@@ -46,18 +47,20 @@ pub trait LogFiles<R, S, B, C>: Sized {
         ensures { Follows log (Storage.Open engine.old) (Event.Serve (Call.GetEntry group index)) result
             (Storage.Open engine.new) };
 
-    /// Reads the first index at which a group has an entry. Returns it, or none if the group has no entry.
+    /// Reads the first index at which a group has an entry. Returns it, or none if the group has no entry. Only a
+    /// failed engine fails it.
     fn first_index(engine: &mut S, group: u64) -> Answer
         ensures { Follows log (Storage.Open engine.old) (Event.Serve (Call.FirstIndex group)) result
             (Storage.Open engine.new) };
 
-    /// Reads the last index at which a group has an entry. Returns it, or none if the group has no entry.
+    /// Reads the last index at which a group has an entry. Returns it, or none if the group has no entry. Only a failed
+    /// engine fails it.
     fn last_index(engine: &mut S, group: u64) -> Answer
         ensures { Follows log (Storage.Open engine.old) (Event.Serve (Call.LastIndex group)) result
             (Storage.Open engine.new) };
 
     /// Reads the entries of a group from an index on, below another one, up to a greatest size in bytes. Returns them,
-    /// or how the read failed.
+    /// at least one if the group has all of the range, and none if it has none; or how the read failed.
     fn fetch(
         engine: &mut S,
         alloc: Global,

@@ -1,8 +1,8 @@
 //! Questions of a user of a log, and the laws that answer them. A law is the contract of an empty function.
 ghost use Rattle.raft_log_world.specs.Questions.{BatchesAreWhole, CopiesHoldTheLog, FailedWritesLeaveNoTrace, PurgesKeepContents, SyncedBatchesAreKept};
 
-/// Is a synced batch ever lost? No. Once a write with a sync, a sync, a purge or a close succeeds, all batches before
-/// it and its own are in the contents, whatever happens. Only batches that are written later change these contents.
+/// Is a synced batch ever lost? No. After a write with a sync, a sync, a purge or a close that succeeds, all contents
+/// up to it stay. Only batches that are written later change them.
 pub fn synced_batches_are_kept<B, C>()
     ensures { SyncedBatchesAreKept B C }
 {}
@@ -14,8 +14,8 @@ pub fn batches_are_whole<B, C>()
 {}
 
 /// What does a write leave that fails? If the engine runs on, nothing: the contents are those before it. If the engine
-/// fails, a later open may find the batch, whole and after all others, or not. The last few batches that weren't synced
-/// may be lost with it.
+/// fails, a later open finds the batch whole, after all others, or not at all. A crash may also lose the last few
+/// unsynced batches before it.
 pub fn failed_writes_leave_no_trace<B, C>()
     ensures { FailedWritesLeaveNoTrace B C }
 {}
@@ -25,8 +25,8 @@ pub fn purges_keep_contents<B, C>()
     ensures { PurgesKeepContents B C }
 {}
 
-/// What does a copy hold? All durable contents, and the first few of the batches that weren't synced. If a crash left
-/// the log, the same contents. All of the copy is durable. If the copying fails, the log is as before.
+/// What does a copy hold? All durable contents, and the first few of the batches that weren't synced. After a crash
+/// there are none, so it holds all contents. All of the copy is durable. If the copying fails, the log is as before.
 pub fn copies_hold_the_log<B, C>()
     ensures { CopiesHoldTheLog B C }
 {}

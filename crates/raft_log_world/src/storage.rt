@@ -54,7 +54,7 @@ fn call_engine<R, S, B: Drop, C, F: LogFiles<R, S, B, C>>(
 }
 
 impl<S: Drop, F: Drop> Storage<S, F> {
-    /// Plays one event. Fails only if there is no memory for what a crash leaves.
+    /// Plays one event. Fails only if there is no memory for what a crash leaves; then the log is dropped.
     pub fn play<R: Threads + Sync, B: Drop, C: Drop>(
         self,
         rt: &R,
@@ -191,7 +191,7 @@ impl<S: Drop, F: Drop> Storage<S, F> {
         }
     }
 
-    /// The machine stops: only what the crash leaves is there, and no engine has the log open.
+    /// Stops the machine: only what the crash leaves remains, and no engine has the log open.
     fn crash<R, B: Drop, C: Drop>(self, left: &C) -> Result<Played<S, F>, AllocError>
     where
         F: LogFiles<R, S, B, C>,

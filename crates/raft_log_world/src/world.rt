@@ -14,7 +14,8 @@ use std::thread::Threads;
 /// Plays events one after another, starting from these files. Returns the report: how each event ended, and the engine
 /// or the files after the last one.
 ///
-/// Fails with `AllocError` if there is no room for the report, or for what a crash leaves. There is no report then.
+/// Fails with `AllocError` if there is no memory for the report, or for what a crash leaves. Then there is no report,
+/// and the log is dropped.
 pub fn run_log<R: Threads + Sync, S: Drop, B: Drop, C: Drop, F: LogFiles<R, S, B, C> + Drop>(
     rt: &R,
     alloc: Global,
@@ -53,7 +54,7 @@ impl<S: Drop, F: Drop> World<S, F> {
         }
     }
 
-    /// Plays one event, and notes how it ended.
+    /// Plays one event, and records how it ended. Fails as `run_log` does.
     pub fn step<R: Threads + Sync, B: Drop, C: Drop>(
         self,
         rt: &R,

@@ -16,13 +16,13 @@ const END: &[u8] = b"end\n";
 pub enum Asked {
     /// An event.
     Event(Event),
-    /// Lines that a session doesn't have there.
+    /// Lines that are no event of a session, or that couldn't be read for lack of memory.
     Unreadable,
     /// Nothing more: the input has ended.
     End,
 }
 
-/// Reads what the next lines request: one line, or those of a round up to its end.
+/// Reads what the next lines request: one line, or those of a round up to its end. Fails as the input does.
 pub fn read_asked<I: BufRead>(alloc: Global, input: &mut I) -> io::Result<Asked> {
     let lines = read_lines(alloc, input)?;
     if lines.is_empty() {

@@ -11,7 +11,8 @@ pub struct Found {
     pub bytes: u64,
 }
 
-/// Counts the files in the directories of these settings, as far as possible; none if a directory doesn't exist.
+/// Counts the files in the directories of these settings. A directory that can't be listed counts as empty, and a file
+/// that can't be opened isn't counted.
 pub fn found_by<F: FileSystem>(files: &F, alloc: Global, config: &Config) -> Found {
     let main = found_in(files, alloc, config.dir.as_str());
     let Some(spill) = &config.spill_dir else {

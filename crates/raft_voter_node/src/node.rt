@@ -21,8 +21,12 @@ pub struct Node<F> {
 
 impl<F: FileSystem + Sync + Drop> Node<F> {
     /// Opens the store whose log these settings name. Returns it with a line for each stored voter: its group and its
-    /// status, sorted by group. Logs a line with what was found, how long the opening took until the voters were read,
-    /// and which files the log has now.
+    /// status, sorted by group. Logs a line:
+    /// - how many files, bytes and groups were found
+    /// - how many milliseconds passed until the store was open; the voters are read after that
+    /// - which files the log has now
+    ///
+    /// Fails if the open or a read of the voters fails, or if memory runs out; then it drops the files.
     pub fn open<R: Threads + Log + Sync + Clock>(
         rt: &R,
         alloc: Global,
@@ -45,7 +49,9 @@ impl<F: FileSystem + Sync + Drop> Node<F> {
         Ok((node, lines))
     }
 
-    /// Does what an event of a session requests, and returns its lines.
+    /// Does what an event of a session requests, and returns its lines: those of a round (`serve_round`), `purged`, or
+    /// why a purge failed. For any other event it does nothing, and returns `not here`. Fails only for lack of memory,
+    /// perhaps after the event was done.
     pub fn answer<R: Log>(&mut self, rt: &R, event: Event) -> anyhow::Result<String> {
         match event {
             Event::Round { requests } => {
@@ -71,7 +77,8 @@ impl<F: FileSystem + Sync + Drop> Node<F> {
     }
 }
 
-/// Logs what an open found, and returns a line for each stored voter.
+/// Reads the voters, logs what an open found, and returns a line for each stored voter. `millis` is how long the open
+/// took.
 fn standing<R: Log, P: PipeLog>(
     rt: &R,
     alloc: Global,
@@ -86,7 +93,7 @@ fn standing<R: Log, P: PipeLog>(
     voter_lines(alloc, voters)
 }
 
-/// Logs what an open found, how long it took, and which files the log has now.
+/// Logs what an open found, how long it took until the store was open, and which files the log has now.
 fn log_opening<R: Log>(
     rt: &R,
     found: Found,

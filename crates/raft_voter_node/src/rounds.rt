@@ -6,8 +6,8 @@ use raft_voter::{Items, Memory, Outcome, Request, Round, RoundService};
 use raft_voter_session::round_lines;
 use std::alloc::Global;
 
-/// Serves a round of this number, and returns its lines (`round_text`): the outcome and each reply, after all that the
-/// round changed is durable; or `cut`. If memory runs out, the round may have been served, and there are no lines.
+/// Serves a round with this number, and returns its lines (`round_text`): the replies of the service's voters; or that
+/// it was cut off, and which requests were refused. Fails only for lack of memory; the round may have been served then.
 pub fn serve_round<R, S: RoundService<R>>(
     rt: &R,
     alloc: Global,

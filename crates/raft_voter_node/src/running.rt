@@ -10,8 +10,11 @@ use std::thread::Threads;
 use std::time::Clock;
 
 /// Runs a node over these files. It writes the stored voters, and then `ready`. It does what each line or round
-/// requests, and writes its lines after they are durable. At the end of the input it closes the store, and returns the
-/// files. If the log or the output fails, the node ends with that error, and also if the log can't be closed cleanly.
+/// requests, and then writes its lines, or `unreadable` if it isn't an event. The lines of a round are written after
+/// its sync. At the end of the input it closes the store, and returns the files.
+///
+/// Fails if the open, the log, the input or the output fails, or if memory runs out; then it doesn't close the store.
+/// Also fails if the close does. It writes the lines of the event in which the log fails.
 pub fn run<R: Threads + Log + Sync + Clock, F: FileSystem + Sync + Drop, I: BufRead, W: Write>(
     rt: &R,
     alloc: Global,

@@ -44,8 +44,7 @@ pub enum Arguments {
 }
 
 impl Arguments {
-    /// What the arguments after the program's name request. The program knows no argument that isn't UTF-8. Fails only
-    /// for lack of memory.
+    /// What the arguments after the program's name request; `Others` if one isn't UTF-8. Fails only for lack of memory.
     pub fn read(rt: &(impl Env + AllocGlobal)) -> Result<Arguments, AllocError> {
         if !has_arguments(rt) {
             return Ok(Arguments::Nothing);
@@ -62,7 +61,7 @@ impl Arguments {
         }
     }
 
-    /// What these words request. The directory is the word, unchanged.
+    /// What these words request. The directory is the word, unchanged. Fails only for lack of memory.
     pub fn of(words: &[String]) -> Result<Arguments, AllocError>
         ensures { IfOk result (Asks (map string_bytes words.now)) }
     {

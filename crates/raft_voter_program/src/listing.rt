@@ -18,12 +18,12 @@ const OPEN_REFUSED_TEXT: &str = "open refused\n";
 /// The status if the open fails.
 const OPEN_REFUSED: u8 = 4;
 
-/// Opens a store on its files, with this many workers, and writes a line for each voter, by rising group. The status is
-/// 0. If the open fails, writes that, and the status is 4.
+/// Opens a store on its files, with this many workers. Writes a line for each voter, in rising order of the groups, and
+/// returns status 0. If the open fails, writes that, and returns status 4.
 ///
-/// An `Err` says that memory ran out, or that a read of the store or the writer failed. It is also returned if the
-/// store listed its groups twice or out of order. Then nothing was written, or a prefix of what may be written, but not
-/// all.
+/// Fails if memory runs out, or if a read of the store or the writer fails. It also fails if the store lists a group
+/// twice or out of order. Then nothing was written, or a prefix of what may be written, but not all. The error isn't
+/// `Interrupted`.
 pub fn list_voters<
     R: Threads + Sync,
     S: VoterStorage<R> + Drop,

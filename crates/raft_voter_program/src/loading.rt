@@ -17,12 +17,13 @@ use std::io::{ErrorKind, Write};
 use std::rt::Files;
 use std::thread::Threads;
 
-/// Copies the files of a real directory into a file system in memory, and opens a store on them with the usual
-/// settings. Writes a line for each of its voters, in ascending order of group, and returns status 0. If the open
+/// Copies the files of a real directory into a file system in memory, and opens a store on them with the default
+/// settings. Writes a line for each of its voters, in rising order of the groups, and returns status 0. If the open
 /// fails, it writes that, and returns status 4. It changes nothing in the real directory.
 ///
-/// Fails with an `Err` if reading the directory fails, which is logged; then nothing was written. It also fails if
-/// memory, a read of the store or the writer fails. Then nothing was written, or a prefix of what may be written.
+/// Fails if reading the directory fails, which is logged; then nothing was written. It also fails if memory runs out,
+/// or if a read of the store or the writer fails. Then nothing was written, or a prefix of what may be written, but not
+/// all.
 pub fn load<R: Threads + Log + Sync + Files<File = File> + AllocGlobal + Clone + Drop, W: Write>(
     rt: &R,
     alloc: Global,
@@ -39,8 +40,8 @@ pub fn load<R: Threads + Log + Sync + Files<File = File> + AllocGlobal + Clone +
     list_voters::<R, LogVoters, LogFiles, W>(rt, alloc, files, workers, writer)
 }
 
-/// The files of a real directory, in a file system in memory, as a log with the usual settings. If reading them fails,
-/// that is logged.
+/// The files of a real directory, in a file system in memory, as a log with the default settings. If reading them
+/// fails, that is logged.
 fn loaded_files<R: Log + Files<File = File> + AllocGlobal + Clone + Drop>(
     rt: &R,
     alloc: Global,

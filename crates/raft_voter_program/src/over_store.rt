@@ -67,8 +67,8 @@ pub fn exit_status(ended: io::Result<u8>) -> u8
     }
 }
 
-/// The program. With arguments it rejects them and reads nothing; without arguments it runs a session. An `Err` says
-/// that memory ran out, or that the reader or the writer failed, and claims no verdict.
+/// The program: without arguments it runs a session as `run_over` does. With arguments it reads nothing, writes that
+/// they are rejected, and returns status 2. Fails as `run_over` does.
 pub fn program_over<
     R: Threads + Sync,
     S: VoterStorage<R> + Drop,
@@ -107,9 +107,9 @@ pub fn program_over<
 /// - 1 if it is no or the settings are rejected,
 /// - 2 for an unreadable line.
 ///
-/// An `Err` says that memory ran out, or that the reader or the writer failed. Then nothing was written, or a prefix of
-/// what may be written, and no verdict is claimed. A session that is too long is read only as far as needed to
-/// recognize that.
+/// Fails if memory runs out, or if the reader or the writer fails. Then nothing was written, or a prefix of what may be
+/// written, but not all. The error isn't `Interrupted`. At most 268,435,457 bytes are read, one more than a session may
+/// have.
 pub fn run_over<
     R: Threads + Sync,
     S: VoterStorage<R> + Drop,
@@ -206,7 +206,7 @@ pub fn run_bytes_leaving<
     Ok(Ended { status, files })
 }
 
-/// Reads the bytes of a session. Of one that is too long, reads only as many as needed to recognize that.
+/// Reads the bytes of a session; of one that is too long, only one more than a session may have.
 fn read_front<I: Read>(alloc: Global, reader: &mut I) -> io::Result<Vec<u8>>
     ensures ok { IfOk result (λ front. IfSome (I.remaining reader.old) (λ input.
         front.items ≡ take 268435457 input)) }

@@ -26,7 +26,7 @@ use std::thread::Threads;
 /// - With `--save` and a directory it also keeps its log there.
 /// - With `--load` and a directory it lists the voters of the log there.
 /// - `--help` prints the usage.
-/// - Others are wrong: it prints the usage to standard error.
+/// - It rejects others with status 2, and prints the usage to standard error.
 pub fn start<
     R: Env
         + Input
@@ -82,9 +82,8 @@ fn print_usage<W: Write>(writer: &mut W) -> io::Result<u8>
     Ok(0)
 }
 
-/// `program_over` with a store on a log: rejects arguments without reading anything, and runs a
-/// session without arguments. Fails with an `Err` if memory, the reader or the writer fails; then no verdict is
-/// claimed.
+/// `program_over` with a store on a log: runs a session without arguments, and rejects arguments without reading
+/// anything. Fails as `run` does.
 pub fn program<R: Threads + Log + Sync, I: Read, W: Write>(
     rt: &R,
     has_arguments: bool,
@@ -112,12 +111,12 @@ pub fn program<R: Threads + Log + Sync, I: Read, W: Write>(
     )
 }
 
-/// `run_over` with a store on a log: reads a session, runs its events, and writes the transcript with
-/// a verdict. Or it writes that the settings are rejected, or which line is the first unreadable one.
+/// `run_over` with a store on a log: reads a session, runs its events, and writes the transcript with a verdict. Or it
+/// writes that the settings are rejected, or which line is the first unreadable one.
 ///
-/// The status is 0 if the verdict is yes, 1 if it is no or the settings are rejected, and 2 for an unreadable line.
-/// Fails with an `Err` if memory, the reader or the writer fails. Then nothing was written, or a prefix of what may be
-/// written, and no verdict.
+/// Returns status 0 if the verdict is yes, 1 if it is no or the settings are rejected, and 2 for an unreadable line.
+/// Fails if memory runs out, or if the reader or the writer fails. Then nothing was written, or a prefix of what may be
+/// written, but not all.
 pub fn run<R: Threads + Log + Sync, I: Read, W: Write>(
     rt: &R,
     alloc: Global,

@@ -26,8 +26,9 @@ const UNKEPT: u8 = 3;
 
 /// Runs a session as `run` does. If a verdict was written, it writes the files that the log has at the end into a real
 /// directory, which must exist: those of the settings' `dir`, then those of their `spill-dir`. If two files have one
-/// name, the latter stays. The status is that of `run`, or 3 if writing the files fails, which is logged. An `Err` is
-/// that of `run`, and then nothing is kept.
+/// name, the second one stays. Returns the status of `run`, or 3 if keeping the files fails, which is logged.
+///
+/// Fails only as `run` does, and then keeps no files.
 pub fn save<R: Threads + Log + Sync + Files<File = File> + AllocGlobal, I: Read, W: Write>(
     rt: &R,
     alloc: Global,
@@ -88,7 +89,8 @@ fn keep<R: Files<File = File> + AllocGlobal>(
 }
 
 /// The files of a log in memory: those of its main directory, then those of its second one, if it has one. A directory
-/// that doesn't exist, for example because no store was opened, has none. Fails with `FileSystem` if a file isn't read.
+/// that doesn't exist, for example because no store was opened, has none. Fails with `FileSystem` if a directory isn't
+/// listed or a file isn't read, or with `Memory`.
 pub fn kept_files(alloc: Global, log: &LogFiles) -> Result<Vec<StoredFile>, CopyFault>
     ensures { IfOk result (λ files. AreKept log.now files.items) }
 {

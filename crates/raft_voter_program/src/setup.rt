@@ -14,7 +14,8 @@ use std::alloc::{AllocError, Global};
 /// The directory of the log if a session has no settings.
 pub(crate) const USUAL_DIRECTORY: &str = "raft";
 
-/// Begins a store in a file system in memory without files.
+/// Makes the files of a log that doesn't exist yet: an empty file system in memory, and the session's settings with
+/// defaults filled in. Without settings it has the defaults and the directory `raft`.
 #[derive(Clone, Copy, Debug, PartialEq, Eq)]
 pub struct LogSetup {}
 
@@ -31,7 +32,7 @@ impl<R: Log> StoreSetup<R, LogVoters, LogFiles> for LogSetup {
     }
 }
 
-/// The settings in this text; if there is none, the usual ones in the usual directory.
+/// The settings in this text; if there is none, the default ones with the directory `raft`.
 fn config_of(alloc: Global, settings: &Option<String>) -> Result<Config, NoFiles>
     ensures ok { IfOk result (λ config.
         TellsSettings (option_map string_bytes settings.now) (settings_of config)) }
@@ -49,7 +50,7 @@ fn config_of(alloc: Global, settings: &Option<String>) -> Result<Config, NoFiles
     }
 }
 
-/// The usual settings, in the usual directory.
+/// The default settings, with the directory `raft`.
 pub(crate) fn usual_config(alloc: Global) -> Result<Config, AllocError>
     ensures { IfOk result (λ config. settings_of config ≡ usual_settings) }
 {

@@ -25,7 +25,8 @@ pub trait StoreSetup<R, S: VoterStorage<R>, F: VoterDisk<R, S>> {
     /// Which files a settings text makes, and which text is rejected.
     ghost setup: { Setup F };
 
-    /// Returns the files of a store with these settings, or with the default ones if there is no text.
+    /// Returns the files of a store with these settings, or with the default ones if there is no text. No voter is
+    /// stored in them.
     fn files(&self, rt: &R, alloc: Global, settings: &Option<String>) -> Result<F, NoFiles>
         ensures makes { IfOk result (setup.makes (option_map string_bytes settings.now)) }
         ensures empty { IfOk result (λ files. F.disk.leaves files (uncut fresh_world)) }

@@ -10,8 +10,10 @@ use std::io::{ErrorKind, Write};
 /// The most calls of a writer for one text.
 const MOST_WRITES: u64 = 1_099_511_627_776;
 
-/// Writes all bytes. If the writer fails, or takes too many calls, it took a prefix of them, but not all. An
-/// interrupted call is repeated.
+/// Writes all bytes. An interrupted call is repeated.
+///
+/// Fails as the writer does, with `WriteZero` if a call took no byte, or with `TimedOut` after 2^40 calls. Then the
+/// writer took a prefix of the bytes, but not all.
 pub fn write_whole<W: Write>(writer: &mut W, bytes: &[u8]) -> io::Result<()>
     ensures ok { OnOk result (Appends (W.contents writer.old) (W.contents writer.new) bytes.now) }
     ensures err { OnErr result (StopsWithin (W.contents writer.old) (W.contents writer.new) bytes.now) }

@@ -17,7 +17,7 @@ use std::marker::Model;
 /// The most bytes of a line, without its line feed.
 const MOST_LINE_BYTES: usize = 4_194_304;
 
-/// What lines have begun and not ended.
+/// What the lines so far have begun and not ended.
 #[derive(Drop)]
 pub enum Begun {
     /// Nothing.
@@ -74,7 +74,8 @@ impl Reading {
         }
     }
 
-    /// Returns the session if nothing follows the last line. Otherwise fails with the number of the missing line.
+    /// Returns the session if it is whole: nothing is begun, nothing follows the last line (`rest`), and it wasn't too
+    /// long (`is_whole`). Otherwise fails with `Unreadable` and this number.
     pub fn finish(self, is_whole: bool, rest: &[u8], number: usize) -> Result<Session, SessionFault>
         ensures ok { IfOk result (λ session. finish number is_whole rest.now self ≡ Ok (said session)) }
         ensures err { IfErr result (TellsLineFault (finish number is_whole rest.now self)) }
@@ -87,7 +88,7 @@ impl Reading {
     }
 }
 
-/// After a line that ended what was begun.
+/// The state after a line that ended what was begun.
 fn ended(session: Session) -> Option<Reading>
     ensures { result ≡ Some (record { session = said session; begun = nothing }) }
 {
@@ -122,7 +123,7 @@ fn settings_begin(alloc: Global, session: Session) -> Option<Reading>
     })
 }
 
-/// Reads one more line, after nothing has begun.
+/// Reads one more line, while nothing is begun.
 fn outside(alloc: Global, session: Session, line: &[u8]) -> Result<Option<Reading>, Memory>
     ensures { IfOk result (λ next. next ≡ after_outside line.now (said session)) }
 {

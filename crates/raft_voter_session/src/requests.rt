@@ -61,7 +61,7 @@ fn install(text: &[u8]) -> Option<(u64, Request)>
     at_end(text, (group, request))
 }
 
-/// `read G A B`: group, first index and one past the last.
+/// `read G A B`: group, first index, and the index after the last.
 #[tactic(auto, unfolding(crate::specs::Requests::read_at))]
 fn read(text: &[u8]) -> Option<(u64, Request)>
     ensures { result ≡ read_at text.now }

@@ -55,7 +55,12 @@ fn front(bytes: &[u8], most: usize) -> &[u8]
     &bytes[..most]
 }
 
-/// Reads the session that these bytes encode.
+/// Reads the session that these bytes encode. Fails with `Unreadable` and the number of the first unreadable line, or
+/// with `Memory`. Unreadable are also:
+/// - a line of more than 4 MiB
+/// - the last line, if it has no line feed
+/// - the line after the last one, if the settings or a round have no end
+/// - the line in which a session has more than 256 MiB
 #[tactic(auto, unfolding(crate::specs::Session::session_of))]
 pub fn read_session(alloc: Global, input: &[u8]) -> Result<Session, SessionFault>
     ensures ok { IfOk result (λ session. session_of input.now ≡ Ok (said session)) }

@@ -5,8 +5,8 @@ ghost use Rattle.raft_voter_session.specs.Text.{Gains, GainsTranscript, spaced, 
 use raft_voter_messages::{Memory, Outcome, Reply, Request, Round, Transcript};
 use std::alloc::Global;
 
-/// Appends a transcript, the places up to which its rounds without replies were taken, and the verdict on them. If
-/// memory runs out, the text is unchanged.
+/// Appends a transcript, the cuts of its rounds without replies, and the verdict on them. If memory runs out, the text
+/// is unchanged.
 pub fn write_transcript(
     text: &mut String,
     transcript: &Transcript,
@@ -31,7 +31,8 @@ pub fn write_unreadable(text: &mut String, line: usize) -> Result<(), Memory>
     add(text, told)
 }
 
-/// Returns the lines of a round of this number: its outcome, and one for each request that has a reply.
+/// Returns the lines of a round with this number: its outcome, and one for each request that has a reply. Fails only
+/// for lack of memory.
 pub fn round_lines(alloc: Global, number: usize, round: &Round) -> Result<String, Memory>
     ensures { IfOk result (λ lines. string_bytes lines ≡ round_text number round.now) }
 {

@@ -66,7 +66,8 @@ pub fn read_number(word: &[u8]) -> Option<u64>
     read_digits(word)
 }
 
-/// Returns the next word, which begins after one space and ends before the next, and the text after it.
+/// Returns the next word and the text after it; `None` if the text doesn't begin with a space. The word is after this
+/// space, and ends before the next one.
 pub fn split_word(text: &[u8]) -> Option<(&[u8], &[u8])>
     ensures { option_map (λ word. (word.0.now, word.1.now)) result ≡ word_at text.now }
 {
@@ -100,7 +101,7 @@ fn is_lower_hex(word: &[u8]) -> bool
     word.iter().all(|b| is_lower_hex_digit(*b))
 }
 
-/// Decodes hex digits in lower case.
+/// Decodes hex digits in lower case; `None` if the word has other bytes or an odd number of digits.
 pub fn read_data(alloc: Global, word: &[u8]) -> Result<Option<Items<u8>>, Memory>
     ensures { IfOk result (λ bytes. bytes ≡ data_of word.now) }
 {

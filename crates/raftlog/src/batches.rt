@@ -12,8 +12,11 @@ use raft_log_judge::{Change, ChangeKind};
 use raft_log_record_batches::EntrySlices;
 use std::alloc::{AllocError, Global};
 
-/// Returns a batch of the engine with these changes. Fails if one adds no entries, if a key begins with two
-/// underscores, if an entry would be at the greatest index, or if entries have too many bytes.
+/// Returns a batch of the engine with these changes. Fails:
+/// - with `InvalidArgument` if a change adds no entries or one at index 2^64 - 1, or if a key begins with two
+///   underscores
+/// - with `Full` if the entries have more than 2,147,483,647 bytes
+/// - with `Memory`
 pub fn log_batch(alloc: Global, changes: &[Change]) -> Result<LogBatch>
     ensures { IfOk result (λ batch. said_of batch ≡ says_of changes.now) }
 {

@@ -15,7 +15,7 @@ use std::collections::VecDeque;
 /// What happens to a log of the engine.
 pub type EngineEvent = Event<LogBatch, Remainder>;
 
-/// Returns the same events with the engine's batches.
+/// Returns the same events with the engine's batches. Fails as `log_batch` does.
 pub fn engine_events(alloc: Global, events: &[SessionEvent]) -> Result<VecDeque<EngineEvent>>
     ensures { IfOk result (λ played. SameEvents events.now played.items) }
 {

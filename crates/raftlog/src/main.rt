@@ -1,11 +1,12 @@
 //! Plays sessions on a log and judges the answers. Its file system in memory fails, stops and crashes as they say.
 //!
 //! It reads sessions from standard input; a line `---` parts two of them. For each it writes a line for the answer to
-//! each event, and `verdict yes` if a log that never crashes explains the answers, otherwise `verdict no`. For a text
-//! that is no session it writes what is wrong.
+//! each event. Then it writes `verdict yes` if the model log of `raft_log_world` explains the answers, otherwise
+//! `verdict no`. For a text that is no session, or that has rejected settings or a rejected batch, it writes what is
+//! wrong.
 //!
-//! The status is 0 if each verdict is yes, and otherwise 1. It is 3 if memory, reading or writing failed. The log's own
-//! messages are discarded.
+//! The status is 0 if each text is a session with the verdict yes, and otherwise 1. It is 3 if memory ran out, or if
+//! reading or writing failed. The log's own messages are discarded.
 #![tactic(auto)]
 
 mod batches;
@@ -21,7 +22,7 @@ use std::process::ExitCode;
 use std::thread::Threads;
 use texts::answer_all;
 
-/// The status if a verdict is no, or a text is no session.
+/// The status if a verdict is no, or a text has none.
 const REFUSED: u8 = 1;
 
 /// The status if memory ran out, or reading or writing failed.

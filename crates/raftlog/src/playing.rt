@@ -14,7 +14,9 @@ use std::alloc::{AllocError, Global};
 use std::thread::Threads;
 
 /// Plays events on the engine over an empty file system in memory, with these settings. Returns the transcript, a line
-/// for each answer and one for the verdict, and whether the verdict is yes.
+/// for each answer and one for the verdict, and whether the verdict is yes. It is yes if no event met a CRC collision.
+///
+/// Fails before it plays any event if `log_batch` rejects a batch, or with `Memory`.
 pub fn play<R: Threads + Log + Sync>(
     rt: &R,
     alloc: Global,

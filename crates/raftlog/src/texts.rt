@@ -14,7 +14,9 @@ use std::thread::Threads;
 /// The line between two sessions, and between two transcripts.
 const BETWEEN: &str = "---\n";
 
-/// Plays the sessions of a text, one after another. Returns their transcripts, and whether each verdict is yes.
+/// Plays the sessions of a text, one after another. Returns their transcripts, with a line `---` between two, and
+/// whether each verdict is yes. In place of a session that can't be played it returns a line that says why, and the
+/// result is false. Fails only for lack of memory.
 pub fn answer_all<R: Threads + Log + Sync>(
     rt: &R,
     alloc: Global,
@@ -66,8 +68,8 @@ fn line_len(text: &[u8]) -> usize
     text.len()
 }
 
-/// Plays the session of a text. Returns its transcript, and whether the verdict is yes. If the text is no session or
-/// the log rejects its settings, returns a line that says so, and false.
+/// Plays the session of a text. Returns its transcript, and whether the verdict is yes. If the text is no session, or
+/// the log rejects its settings or a batch, returns a line that says so, and false.
 fn answer<R: Threads + Log + Sync>(
     rt: &R,
     alloc: Global,

@@ -5,9 +5,10 @@
 //! is there. `--help` prints the usage.
 //!
 //! The status is:
-//! - 0 if the verdict is yes, and 1 if it is no;
+//! - 0 if the verdict is yes, or the voters or the usage were written;
+//! - 1 if the verdict is no, or the settings are rejected;
 //! - 2 for an unreadable line or for other arguments;
-//! - 3 if memory, reading or writing failed;
+//! - 3 if memory ran out, or if reading, writing or keeping the files failed;
 //! - 4 if opening a loaded log failed.
 #![tactic(auto)]
 

@@ -24,7 +24,8 @@ impl LogBatch {
     ///
     /// Fails with `InvalidArgument` if there are not as many indexes as entries, if the indexes don't rise by one, or
     /// if one is 2^64 - 1. Else it fails with `Full` if the batch would have more than 2,147,483,647 bytes of entries.
-    /// If it fails, no item changes. In both cases the capacity doesn't shrink.
+    /// It may always fail with `Memory`. If it fails, no item changes. Whether it succeeds or fails, no capacity
+    /// shrinks.
     pub fn add_raw_entries(
         &mut self,
         alloc: Global,

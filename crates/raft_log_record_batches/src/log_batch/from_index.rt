@@ -23,8 +23,9 @@ impl LogBatch {
     /// Adds entries of a group that write their own bytes, the first with this index and each other one with the next.
     /// No entries add nothing.
     ///
-    /// Fails with `InvalidArgument` if an index would be 2^64 - 1 or above, else with `Full` if the batch would have
-    /// more than 2,147,483,647 bytes of entries. If it fails, no item changes.
+    /// Fails with `InvalidArgument` if an index would be 2^64 - 1 or above. Else it fails with `Full` if the batch
+    /// would have more than 2,147,483,647 bytes of entries. It may always fail with `Memory`. If it fails, no item
+    /// changes.
     pub fn add_entries_from<E: EntryWriter>(
         &mut self,
         alloc: Global,

@@ -21,9 +21,9 @@ impl LogBatch {
     /// Moves the other batch's items and its entries' bytes to the end of its own, and empties the other one as `clear`
     /// does.
     ///
-    /// Fails with `Full` if the entries would have more than 2,147,483,647 bytes in all. If it fails, neither batch
-    /// changes, except that its own buffer's capacity may grow. It doesn't fail if there is room for the other one's
-    /// items and bytes.
+    /// Fails with `Full` if the entries would have more than 2,147,483,647 bytes in all, or with `Memory`. If it fails,
+    /// neither batch changes, except that its own buffer's capacity may grow. It doesn't fail if there is room for the
+    /// other one's items and bytes.
     pub fn merge(&mut self, rhs: &mut LogBatch) -> Result<()>
         requires own { self.old.state ≡ Filling }
         requires other { rhs.old.state ≡ Filling }

@@ -29,10 +29,12 @@ impl LogBatch {
     ghost use Rattle.raft_log_record_batches.specs.Places.{AddsBytes};
     ghost use Rattle.raft_log_record_batches.specs.Entries.{IsRunWith, AreReadBack, MayHold, AddsRun, FailsToAddEntries};
 
-    /// Adds entries of a group, each with its index. No entries add nothing.
+    /// Adds entries of a group, each with its index. No entries add nothing. Each entry that was added can be read
+    /// back.
     ///
-    /// Fails with `InvalidArgument` if the indexes don't rise by one, or if one is 2^64 - 1; else with `Full` if the
-    /// batch would have more than 2,147,483,647 bytes of entries. If it fails, no item changes.
+    /// Fails with `InvalidArgument` if the indexes don't rise by one, or if one is 2^64 - 1. Else it fails with `Full`
+    /// if the batch would have more than 2,147,483,647 bytes of entries. It may always fail with `Memory`. If it fails,
+    /// no item changes.
     pub fn add_entries<M: MessageExt>(
         &mut self,
         alloc: Global,

@@ -18,8 +18,9 @@ impl LogBatch {
     /// Makes room for this many more items and this many more bytes of entries. Within that room, merging and adding
     /// commands ask for no memory.
     ///
-    /// Fails with `Full` if the entries would have more than 2,147,483,647 bytes in all. Whether it succeeds or fails,
-    /// only the capacity changes, and it doesn't shrink. It doesn't fail if the room is already there.
+    /// Fails with `Full` if the entries would have more than 2,147,483,647 bytes in all, or with `Memory`. Whether it
+    /// succeeds or fails, only the capacities change, and neither shrinks. It doesn't fail if the room is already
+    /// there.
     pub fn reserve(&mut self, items: usize, entries_len: usize) -> Result<()>
         requires { self.old.state ≡ Filling }
         ensures room { OnOk result (HasRoomOf self.new items entries_len) }

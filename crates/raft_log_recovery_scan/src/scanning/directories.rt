@@ -13,8 +13,8 @@ use std::io::ErrorKind;
 
 /// Makes those of these directories that are missing.
 ///
-/// Fails with `Other` if a file has the path of one, with `Io` if one isn't made or the file system stopped, or with
-/// `Memory`. If it fails, the directories before that one are there.
+/// Fails with `Other` if a file has the path of one. Fails with `Io` if one isn't made or the file system had stopped,
+/// or with `Memory`. If it fails, the directories before that one are there, and nothing else changed.
 pub fn make_directories<F: FileSystem>(
     alloc: Global,
     file_system: &mut F,
@@ -57,7 +57,8 @@ fn make_directory<F: FileSystem>(alloc: Global, file_system: &mut F, path: &str)
     Err(no_directory(alloc, path))
 }
 
-/// The names of the files of each of these directories.
+/// The names of the files of each of these directories. Fails with `Io` if one doesn't exist or the file system has
+/// stopped, or with `Memory`.
 pub fn list_directories<F: FileSystem>(
     alloc: Global,
     file_system: &F,

@@ -21,7 +21,7 @@ pub struct FoundFile {
 }
 
 /// The files of a kind among those with these names, directory by directory, in the order of the names. Fails with
-/// `Corruption` if a name begins with a number and has more between it and the end.
+/// `Corruption` if a name begins with a number and has more between it and the suffix, or with `Memory`.
 pub fn find_files(alloc: Global, kind: FileKind, listings: &[Vec<String>]) -> Result<Vec<FoundFile>>
     ensures ok { IfOk result (λ files.
         AreAmongAll kind 0 (map (λ names. map string_bytes names.items) listings.now) files.items) }

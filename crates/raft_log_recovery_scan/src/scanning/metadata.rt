@@ -1,4 +1,4 @@
-//! Deletes what a file system may keep beside files that are gone.
+//! Deletes the metadata that a file system may keep for deleted files.
 
 ghost use Rattle.std.specs.Prelude.{◌≡◌, ◌<◌, ◌≤◌, ◌^◌, ◌*◌, ◌/◌, IfErr};
 ghost use Rattle.raft_log_record_base.specs.declared.errors.Error.TheVariants.{Memory};
@@ -15,10 +15,11 @@ use std::alloc::Global;
 /// How many numbers below the first file are sampled.
 const SAMPLES: u64 = 100;
 
-/// Deletes what the file system keeps beside files of a queue below its first one. Samples a hundred numbers, from
-/// the lowest on, for the first that has something. Deletes all of them after the sample before that one, from the
-/// highest down. A failed deletion is logged, and ends that number's directories. Fails only with `Memory`; then not
-/// all were deleted.
+/// Deletes the metadata that the file system keeps for files of a queue below its first one. Changes no file.
+///
+/// Samples a hundred numbers, evenly from 0 on, for the first that has metadata. From the highest number down, deletes
+/// all metadata above the sample before that one. If a deletion fails, that is logged, and the other directories aren't
+/// tried for that number. Fails only with `Memory`; then some may be left.
 pub fn clear_metadata<F: FileSystem, L: Log>(
     alloc: Global,
     rt: &L,
@@ -37,7 +38,7 @@ pub fn clear_metadata<F: FileSystem, L: Log>(
     }
 }
 
-/// The number after the last sample before the first one that has something.
+/// The number after the last sample before the first one that has metadata; `None` if none has.
 fn first_kept<F: FileSystem>(
     alloc: Global,
     file_system: &F,
@@ -66,7 +67,7 @@ fn sample(at: u64, first: FileSeq) -> FileSeq
     at * first / SAMPLES
 }
 
-/// Whether something is kept beside a file in one of the directories.
+/// Whether a file has metadata in one of the directories.
 fn has_metadata<F: FileSystem>(
     alloc: Global,
     file_system: &F,
@@ -95,7 +96,7 @@ fn has_metadata<F: FileSystem>(
     Ok(false)
 }
 
-/// Deletes what is kept beside the files from a number on below another one.
+/// Deletes the metadata of the files from `lowest` on, below `first`.
 fn clear_from<F: FileSystem, L: Log>(
     alloc: Global,
     rt: &L,
@@ -117,7 +118,7 @@ fn clear_from<F: FileSystem, L: Log>(
     Ok(())
 }
 
-/// Deletes what is kept beside a file, directory by directory.
+/// Deletes the metadata of a file, directory by directory.
 fn clear_file<F: FileSystem, L: Log>(
     alloc: Global,
     rt: &L,

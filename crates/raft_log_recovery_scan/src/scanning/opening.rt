@@ -19,8 +19,8 @@ use raft_log_fs::{FileSystem, Handle, Permission};
 use raft_log_record_base::{Error, Result};
 use std::alloc::Global;
 
-/// Opens the files of a queue for reading, and the last one for writing too; under `TolerateAnyCorruption` each of
-/// them for writing too.
+/// Opens the files of a queue for reading, and the last one for writing too; under `TolerateAnyCorruption` each of them
+/// for writing too. Their headers aren't read. Fails with `Io` if the file system has stopped, or with `Memory`.
 pub fn open_queue<F: FileSystem>(
     alloc: Global,
     file_system: &F,
@@ -59,7 +59,7 @@ pub fn open_queue<F: FileSystem>(
     Ok(files)
 }
 
-/// Opens files.
+/// Opens files with this permission. Fails with `Io` if the file system has stopped, or with `Memory`.
 pub fn open_files<F: FileSystem>(
     alloc: Global,
     file_system: &F,

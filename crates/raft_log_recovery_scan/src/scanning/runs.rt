@@ -10,9 +10,11 @@ use log::{Log, warn};
 use raft_log_record_base::Result;
 
 /// Sorts the files by number, and keeps those after the last gap: a missing number, or two files with one number. The
-/// others are dropped from the list, and stay in their directories; one warning names a queue's.
+/// others are dropped from the list, and stay in their directories. One warning has the first and the last number of a
+/// queue's.
 ///
-/// If two have one number, the one in the main directory comes first; in one directory, the one without a sign.
+/// If two have one number, the one in the main directory comes first; in one directory, the one without a sign. Fails
+/// only with `Memory`.
 pub fn keep_run<L: Log>(rt: &L, kind: FileKind, mut files: Vec<FoundFile>) -> Result<Vec<FoundFile>>
     ensures ok { IfOk result (λ kept. IsRunOf files.items kept.items) }
     ensures err { IfErr result (λ error. error ≡ Memory) }

@@ -95,8 +95,8 @@ impl BlockCache {
 
     /// Reads the entry at a place as a message. Afterwards its block is cached.
     ///
-    /// Fails as `read` and `entry` do, with `InvalidArgument` if the entry is in no file, and with `Message` if its
-    /// bytes don't parse as a message.
+    /// Fails as `read` and `entry` do. Fails with `InvalidArgument` if the entry is in no file, and with `Message` if
+    /// its bytes don't parse as a message.
     pub fn read_entry<M: Message, P: PipeLog>(
         &mut self,
         alloc: Global,

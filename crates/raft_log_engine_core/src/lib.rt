@@ -2,7 +2,7 @@
 //!
 //! [`LogEngine`] is generic in the pipes that keep its log ([`PipeLog`]), so its contracts hold for any such pipes.
 //! A clause about the log's contents holds for any contents and pending batches that `Represents` relates to the engine
-//! before the call. The calls on an engine have one premise: the callback of a scan must have none.
+//! before the call. No call on an engine has a premise, except that the callback of a scan must have no precondition.
 //!
 //! [`PipeLog`]: raft_log_dual_pipes::PipeLog
 #![tactic(auto)]

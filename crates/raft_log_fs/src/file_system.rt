@@ -18,7 +18,7 @@ use std::io::ErrorKind;
 ///
 /// A *changing call* is one of `create` to `sync`. It fails in one of three ways:
 /// - An argument was wrong in the present state. No failure is counted, and nothing changes.
-/// - A failure is counted. A write may have written some of its bytes, a truncation may have truncated the file, and an
+/// - A failure is counted. A write may have written some of its bytes, and a truncation may have truncated the file. An
 ///   allocation may have grown it by some zeros. A call on names changed nothing, and a sync synced nothing.
 /// - The file system stopped at the call. With right arguments, the call may also have been done in part or whole.
 ///
@@ -30,8 +30,7 @@ use std::io::ErrorKind;
 /// `OutOfMemory`, and none is kept. A caller may rely on the error of a changing call only if the clauses say that an
 /// argument was wrong.
 ///
-/// A call that changes nothing fails with `Other` after a stop. `open`, `list` and `free_space` may also fail with
-/// `OutOfMemory`.
+/// `open`, `list` and `free_space` may also fail with `OutOfMemory`.
 ///
 /// *Over a real directory.* `open`, `read_at` and `list` take `&self`, because readers and dumps borrow the file
 /// system. An implementation keeps its descriptors in a table whose slots are written once. A place that the device
@@ -66,8 +65,8 @@ pub trait FileSystem {
         ensures ok { OnOk result (Deletes path.now (disk self.old) (disk self.new)) }
         ensures err { IfErr result (λ error. FailsToDelete path.now error (disk self.old) (disk self.new)) };
 
-    /// Renames a file; another file that had the new name is gone. Fails with `NotFound` if no file has the old name or
-    /// the new one's directory doesn't exist, or with `IsADirectory` if the new name is a directory's.
+    /// Renames a file; another file that had the new name is gone. Fails with `NotFound` if no file has the old name,
+    /// or the new one's directory doesn't exist. Fails with `IsADirectory` if the new name is a directory's.
     fn rename(&mut self, from: &str, to: &str) -> Result<(), ErrorKind>
         ensures ok { OnOk result (Renames from.now to.now (disk self.old) (disk self.new)) }
         ensures err { IfErr result (λ error.

@@ -29,8 +29,8 @@ pub fn whole_group_counts<E, V>()
         → settled (rs ++ whole_group n first between last) ≡ settled rs ++ group_items first between last }
 {}
 
-/// If tidy records are read from a later start, the items of a raft group that count are a suffix of those that count
-/// in all of them. A start inside an atomic group loses that group.
+/// If tidy records are read from a later start, fewer items of a raft group may count: a suffix of those that count in
+/// all records. A start inside an atomic group loses that group.
 pub fn later_start_counts_an_end<E, V>()
     ensures { (g : ℕ) (cut back : List (Record E V)) → Tidy (cut ++ back)
         → (lost : List (Item E V)) × (lost ++ rewritten g back ≡ rewritten g (cut ++ back)) }

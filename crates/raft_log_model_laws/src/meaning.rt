@@ -31,7 +31,7 @@ pub fn append_takes_items<E, V>()
         → directory s rewrite (append ++ more) ≡ after (λ t. directory t rewrite append) more s }
 {}
 
-/// The items of a group in two lists of Append's records, one after the other, are those of the first list and then
+/// Take two lists of Append's records, one after the other. A group's items in them are those of the first list, then
 /// those of the second.
 pub fn appended_of_two<E, V>()
     ensures { (g : ℕ) (xs ys : List (Record E V)) → appended g (xs ++ ys) ≡ appended g xs ++ appended g ys }

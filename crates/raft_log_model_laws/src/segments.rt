@@ -62,8 +62,8 @@ pub fn joining_is_associative<E, V>()
         → content (join_all t).table s ≡ content (join_all u).table s }
 {}
 
-/// Tidy records may be cut anywhere. What counts in all of them is what counts before the cut, then the items of the
-/// groups that the cut splits, and then what counts after it.
+/// Tidy records may be cut anywhere. What counts in all of them is what counts before the cut and what counts after it.
+/// Between the two come the items of the groups that the cut splits.
 pub fn tidy_records_may_be_cut<E, V>()
     ensures { (g : ℕ) (xs ys : List (Record E V)) → Tidy (xs ++ ys)
         → rewritten g (xs ++ ys)

@@ -18,15 +18,14 @@ ghost use Rattle.raft_log_model_laws.specs.Table.{
 };
 ghost use Rattle.raft_log_model_laws.specs.Summary.{summary, directory_table};
 
-/// After one more item that leaves no hole, a table has in each slot the item's word if it touches the slot, otherwise
-/// the content before.
+/// A table takes one more item that leaves no hole. Then each slot that the item touches has the item's word, and any
+/// other its content before.
 pub fn table_takes_an_item<E, V>()
     ensures { (t : Table E V) (x : Item E V) (s : Slot) → FitsOn (span_of t) x
         → content (table_step t x) s ≡ unwrap_or (write s x) (content t s) }
 {}
 
-/// After any item, if a run past the end drops the earlier entries, a table has in each slot the item's word if it
-/// touches the slot, otherwise the content before.
+/// The same for any item, if a run past the end drops the earlier entries.
 pub fn hostile_table_takes_an_item<E, V>()
     ensures { (t : Table E V) (x : Item E V) (s : Slot)
         → content (table_step_past t x) s ≡ unwrap_or (write_past (span_of t) s x) (content t s) }

@@ -18,7 +18,8 @@ use std::alloc::{AllocError, Global};
 const MAX_COPIED_LEN: u64 = 131_072;
 
 /// The entries of a group that are to be copied next: its first ones in Append, in files up to the gate. They have at
-/// most 128 KiB, or there is one. There are none only if the group has none there. Fails only with `Memory`.
+/// most 128 KiB, or there is one. There are none if the group's first entry in Append is in a file after the gate.
+/// Fails only with `Memory`.
 pub fn next_entries(
     alloc: Global,
     tables: &MemTables,

@@ -44,7 +44,7 @@ pub enum Error {
     /// Memory ran out.
     #[error("Memory")]
     Memory,
-    /// A failure, now or before, couldn't be repaired; every later call on the log fails with this error.
+    /// A failure, now or before, couldn't be repaired. Every later read and write of the log fails with this error.
     #[error("Failed")]
     Failed,
     /// The entries would leave a gap after those that are there, or reach index 2^64 - 1.

@@ -27,7 +27,7 @@ pub enum Command {
 }
 
 impl Command {
-    /// Reads a command. Fails with `Codec` if the bytes end early or the index doesn't fit 64 bits, and with
+    /// Reads a command. Fails with `Codec` if the bytes end early or the index doesn't fit 64 bits. Fails with
     /// `Corruption` for an unknown kind, which the text names. Only that text takes memory. If it fails, it consumes
     /// nothing.
     pub fn decode(alloc: Global, source: &mut BytesSlice<'_>) -> Result<Command>

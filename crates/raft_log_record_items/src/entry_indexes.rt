@@ -99,8 +99,8 @@ impl EntryIndexes {
         len
     }
 
-    /// Lays out the entries one after another from this offset in their block, and returns the offset of the next one,
-    /// which must be below 2^32.
+    /// Lays out the entries one after another from this offset in their block, and returns the offset of the next one.
+    /// That offset must be below 2^32.
     pub fn lay_out(&mut self, offset: u32) -> u32
         requires { offset + run_len self.old < 2 ^ 32 }
         ensures laid { self.new ≡ laid_run offset self.old }

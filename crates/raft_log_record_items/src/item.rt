@@ -102,8 +102,8 @@ impl LogItem {
 
     /// Reads an item. Its bytes have neither the places of its entries nor the file of its key.
     ///
-    /// Fails with `Codec` if the bytes end early or a number doesn't fit 64 bits, with `Corruption` for an unknown kind
-    /// or a fault of the content, or with `Memory`. If it fails, it consumes nothing.
+    /// Fails with `Codec` if the bytes end early or a number doesn't fit 64 bits. Fails with `Corruption` for an
+    /// unknown kind or a fault of the content. Fails with `Memory`. If it fails, it consumes nothing.
     pub fn decode(alloc: Global, source: &mut BytesSlice<'_>) -> Result<LogItem>
         ensures decodes { DecodesOrMemory IsItem result source.old.now source.new.now }
         ensures exact { ReadsOrMemory result source.old.now source.new.now (item_at source.old.now) }

@@ -25,16 +25,16 @@ pub fn forked_logs_rest()
     ensures { ForkedLogsRest }
 {}
 
-/// An open of a fork of a log at rest into a clear target gives the same contents as an open of its source, before the
-/// fork or after it. If an open fails, the log is left with these contents.
+/// If a log at rest was forked into a clear target, an open of the fork gives the same contents as an open of its
+/// source. The source may be opened before the fork or after it. If an open fails, the log is left with these contents.
 pub fn forks_open_as_their_source<F: FileSystem>()
     ensures { ForksOpenAsTheirSource F.disk F.tells_space }
 {}
 
-/// Suppose that an engine left its log, closed or failed, and that it is forked into a clear target without a crash or
-/// an open in between. Then an open of the fork gives the same contents as an open of the source in place: those after
-/// a prefix of the pending batches. The prefix is the same for all settings that name the source's directories. A crash
-/// that kept all bytes would leave it too. This requires that there is no CRC collision in the active files.
+/// Suppose that an engine left its log, closed or failed, and that it is forked into a clear target. There was no crash
+/// and no open in between. Then an open of the fork gives the same contents as an open of the source in place: those
+/// after a prefix of the pending batches. The prefix is the same for all settings that name the source's directories. A
+/// crash that kept all bytes would leave it too. This requires that there is no CRC collision in the active files.
 pub fn left_logs_show_alike<F: FileSystem>()
     ensures { LeftLogsShowAlike F.disk F.tells_space }
 {}

@@ -12,7 +12,7 @@ pub fn read_files_are_the_queue()
     ensures none { NoFilesAreTheQueue }
 {}
 
-/// Suppose that a log with nothing pending was read again, that an engine's pipes run over it, and that its tables are
+/// Suppose that a log with nothing pending was read again, and that an engine's pipes run over it. Its tables are
 /// merged from all that was read. Then the engine has the contents of the log, and nothing is pending.
 pub fn opened_engines_hold()
     ensures { OpenedEnginesHold }
@@ -29,8 +29,8 @@ pub fn refused_opens_leave_logs()
     ensures { RefusedOpensLeaveLogs }
 {}
 
-/// If the pipes of a log at rest are opened over its files as they were read, an engine of what was read has its
-/// contents. Nothing is pending.
+/// Suppose that the pipes of a log at rest are opened over its files as they were read. Then an engine of what was read
+/// has its contents, and nothing is pending.
 pub fn read_logs_are_held()
     ensures { ReadLogsAreHeld }
 {}

@@ -2,8 +2,8 @@
 
 ghost use Rattle.raft_voter_durability_laws.specs.Laws.{EnginesLeaveLogs, FreshLogsHaveFreshVoters, OpensFindVoters, PurgesKeepVoters, VotersAreLeft};
 
-/// A purge changes no voter, whether it succeeds or fails. If it leaves the engine failed, a later open finds exactly
-/// these voters.
+/// A purge changes no voter, whether it succeeds or fails. If it leaves the engine failed, the log's files store
+/// exactly these voters.
 pub fn purges_keep_voters()
     ensures { PurgesKeepVoters }
 {}

@@ -38,7 +38,8 @@ impl FreshHistory {
         Ok(FreshHistory { cell, pass })
     }
 
-    /// Names the history, and returns it with its keeper. `L::history` must be the name of this one.
+    /// Names the history, and returns it with its keeper. `L::history` must be the name of this
+    /// one.
     pub fn named<L: Named>(self) -> (History<L>, Keeper<L>)
         requires { self.cell.table.shared.table_id ≡ L.history }
         ensures { result.1 ≡ [] }

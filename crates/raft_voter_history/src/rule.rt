@@ -6,7 +6,8 @@ use raft_voter_messages::Round;
 use std::collections::LinkedList;
 use std::marker::{Brand, PhantomData};
 
-/// What a pass knows: the whole history, or the records of a part of it. It exists in contracts alone.
+/// What a pass knows: the whole history, or the records of a part of it. It exists in contracts
+/// alone.
 pub struct View {
     /// Whether the pass knows the whole history.
     pub keeps: bool,

@@ -6,8 +6,8 @@ use raft_log_engine::Error;
 use raft_voter::Cause;
 use raft_voter_recovery::Unread;
 
-/// The cause of a failed open, or of a failed read of its voters: `Memory` if memory ran out, else `FileSystem`. This
-/// is also the cause if a group stores no voter.
+/// The cause of a failed open, or of a failed read of its voters: `Memory` if memory ran out, else
+/// `FileSystem`. This is also the cause if a group stores no voter.
 pub fn unread_cause(cause: &Unread) -> Cause
     ensures { result ≡ unread_cause cause.now }
 {
@@ -18,7 +18,8 @@ pub fn unread_cause(cause: &Unread) -> Cause
     }
 }
 
-/// The cause of a failed purge: `Failed` if the store had failed before, `Memory` if memory ran out, else `FileSystem`.
+/// The cause of a failed purge: `Failed` if the store had failed before, `Memory` if memory ran
+/// out, else `FileSystem`.
 pub fn purge_cause(failed: bool, error: &Error) -> Cause
     ensures { result ≡ purge_cause failed error.now }
 {

@@ -19,8 +19,8 @@ pub fn zeros_begin_no_record()
     ensures { ZerosBeginNoRecord }
 {}
 
-/// An open of what such a crash left of a store between calls finds the voters that its log stored, for any settings
-/// that name its directories. There is no premise on CRC collisions.
+/// After such a crash of a store between calls, an open finds the voters that its log stored. All settings that name
+/// the directories find them. There is no premise on CRC collisions.
 pub fn losses_are_found<F: FileSystem>()
     ensures { LossesAreFound F.disk F.tells_space }
 {}
@@ -31,8 +31,8 @@ pub fn losses_in_rounds_are_found<F: FileSystem>()
     ensures { LossesInRoundsAreFound F.disk F.tells_space }
 {}
 
-/// Suppose that a crash leaves another record of the file right after all that was written to an active file, and that
-/// no unsynced write was asked to write it there. Then there is a CRC collision.
+/// Suppose that a crash leaves another record of the file right after all that was written to an active file. No
+/// unsynced write was asked to write it there. Then there is a CRC collision.
 pub fn foreign_records_are_chance()
     ensures { ForeignRecordsAreChance }
 {}

@@ -31,8 +31,7 @@ pub fn closed_stores_are_found<F: FileSystem>()
 
 /// Let a run start from files without a log, in which these happen:
 /// - Stores are opened, serve, are purged, have faults armed under them, are closed, and crash. Each open succeeds.
-/// - A store that is closed hasn't failed, and no file call fails in the close. Only a close that ends the run may be
-///   any.
+/// - A store that is closed hasn't failed, and no file call fails in the close. The run may end with any close.
 /// - A crash of an open store, which hasn't failed, only loses writes (`OnlyLoses`).
 /// - While no store is open, faults are armed, logs are copied, and a crash may leave anything.
 ///

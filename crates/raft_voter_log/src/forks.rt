@@ -4,8 +4,9 @@ ghost use Rattle.raft_voter_log.specs.Forking.{ForkedVotersAreFound, ForksLeaveV
 
 use raft_log_fs::FileSystem;
 
-/// Suppose that a log at rest is copied into a clear target (`IsClear`), which alone the copy's settings name. Then an
-/// open of the copy finds the source's voters. So does an open of the source, before the copy and after it.
+/// Suppose that a log at rest is copied into a clear target (`IsClear`), and that the copy's settings name only the
+/// target. Then an open of the copy finds the source's voters. So does an open of the source, before the copy and after
+/// it.
 pub fn forked_voters_are_found<F: FileSystem>()
     ensures { ForkedVotersAreFound F.disk F.tells_space }
 {}

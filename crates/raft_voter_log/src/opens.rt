@@ -30,7 +30,7 @@ pub fn crashed_voters_are_found<F: FileSystem>()
 
 /// Opening a log that a store left, closed or failed, without a crash gives voters that are possible after the last
 /// round. They are the same for all settings that name the directories, so for any number of workers. If it fails, a
-/// later open finds possible voters. This requires that there is no CRC collision in the active files.
+/// later open can find possible voters. This requires that there is no CRC collision in the active files.
 pub fn left_voters_are_found<F: FileSystem>()
     ensures { LeftVotersAreFound F.disk F.tells_space }
 {}

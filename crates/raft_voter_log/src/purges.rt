@@ -10,7 +10,7 @@ use raft_voter::RoundService;
 use raft_voter_world::{VoterDisk, VoterStorage};
 
 /// A purge in a run changes no voter, whether it succeeds or fails. If it leaves a store failed, a file call failed in
-/// it, and an open of the files finds the same voters.
+/// it, and its files store the same voters.
 pub fn purges_keep_or_fail<R: Log>()
     ensures { PurgesKeepOrFail ⟦<LogVoters as VoterStorage<R>>⟧.upkeep
         (λ voters. shows_of ⟦<EnginePipes<MemoryFileSystem, Nobody> as PipeLog>⟧.shown voters.store.engine) }

@@ -21,8 +21,8 @@ pub fn runs_ask_nothing<R: Log>()
         (λ voters. shows_of ⟦<EnginePipes<MemoryFileSystem, Nobody> as PipeLog>⟧.shown voters.store.engine) }
 {}
 
-/// Suppose that a crash of a running store leaves another record right after all that was written to an active file,
-/// and that no unsynced write was asked to write it there. Then there is a CRC collision.
+/// Suppose that a crash of a running store leaves another record right after all that was written to an active file. No
+/// unsynced write was asked to write it there. Then there is a CRC collision.
 pub fn foreign_records_break_the_premise()
     ensures { ForeignRecordsBreakPremise }
 {}

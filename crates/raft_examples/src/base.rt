@@ -7,7 +7,7 @@ use raft_log_record_base::codec;
 use raft_log_record_base::codec::{BytesSlice, append_var_u64, decode_var_u64, or_cut_back};
 use std::alloc::AllocError;
 
-/// Appends the term and the index. If it fails, the buffer is unchanged.
+/// Appends the term and the index. If it fails, the buffer's bytes are unchanged.
 pub fn append_cover(out: &mut Vec<u8>, term: u64, index: u64) -> Result<(), AllocError>
     ensures ok { OnOk result (out.new.items ≡ out.old.items ++ cover_bytes term index) }
     ensures err { OnErr result (out.new.items ≡ out.old.items) }
@@ -17,7 +17,7 @@ pub fn append_cover(out: &mut Vec<u8>, term: u64, index: u64) -> Result<(), Allo
     or_cut_back(append_var_u64(out, index), out, start)
 }
 
-/// Reads the term and the index. If it fails, the bytes are unchanged.
+/// Reads the term and the index. If it fails, it consumes nothing.
 pub fn decode_cover(source: &mut BytesSlice<'_>) -> codec::Result<(u64, u64)>
     ensures { ReadsAs result source.old.now source.new.now (cover_at source.old.now) }
 {

@@ -14,7 +14,7 @@ use raft_log_record_base::{FileBlockHandle, LogQueue, Result};
 use raft_log_record_batches::LogBatch;
 use std::alloc::Global;
 
-/// Writes a batch whose record is made to Append, and makes it durable. Returns its place.
+/// Writes a batch to Append, whose record is encoded already, and makes it durable. Returns its place.
 pub fn save_batch<P: PipeLog, L: Log>(
     alloc: Global,
     rt: &L,

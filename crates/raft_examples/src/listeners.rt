@@ -5,7 +5,8 @@ ghost use Rattle.std.specs.Prelude.{◌≤◌};
 use raft_log_file_listeners::{EventListener, Listeners};
 use raft_log_record_base::{FileSeq, LogQueue};
 
-/// The number up to which the files of a queue may be purged: this one, or the first that a listener pins.
+/// The number up to which the files of a queue may be purged: `end`, or the first that a listener pins if that is
+/// lower.
 pub fn purge_end<H: EventListener>(
     listeners: &Listeners<H>,
     queue: LogQueue,

@@ -9,7 +9,7 @@ ghost use Rattle.raft_examples.specs.LogDisk.{FailsToSave};
 use raft_log_fs::{FileSystem, Handle};
 use std::io::ErrorKind;
 
-/// Creates a file with these bytes. If it succeeds, no crash loses them.
+/// Creates a file with these bytes, and syncs it. If it succeeds, no crash loses them.
 pub fn save<F: FileSystem>(
     file_system: &mut F,
     path: &str,

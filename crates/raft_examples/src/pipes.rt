@@ -30,7 +30,7 @@ pub fn save_record<G: PipeFormat, F: FileSystem, L: Log, B: ReactiveBytes>(
     Ok(place)
 }
 
-/// Rotates, and removes all earlier files from the pipe. Returns how many.
+/// Rotates, and removes all earlier files from the pipe's live range. Returns how many.
 pub fn keep_last_file<G: PipeFormat, F: FileSystem, L: Log>(
     alloc: Global,
     rt: &L,

@@ -1,5 +1,5 @@
-//! Callers of `raft_log_record_batches`: make a batch's record, take it back, or place it after its write. Others make
-//! room in a batch first, so that what comes later can't fail.
+//! Callers of `raft_log_record_batches`. Some encode a batch's record, take it back, or place it after its write.
+//! Others make room in a batch first, so that what follows can't fail.
 ghost use Rattle.std.specs.Prelude.{◌≡◌, ◌+◌, ◌<◌, ◌^◌, length, IsOk, IfOk, OnOk, OnErr};
 ghost use Rattle.raft_log_record_base.specs.Files.{signature_of};
 ghost use Rattle.raft_log_record_batches.specs.declared.log_batch.BatchState.TheVariants.{Filling, Signed};
@@ -17,8 +17,8 @@ ghost use Rattle.raft_log_record_batches.specs.Batch.{
 use raft_log_record_batches::LogBatch;
 use raft_log_record_items::{FileBlockHandle, LogFileContext, Result};
 
-/// Makes the record of a batch and signs it for a file. Returns the record's length in bytes, which is the same in any
-/// file.
+/// Encodes the record of a batch and signs it for a file. Returns the record's length in bytes, which is the same for
+/// any file.
 pub fn make_record(batch: &mut LogBatch, context: &LogFileContext) -> Result<usize>
     requires { batch.old.state ≡ Filling }
     ensures ok { OnOk result (IsButBuffer (signed_as (signature_of context.now) batch.old) batch.new) }

@@ -12,8 +12,8 @@ use raft_log_record_base::Result;
 use raft_log_recovery_scan::scanning::scan;
 use std::alloc::Global;
 
-/// How many files of Append and of Rewrite an open would read in these directories. Logs the files
-/// that lie below a gap. Changes no file.
+/// How many files of Append and of Rewrite a scan of these directories keeps: those after the last gap in the numbers.
+/// Logs the others. Makes missing directories; changes no file.
 pub fn count_files<F: FileSystem, L: Log>(
     alloc: Global,
     rt: &L,

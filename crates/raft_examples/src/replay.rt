@@ -7,7 +7,8 @@ ghost use Rattle.raft_log_memtable.specs.Table.{shown};
 
 use raft_log_memtables::MemTables;
 
-/// The last index of a group's entries; none if the group has taken nothing since it was cleaned, or has no entries.
+/// The last index of a group's entries; none if the group has taken nothing since it was last cleaned, or has no
+/// entries.
 pub fn last_index(tables: &MemTables, group: u64) -> Option<u64>
     ensures { result ≡ option_and_then (λ table. last_of (shown table)) (table_of tables.now group) }
 {

@@ -12,7 +12,8 @@ use raft_log_purge_copy::{rewrite_group, rewrite_marks};
 use raft_log_record_base::{FileSeq, LogQueue, Result};
 use std::alloc::Global;
 
-/// Rewrites what a group has in Append in files up to the gate, and syncs it; writes the owed tombstones before.
+/// Syncs Append, and writes the owed tombstones. Then rewrites what a group has in Append in files up to the gate, and
+/// syncs Rewrite.
 pub fn move_group<P: PipeLog, L: Log>(
     alloc: Global,
     rt: &L,

@@ -44,7 +44,7 @@ impl Factory<RecordCount> for FromNothing {
     }
 }
 
-/// How many records the segments of a queue have, read by so many workers.
+/// How many records the segments of a queue have, read by this many workers; at most 2^64 - 1.
 pub fn count_records<S: ReplaySource>(
     rt: &(impl Threads + Sync),
     alloc: Global,

@@ -11,7 +11,7 @@ use raft_log_file_settings::Config;
 use raft_log_record_base::Result;
 use std::alloc::Global;
 
-/// The settings in a text, if they are sound, completed.
+/// Reads settings from a text, and returns them completed. The settings in the text have no fault.
 pub fn settings_from<L: Log>(rt: &L, alloc: Global, text: &str) -> Result<Config>
     ensures { IfOk result (λ config. (table : Members) × (s : Settings)
         × (parse_document text.now ≡ Some table) × (settings_in table ≡ Ok s)

@@ -10,7 +10,8 @@ use raft_log_file_listeners::{EventListener, ToldPipes};
 use raft_log_record_base::{FileId, FileSeq, LogQueue, Result};
 use std::alloc::Global;
 
-/// Removes the files of a queue below this one, except those that the pipes or the listener pin. Returns how many.
+/// Removes the files of a queue below `end` from its live range, but none from the first on that the pipes or the
+/// listener pin. Returns how many.
 pub fn purge_free<P: PipeLog, E: EventListener, L: Log>(
     alloc: Global,
     rt: &L,

@@ -4,11 +4,11 @@ ghost use Rattle.std.specs.Prelude.{◌≡◌, ◌==◌, [], ◌∷◌, ◌++◌
 use std::alloc::{AllocError, Global};
 use std::marker::Model;
 
-/// Bytes with an owner.
+/// A list of bytes.
 pub type Bytes = Items<u8>;
 
-/// A growing list: a `Vec` of which contracts see only the elements, not the capacity. Clauses compare lists, and types
-/// that hold them, as values.
+/// A growing list: a `Vec` of which contracts see only the elements, not the capacity. Clauses compare such lists, and
+/// types that contain them, as values.
 #[derive(Debug, Drop)]
 pub struct Items<T> {
     items: Vec<T>,
@@ -110,7 +110,7 @@ impl<T: Drop> Items<T> {
 }
 
 impl<T: Copy> Items<T> {
-    /// Copies these elements into a new list.
+    /// Copies these elements into a new list. Fails if memory runs out.
     pub fn from_slice(alloc: Global, items: &[T]) -> Result<Self, AllocError>
         ensures { IfOk result (λ copy. copy ≡ items.now) }
     {

@@ -13,8 +13,8 @@ use std::alloc::Global;
 
 /// The last entry block that was read, with its checksum and its location; or none.
 ///
-/// It must be cleared after a write was truncated away, and after a file left the live range: the bytes there may
-/// have changed. Each block is read over the bytes of the one before, so the cache keeps the capacity of the longest.
+/// It must be cleared after a file left the live range, since the file's bytes may change then. Each block is read over
+/// the bytes of the one before, so the cache keeps the capacity of the longest.
 #[derive(Drop)]
 pub struct BlockCache {
     place: Option<FileBlockHandle>,
@@ -45,8 +45,8 @@ impl BlockCache {
 
     /// Caches a block. If it is cached already, nothing is read, and the call succeeds.
     ///
-    /// Fails as the pipes' read does, and with `Corruption` if the block's checksum is wrong. If it fails, no block
-    /// is cached.
+    /// Fails as the pipes' read does, with `Corruption` if the block's checksum is wrong, or with `Memory`. If it
+    /// fails, no block is cached.
     pub fn read<P: PipeLog>(
         &mut self,
         alloc: Global,
@@ -68,7 +68,8 @@ impl BlockCache {
 
     /// The bytes of an entry of the cached block, by its offset and length in the block. Nothing is copied.
     ///
-    /// Fails with `Corruption` if the entry reaches past the block's entries, which end before the checksum.
+    /// Fails with `Corruption` if the entry reaches past the block's entries, which end before the checksum; with
+    /// `Memory` if there is none for that error's text.
     pub fn entry(&self, alloc: Global, offset: u32, len: u32) -> Result<&[u8]>
         ensures ok { IfOk result (λ bytes. (offset + len ≤ entries_in self.now)
             × (bytes.now ≡ part offset len self.now.bytes.items)) }
@@ -94,7 +95,8 @@ impl BlockCache {
 
     /// Reads the entry at a place as a message. Afterwards its block is cached.
     ///
-    /// Fails as `read` and `entry` do, if the entry is in no file, and if its bytes don't parse as a message.
+    /// Fails as `read` and `entry` do. Fails with `InvalidArgument` if the entry is in no file, and with `Message` if
+    /// its bytes don't parse as a message.
     pub fn read_entry<M: Message, P: PipeLog>(
         &mut self,
         alloc: Global,
@@ -131,8 +133,9 @@ impl BlockCache {
         Ok(messages)
     }
 
-    /// Appends the entries of a block between these bounds, as messages. The caller reserved the capacity. The block
-    /// is read once. If it fails, the old messages stay, and some new ones may follow them.
+    /// Appends the entries of a block between these bounds, as messages. There must be at least one entry, and
+    /// `messages` must have room for them. The block is read at most once. If it fails, the old messages stay, and some
+    /// new ones may follow them.
     ///
     /// Fails as `read_entry` does for the first entry that isn't read.
     pub fn read_between<M: Message, P: PipeLog>(
@@ -264,8 +267,8 @@ fn lies_in(entry: &EntryIndex, block: FileBlockHandle) -> bool
     entry.entries == Some(block)
 }
 
-/// The bytes of a block's entries from one bound up to another; none from `start` on if `end` is lower. `None` if
-/// they aren't all there. Nothing is copied.
+/// The bytes of a block's entries from one bound up to another; none from `start` on if `end` is lower. `None` if the
+/// bounds reach past the entries. Nothing is copied.
 fn between(entries: &[u8], start: u64, end: u64) -> Option<&[u8]>
     ensures some { IfSome result (λ bytes. (start + (end - start) ≤ length entries.now)
         × (bytes.now ≡ part start (end - start) entries.now)) }
@@ -278,8 +281,8 @@ fn between(entries: &[u8], start: u64, end: u64) -> Option<&[u8]>
     Some(&entries[start as usize..end as usize])
 }
 
-/// Why the entry between these bounds isn't returned: it reaches past the block's entries, which end before the
-/// checksum. `Memory` if there is none for the message.
+/// The error for an entry between these bounds that reaches past the block's entries: `Corruption`, or `Memory` if
+/// there is none for its text.
 #[cold]
 fn past_the_end(alloc: Global, start: u64, end: u64) -> Error
     ensures { (room : ℕ) → room < start + (end - start) → IsOutside start (end - start) room result }

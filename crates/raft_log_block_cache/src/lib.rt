@@ -1,5 +1,6 @@
 //! Signs batches for the file that the pipe picks (`SignedBatch`). Reads entries back through the last block
-//! (`BlockCache`), so that entries of one block need one read. The laws (`stored`) say which bytes the log then has.
+//! (`BlockCache`), so that consecutive entries of one block need one read. The laws (`stored`, `kept`) say which bytes
+//! the log and the cache have.
 #![tactic(auto)]
 
 pub mod block_cache;

@@ -1,4 +1,4 @@
-//! A batch whose record is made and signed.
+//! A batch whose record is encoded and signed.
 
 ghost use Rattle.std.specs.Prelude.{◌≡◌, None, length};
 ghost use Rattle.raft_log_record_base.specs.declared.pipe_log.LogFileContext.{LogFileContext};
@@ -10,7 +10,7 @@ use raft_log_file_pipe::ReactiveBytes;
 use raft_log_record_base::{FileId, LogFileContext, LogQueue, Version};
 use raft_log_record_batches::LogBatch;
 
-/// A batch whose record is made and signed, at first for no file.
+/// A batch whose record is encoded and signed, at first for no file.
 #[derive(Drop)]
 pub struct SignedBatch {
     batch: LogBatch,
@@ -21,7 +21,7 @@ pub struct SignedBatch {
 impl SignedBatch {
     ghost use Rattle.raft_log_block_cache.specs.Signing.{SaysItself, signed_for};
 
-    /// Takes a batch whose record is made; it is signed for no file yet.
+    /// Takes a batch whose record is encoded; it is signed for no file yet.
     pub fn new(batch: LogBatch) -> SignedBatch
         requires { batch.state ≡ Populated }
         ensures { result.batch ≡ signed_as None batch }
@@ -43,8 +43,8 @@ impl SignedBatch {
         self.batch
     }
 
-    /// How many bytes its record has, in whatever file. Unless the batch is empty, the record contains its items and
-    /// the bytes of their entries, one after another.
+    /// The length of its record in bytes, which is the same for any file. Unless the batch is empty, the record
+    /// contains its items and the bytes of their entries, one after another.
     pub fn encoded_len(&self) -> usize
         ensures len { (context : LogFileContext) → length (signed_for self.now.batch context) ≡ result }
         ensures says { SaysItself (signed_for self.now.batch) self.now.batch }

@@ -7,39 +7,42 @@ ghost use Rattle.raft_log_block_cache.specs.Written.{AnyFileMayTakeIt, TakenEntr
 
 use raft_log_dual_pipes::queues::LogQueues;
 
-/// Each call of a pipe keeps what was written to its queue's files, whether it succeeds or fails. Files that leave
-/// the live range are excepted.
+/// An append, the truncation of a failed append, a rotation and a sync keep what was written to the queue's files. So
+/// do several such steps.
 pub fn calls_keep_bytes<R>()
     ensures { CallsKeepBytes R }
 {}
 
-/// A call on one of the log's queues that keeps the bytes of its files keeps the whole log's.
+/// A call on one of the log's queues that keeps the bytes written to that queue's files keeps those of the whole log.
 pub fn calls_keep_log<R>()
     ensures { CallsKeepLog R }
 {}
 
-/// If the log's bytes are kept, its entries stay in it with their bytes, and the tables mean the same map.
+/// If the log's bytes are kept, the entries that tables show stay in it at their places. The tables mean the same
+/// contents.
 pub fn stored_entries_stay<R>()
     ensures { StoredEntriesStay R }
 {}
 
-/// A running pipe reads from a block of its queue the bytes that were written there.
+/// A read of a block of a running pipe's queue that succeeds returns the bytes that were written there.
 pub fn stored_block_is_read<G: LogQueues>()
     ensures { (log : G) (which : Which) → StoredBlockIsRead (layout_at which (G.queues log)) }
 {}
 
-/// If the last record of Append is a batch's, its entries are in the log at their places, with the batch's bytes.
+/// If the last record of Append is a batch's, its entries are in the log at their places, with the batch's bytes. The
+/// batch's entry block must be whole.
 pub fn written_entries_are_stored<R>()
     ensures { WrittenEntriesAreStored R }
 {}
 
-/// If the tables apply a batch whose entries are in the log, every entry with a place in them is in the log.
+/// After tables apply a batch whose entries are in Append, all entries that they show are in the log. The earlier ones
+/// must have been, and the batch must be able to follow what the tables show.
 pub fn taken_entries_are_stored<R>()
     ensures { TakenEntriesAreStored R }
 {}
 
-/// Before a batch is written, the view can grow by it in whichever file the write picks. If the write fails, the
-/// record may be there or not.
+/// If a batch may follow what the tables show, the view can grow by it, whichever file of Append its record is written
+/// to. The tables' entries must be in the log.
 pub fn any_file_may_take_it<R>()
     ensures { AnyFileMayTakeIt R }
 {}

@@ -25,8 +25,8 @@ use raft_log_record_base::{Error, LogQueue, Result};
 use raft_log_record_batches::LogBatch;
 use std::alloc::Global;
 
-/// The engine of a log. It has the log's pipes, the tables of all groups, and the entry block that was read last. It
-/// also has the thresholds of its purges, and what is counted between them.
+/// The engine of a log. It has the log's pipes, the memtables of all groups, and a cache of one entry block. It also
+/// has the thresholds of its purges, and the counts that later purges use.
 #[derive(Drop)]
 pub struct LogEngine<P> {
     alloc: Global,
@@ -57,8 +57,9 @@ impl<P: PipeLog> LogEngine<P> {
     ghost use Rattle.raft_log_dual_pipes.specs.Pipes.{is_failed};
     ghost use Rattle.raft_log_dual_pipes.specs.Telling.{Hears, files_begun};
 
-    /// An engine over these pipes, tables and thresholds. `written` is how many entries and values were written to
-    /// Rewrite before. The engine has no block cached, and has asked no group to compact yet.
+    /// Returns an engine over these pipes, tables and thresholds. `written` is how many entries and values were written
+    /// to Rewrite before. No block is cached, and no group was asked to compact. The tables must have nothing reserved
+    /// for a batch.
     pub fn new(
         alloc: Global,
         thresholds: Thresholds,
@@ -91,7 +92,8 @@ impl<P: PipeLog> LogEngine<P> {
         self.pipes.is_failed()
     }
 
-    /// Makes all batches durable. If it fails, the error is `Failed`, and so is that of every later read or write.
+    /// Makes all batches durable. It fails only with `Failed`; then the engine has failed, and so does every later read
+    /// or write.
     pub fn sync<L: Log>(&mut self, rt: &L) -> Result<()>
         ensures model { FollowsModel ModelSyncs result (shows_of P.shown self.old) (shows_of P.shown self.new) }
         ensures ok { OnOk result (SyncsAppend (shows_of P.shown self.old) (shows_of P.shown self.new)) }
@@ -107,28 +109,31 @@ impl<P: PipeLog> LogEngine<P> {
     }
 
     /// Writes a batch, and returns the length of its record in bytes. With `sync`, then makes all batches durable. The
-    /// batch is emptied, and keeps at most 8 MiB of its buffer. An empty batch isn't written, and stays unchanged.
+    /// batch is emptied, and keeps at most 8 MiB of its buffer. An empty batch isn't written and stays unchanged; the
+    /// length is 0.
     ///
     /// # Errors
     ///
     /// Before anything is done:
     /// - `InvalidArgument` if the batch was written already, or its marks of atomic groups are broken.
     /// - `Full` if the record would have 2^56 bytes or more.
-    /// - `Hole` if a group's entries would start past the index after its last one.
+    /// - `Hole` if a group's entries would start past the index after its last one, or reach index 2^64 - 1.
     /// - `Memory`.
     ///
-    /// From the write; the batch is kept and its record is made:
+    /// From the write; the batch is kept and its record is encoded:
     /// - `Io` with the kind of the failed file system call. What was written is truncated, and all earlier batches are
     ///   durable.
     /// - `TryAgain`: the same for lack of space, in two files, one after the other.
-    /// - `Memory`, `NumberRange`: Append couldn't rotate, for lack of memory or of a file number.
+    /// - `Memory`, `NumberRange`: Append couldn't rotate, for lack of memory or of a file number. A prefix of the
+    ///   unsynced batches may be durable.
     ///
-    /// `Failed`: the engine has failed, as every later read or write reports; the batch may be in the log or not.
+    /// `Failed`: the engine has failed, as every later read or write reports. The batch may be in the log or not, and
+    /// it may have been emptied.
     ///
-    /// Listeners hear of each file that Append rotated to. If the batch is written, they hear of its record's place in
-    /// Append's active file, and then that it was applied to the tables. They hear nothing of the sync. After a write,
-    /// even one whose sync failed, the engine's own hook pins the files that it pinned before, unless there was a file
-    /// that it couldn't list (`laws::batches_hold_nothing_back`).
+    /// Listeners hear of each file that Append rotated to. If the record is written, they hear of its place in Append's
+    /// active file, and then that it was applied to the tables. They hear nothing of the sync. After that, even if the
+    /// sync failed, the engine's own hook pins the files that it pinned before. The exception is a write that rotated
+    /// to a file which the hook couldn't list (`laws::batches_hold_nothing_back`).
     pub fn write<L: Log>(&mut self, rt: &L, batch: &mut LogBatch, sync: bool) -> Result<usize>
         ensures model { FollowsModel (ModelWrites batch.old sync) result
             (shows_of P.shown self.old) (shows_of P.shown self.new) }
@@ -179,7 +184,8 @@ impl<P: PipeLog> LogEngine<P> {
         }
     }
 
-    /// Writes a batch that isn't empty, and returns the length of its record in bytes.
+    /// Writes a batch that isn't empty, without a sync, and returns the length of its record in bytes. The engine must
+    /// not have failed.
     fn put<L: Log>(&mut self, rt: &L, batch: &mut LogBatch) -> Result<usize>
         requires lives { is_failed (P.shown self.old.pipes) ≡ false }
         requires some { batch.old.items ≡ [] → ⊥ }

@@ -1,8 +1,8 @@
-//! The log store: writes batches, syncs them, and reads back what they say.
+//! The log store: writes and syncs batches of many Raft groups, and reads back what they contain.
 //!
 //! [`LogEngine`] is generic in the pipes that keep its log ([`PipeLog`]), so its contracts hold for any such pipes.
-//! Each clause is about any map and any pending batches that were true of the engine before the call (`Represents`). It
-//! requires nothing of the caller.
+//! A clause about the log's contents holds for any contents and pending batches that `Represents` relates to the engine
+//! before the call. No call on an engine has a premise, except that the callback of a scan must have no precondition.
 //!
 //! [`PipeLog`]: raft_log_dual_pipes::PipeLog
 #![tactic(auto)]

@@ -1,4 +1,5 @@
-//! Writes a batch. All memory that the call needs is reserved first, so nothing after the write can fail.
+//! Writes a batch. Memory for its record and for the tables is reserved first, so nothing fails once the record is
+//! written.
 
 ghost use Rattle.std.specs.Prelude.{◌≡◌, ◌+◌, ◌++◌, ◌≤◌, ◌<◌, ◌^◌, ◌↔◌, ℕ, [], ◌∷◌, length, vec_capacity, vec_len, false, IfErr, IfOk, OnErr, OnOk, IsTrue};
 ghost use Rattle.raft_log_record_frames.specs.declared.marking.Marking.TheVariants.{Broken};
@@ -37,15 +38,15 @@ use raft_log_record_items::LogItem;
 use std::alloc::Global;
 use std::mem;
 
-/// The memory that is needed to write a batch: a second batch for the time of the write, and a list for the items.
+/// Memory for the time of a write: a second batch, and a list for the items.
 #[derive(Drop)]
 pub struct Room {
     stand_in: LogBatch,
     items: Vec<LogItem>,
 }
 
-/// Reserves all memory that a batch may need: its record, room in the tables, and the rest. If it fails, nothing
-/// changed, except that the batch's record may be made.
+/// Checks a batch, encodes its record, and reserves memory for its write: in the tables, and in the returned `Room`. If
+/// it fails, nothing changed, except that the record may have been encoded.
 pub fn make_room(alloc: Global, tables: &mut MemTables, batch: &mut LogBatch) -> Result<Room>
     requires { IsAtRest tables.old }
     ensures shows { ShowsSame tables.old tables.new }
@@ -68,7 +69,7 @@ pub fn make_room(alloc: Global, tables: &mut MemTables, batch: &mut LogBatch) ->
     }
 }
 
-/// Makes the record of a batch, unless it is made already. If it fails, the batch is unchanged.
+/// Encodes the record of a batch, unless it is encoded already. If it fails, the batch keeps its items.
 fn populate(batch: &mut LogBatch) -> Result<()>
     requires { IsWritable batch.old.state }
     ensures kept { IsBatchKept batch.old batch.new }
@@ -82,8 +83,8 @@ fn populate(batch: &mut LogBatch) -> Result<()>
     Ok(())
 }
 
-/// Writes a batch that room was made for, and returns the length of its record in bytes. Then the tables have what it
-/// says, and it is emptied. If the pipes fail, it is kept, and the room is freed.
+/// Writes a batch after `make_room`, and returns the length of its record in bytes. The tables take its items, and it
+/// is emptied. If the pipes fail, the batch is kept, nothing stays reserved, and no block is cached.
 pub fn append<P: PipeLog, L: Log>(
     alloc: Global,
     rt: &L,
@@ -137,8 +138,8 @@ pub fn append<P: PipeLog, L: Log>(
     }
 }
 
-/// Writes the record of a batch to Append. If there is no space for it, Append has rotated, and it is tried there once
-/// more.
+/// Writes the record of a batch to Append. If the first try fails with `TryAgain`, Append has rotated, and it is tried
+/// once more.
 fn append_or_again<P: PipeLog, L: Log>(
     alloc: Global,
     rt: &L,
@@ -219,7 +220,7 @@ fn check(alloc: Global, batch: &LogBatch) -> Result<()>
     Ok(())
 }
 
-/// Whether items may be added to a batch.
+/// Whether a batch's record isn't encoded yet.
 fn is_filling(batch: &LogBatch) -> bool
     ensures { IsTrue result ↔ (batch.now.state ≡ Filling) }
 {
@@ -229,7 +230,7 @@ fn is_filling(batch: &LogBatch) -> bool
     }
 }
 
-/// Whether a batch may be written.
+/// Whether a batch may be written: it was neither signed nor written.
 fn is_writable(batch: &LogBatch) -> bool
     ensures { IsTrue result ↔ IsWritable batch.now.state }
 {

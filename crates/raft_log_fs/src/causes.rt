@@ -10,12 +10,13 @@ pub trait FilesInQuestion {
     ghost asks_for: { ℕ → Type 0 };
 }
 
-/// On a disk that runs, with every place readable and no failure counted during the call, a failed call has no cause.
+/// A failed call has no cause if the disk runs, every place is readable, and no failure was counted during the call.
 pub fn undisturbed_disk_has_no_cause<Q: FilesInQuestion>()
     ensures { UndisturbedHasNoCause Q.asks_for }
 {}
 
-/// An unreadable place of a file that the call doesn't ask for is no cause.
+/// An unreadable place of a file that the call doesn't ask for is no cause. If all places of its files are readable, a
+/// failure was counted or the file system has stopped.
 pub fn other_files_are_no_cause<Q: FilesInQuestion>()
     ensures { OtherFilesAreNoCause Q.asks_for }
 {}
@@ -27,19 +28,18 @@ pub trait Refusing {
     ghost done: { Disk → Type 0 };
 }
 
-/// If the arguments were right and the disk still runs, a failed call was counted. The kind that it returns is kept
-/// with the failure.
+/// If a call with right arguments fails and the file system still runs, the failure was counted. The kind that the call
+/// returned is kept with it.
 pub fn a_counted_refusal_tells_its_kind<C: Refusing>()
     ensures { CountedRefusalTellsItsKind C.wrong C.done }
 {}
 
-/// Such a call returns one kind: the clauses allow no other kind in its place.
+/// Such a call has one error: the disks before and after it determine the kind.
 pub fn a_counted_refusal_has_one_kind<C: Refusing>()
     ensures { CountedRefusalHasOneKind C.wrong C.done }
 {}
 
-/// A failed call that leaves a stopped file system, whether it stopped before the call or at it, doesn't return
-/// `OutOfMemory`.
+/// If the file system has stopped after a failed changing call, the error isn't `OutOfMemory`.
 pub fn a_stop_is_no_want_of_memory<C: Refusing>()
     ensures { StopIsNoWantOfMemory C.wrong C.done }
 {}

@@ -28,7 +28,7 @@ pub enum Fault {
     /// The n-th changing call fails. A write writes this many of its first bytes, or all if it has fewer; these aren't
     /// synced. Any other call changes nothing.
     RefuseInPart(u64, usize),
-    /// A place of the file that has this name now is made unreadable. A read that asks for it fails, whatever the
+    /// A place of the file that has this name now becomes unreadable. A read that asks for it fails, whatever the
     /// file's name is then. If no file has the name, nothing is armed.
     DenyRead(String, usize),
     /// The file system stops at the n-th changing call. A write, a truncation or an allocation there counts as not

@@ -2,17 +2,17 @@
 
 ghost use Rattle.raft_log_fs.specs.Laws.{StandsIsImage, SyncedIsOnlyImage, SyncedFileHasOneImage, ImageOfImage, ImageIsSound, AnyByteLeft, ImagesStay, NamedIsUsed, AbsentHoldsNoName};
 
-/// A crash may leave each file with its present content.
+/// A crash of a sound disk may leave each file with its present content.
 pub fn stands_is_an_image()
     ensures { StandsIsImage }
 {}
 
-/// If all files are synced, a crash leaves each with its present content.
+/// If all files of a sound disk are synced, a crash leaves each with its present content.
 pub fn synced_files_have_one_image()
     ensures { SyncedIsOnlyImage }
 {}
 
-/// If a file's changes are all synced, a crash leaves of it what a read returns.
+/// If all changes of a file on a sound disk are synced, a crash leaves its present content.
 pub fn synced_file_has_one_image()
     ensures { SyncedFileHasOneImage }
 {}
@@ -27,7 +27,8 @@ pub fn image_of_a_sound_disk_is_sound()
     ensures { ImageIsSound }
 {}
 
-/// Any byte may be left at a place in a written range, or after the point where a file was truncated.
+/// If a change isn't synced, a crash may leave any byte at each place that it touches: in a written range, or from the
+/// size on to which a file was truncated.
 pub fn any_byte_may_be_left()
     ensures { AnyByteLeft }
 {}
@@ -37,12 +38,12 @@ pub fn images_stay()
     ensures { ImagesStay }
 {}
 
-/// A name leads to a number that was given, so no name leads to a new file's number.
+/// On a sound disk, a name leads to a number that was given before, so no name leads to a new file's number.
 pub fn names_lead_to_used_numbers()
     ensures { NamedIsUsed }
 {}
 
-/// No name is in a directory that doesn't exist, so no file that a crash left has such a name.
+/// On a sound disk, no name is in a directory that doesn't exist.
 pub fn absent_directories_hold_no_name()
     ensures { AbsentHoldsNoName }
 {}

@@ -34,7 +34,7 @@ impl Kinds {
         }
     }
 
-    /// Notes the kind that a failure returns.
+    /// Notes the kind of a failure's error.
     pub fn note(&mut self, _kind: &ErrorKind)
         ensures { self.new.told ≡ _kind.now ∷ self.old.told }
     {}

@@ -5,7 +5,8 @@ ghost use Rattle.raft_log_fs.specs.Disk.{File};
 ghost use Rattle.raft_log_fs.specs.Names.{NamesChange};
 ghost use Rattle.raft_log_fs.specs.Touching.{OtherNamesStay};
 
-/// What a creation, a deletion and a renaming change, and what stays: a renamed file's bytes and changes are unchanged.
+/// A creation, a deletion and a renaming change only their own names and files. A renamed file keeps its bytes and its
+/// unsynced changes. For a creation, the disk must be sound.
 pub fn names_change()
     ensures { NamesChange }
 {}
@@ -17,7 +18,7 @@ pub trait Owning {
     ghost known: { File → Type 0 };
 }
 
-/// What is known of the file of another name stays true if only one's own names were touched.
+/// What is known of the file of another name stays true if only the queue's own names were touched.
 pub fn other_names_stay<W: Owning>()
     ensures { OtherNamesStay W.own W.known }
 {}

@@ -22,7 +22,7 @@ pub trait Judged {
 
 /// Whether the reads that it covers returned what the disk holds. It has no bytes, and costs nothing.
 ///
-/// No code can tell whether a receipt is honest, so memory safety never depends on it.
+/// No code can find out whether a receipt is honest, so memory safety never depends on it.
 #[derive(Drop)]
 pub struct Receipt {
     marker: PhantomData<u8>,

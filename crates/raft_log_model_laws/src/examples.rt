@@ -49,8 +49,9 @@ pub fn later_runs_cut()
     ensures run { run_of three_files ≡ record { first = 10; end = 35 } }
 {}
 
-/// One purge, step by step: entries 4 and 5 are there, however much is written so far, and from whichever file Append
-/// is read.
+/// One purge, step by step. Entries 4 and 5 are there at each step: before it, after the marks, after the copies, and
+/// while Append's files are deleted. The key keeps its value. If Append were read from file 6 before the copies were
+/// written, both entries would be missing.
 pub fn one_purge()
     ensures before { shown 0 7 rewrite_before append_from_4 ≡ four_and_five }
     ensures marked { shown 0 7 rewrite_marked append_from_4 ≡ four_and_five }
@@ -62,7 +63,7 @@ pub fn one_purge()
         ≡ None ∷ Some (Entry 1) ∷ Some (Entry 2) ∷ None ∷ None ∷ Some (Entry 105) ∷ None ∷ [] }
 {}
 
-/// A compaction past the last entry leaves none; two compactions leave the entries above the greater index.
+/// A compaction past the last entry leaves none. Two compactions leave the entries from the greater index on.
 pub fn compactions()
     ensures all { shown 0 120 (Run 1 (upward 1 10) ∷ Compact 100 ∷ []) [] ≡ replicate 120 None }
     ensures some { run_of (Run 0 (upward 0 25) ∷ Compact 5 ∷ Compact 20 ∷ [])
@@ -76,7 +77,8 @@ pub fn keys()
     ensures cleaned { voter_in (Put voter 1 ∷ []) (Clean ∷ []) ≡ None }
 {}
 
-/// A run that starts at the index after the last leaves no hole; one that starts past it does.
+/// A run that starts at the index after the last leaves no hole; one that starts past it does. If there are no entries,
+/// no run leaves a hole.
 pub fn past_the_end()
     ensures at_the_end { is_past (record { first = 1; end = 4 }) 4 ≡ false }
     ensures past { is_past (record { first = 1; end = 4 }) 5 ≡ true }

@@ -7,8 +7,8 @@ ghost use Rattle.raft_log_model_laws.specs.Item.Mark.{Begin};
 ghost use Rattle.raft_log_model_laws.specs.Groups.{Open, settle, opened, settled, rewritten};
 ghost use Rattle.raft_log_model_laws.specs.Tidy.{Tidy, EndsNone, middles, whole_group, group_items};
 
-/// What counts in two lists of records, one after the other: the groups that the earlier list leaves open continue in
-/// the later.
+/// In two lists of records, one after the other, what counts in the earlier list counts first. Then what counts in the
+/// later list does, in which the groups that the earlier one leaves open continue.
 pub fn settled_of_two<E, V>()
     ensures { (o : Open E V) (xs ys : List (Record E V))
         → settle o (xs ++ ys) ≡ settle o xs ++ settle (opened o xs) ys }
@@ -29,8 +29,8 @@ pub fn whole_group_counts<E, V>()
         → settled (rs ++ whole_group n first between last) ≡ settled rs ++ group_items first between last }
 {}
 
-/// From each later start of tidy records the same items count, except for a prefix: a start inside a group loses only
-/// that group.
+/// If tidy records are read from a later start, fewer items of a raft group may count: a suffix of those that count in
+/// all records. A start inside an atomic group loses that group.
 pub fn later_start_counts_an_end<E, V>()
     ensures { (g : ℕ) (cut back : List (Record E V)) → Tidy (cut ++ back)
         → (lost : List (Item E V)) × (lost ++ rewritten g back ≡ rewritten g (cut ++ back)) }

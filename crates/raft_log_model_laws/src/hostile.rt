@@ -21,8 +21,8 @@ ghost use Rattle.raft_log_model_laws.specs.Holes.{
 };
 ghost use Rattle.raft_log_model_laws.specs.Examples.{hole_at, last_word_at, with_gap, gap_closed, closing_run};
 
-/// The entries after a list are one run, and its two ends are the window's. This also holds if a run past the end drops
-/// the earlier entries.
+/// The entries that a list leaves are one run, and its two ends are the window's. This holds for any list if a run past
+/// the end drops the earlier entries. For a list without holes it also holds without that rule.
 pub fn one_run_stands<E, V>()
     ensures any { (xs : List (Item E V))
         → Spans (window nothing xs).first (window nothing xs).end (λ i. holds_past (Index i) xs) }
@@ -47,16 +47,16 @@ pub fn silent_between_the_bounds<E, V>()
     ensures { (xs : List (Item E V)) (i : ℕ) → is_none (says (Index i) xs) ≡ is_silent xs i }
 {}
 
-/// If no gap remains, the wording by intervals means the same as the last word. By intervals, a group keeps nothing of
-/// Rewrite if Append has a Clean for it. Otherwise it keeps the indexes from Append's greatest Compact index on and
-/// below the least start of its runs. Append's entries override them.
+/// If Rewrite has no hole and no gap remains, the wording by intervals means the same as the last word. By intervals, a
+/// group keeps nothing of Rewrite if Append has a Clean for it. Otherwise it keeps the indexes from Append's greatest
+/// Compact index on and below the least start of its runs. Append's entries override them.
 pub fn directory_is_by_intervals<E, V>()
     ensures { (i : ℕ) (rewrite append : List (Item E V))
         → NoHole nothing rewrite → has_gap (window nothing rewrite) append ≡ false
         → directory_by_intervals i rewrite append ≡ directory (Index i) rewrite append }
 {}
 
-/// A directory without holes, in which each slot between two entries has an entry too, has no gap. There the two
+/// A directory without holes, in which each index between two entries has an entry too, has no gap. For it the two
 /// wordings mean the same.
 pub fn solid_directory_is_by_intervals<E, V>()
     ensures { (i : ℕ) (rewrite append : List (Item E V)) → NoHole nothing rewrite → NoHole nothing append

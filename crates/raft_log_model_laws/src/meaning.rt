@@ -25,18 +25,19 @@ pub fn directory_is_one_log<E, V>()
         → directory s rewrite append ≡ holds s (rewrite ++ append) }
 {}
 
-/// Items that Append takes change what the directory means.
+/// If Append takes more items, each slot of the directory has what they leave there of its earlier content.
 pub fn append_takes_items<E, V>()
     ensures { (s : Slot) (rewrite append more : List (Item E V))
         → directory s rewrite (append ++ more) ≡ after (λ t. directory t rewrite append) more s }
 {}
 
-/// What the records of Append say of a group, for two lists of records, one after the other.
+/// Take two lists of Append's records, one after the other. A group's items in them are those of the first list, then
+/// those of the second.
 pub fn appended_of_two<E, V>()
     ensures { (g : ℕ) (xs ys : List (Record E V)) → appended g (xs ++ ys) ≡ appended g xs ++ appended g ys }
 {}
 
-/// Records that Append takes change the map, group by group.
+/// If Append takes more records, the directory's map is the earlier one after these records, group by group.
 pub fn append_takes_records<E, V>()
     ensures { (g : ℕ) (s : Slot) (rewrite append more : List (Record E V))
         → directory_meaning rewrite (append ++ more) g s ≡ taken (directory_meaning rewrite append) more g s }

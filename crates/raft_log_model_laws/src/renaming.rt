@@ -6,9 +6,9 @@ ghost use Rattle.raft_log_model_laws.specs.Meaning.{Slot, says, directory};
 ghost use Rattle.raft_log_model_laws.specs.Groups.{Map, appended, rewritten, directory_meaning, taken};
 ghost use Rattle.raft_log_model_laws.specs.Renamed.{renamed, renamed_record, renamed_content, renamed_word, renamed_map};
 
-/// Applying a function to each entry and then asking for a log's meaning is the same as asking first and then applying
-/// it. This holds for a list of items, for a group's items in either queue, for a directory, and for what Append
-/// changes in a map.
+/// Applying a function to each entry before a log's meaning is computed gives the same as applying it to the meaning.
+/// This holds for a list of items, for a group's items in either queue, for a directory, and for what Append changes in
+/// a map.
 pub fn meaning_of_renamed<E, F, V>()
     ensures word { (f : E → F) (s : Slot) (xs : List (Item E V))
         → says s (map (renamed f) xs) ≡ renamed_word f (says s xs) }
@@ -26,8 +26,8 @@ pub fn meaning_of_renamed<E, F, V>()
         → taken (renamed_map f m) (map (renamed_record f) rs) g s ≡ renamed_map f (taken m rs) g s }
 {}
 
-/// Applying two functions in turn to the entries is the same as applying one after the other at once. What holds for
-/// places thus holds for bytes, if a record of places and a record of bytes come from the same entries.
+/// Applying two functions to the entries in turn is the same as applying their composition. So what holds for places
+/// holds for bytes, if a record of places and a record of bytes come from the same entries.
 pub fn renamed_twice<E, F, H, V>()
     ensures { (f : E → F) (h : F → H) (r : Record E V)
         → renamed_record h (renamed_record f r) ≡ renamed_record (λ e. h (f e)) r }

@@ -1,4 +1,4 @@
-//! Segments of a queue, each read by itself and then merged: in any bracketing they mean the whole.
+//! Segments of a queue: each is read by itself, and then they are merged. In any bracketing they mean the whole.
 
 ghost use Rattle.std.specs.Prelude.{◌≡◌, ℕ, List, [], ◌++◌, Some};
 ghost use Rattle.std.specs.Option.{option_or};
@@ -39,8 +39,8 @@ pub fn joined_summaries<E, V>()
         → IsSummary (join a z) (xs ++ ys) }
 {}
 
-/// Any table of Rewrite and any summary of Append, however their segments were joined, give the directory's table. The
-/// condition is that each slot between two entries of the directory has an entry too.
+/// Any table of Rewrite and any summary of Append, however their segments were joined, give the directory's contents.
+/// The condition is that each index between two entries of the directory has an entry too.
 pub fn any_summary_makes_the_directory<E, V>()
     ensures { (t : Table E V) (z : Summary E V) (rewrite append : List (Item E V))
         → IsTableOf t rewrite → IsSummary z append → IsSolid (λ i. directory (Index i) rewrite append)
@@ -62,15 +62,17 @@ pub fn joining_is_associative<E, V>()
         → content (join_all t).table s ≡ content (join_all u).table s }
 {}
 
-/// Tidy records may be cut anywhere: the items of the groups that the cut splits come between the two parts.
+/// Tidy records may be cut anywhere. What counts in all of them is what counts before the cut and what counts after it.
+/// Between the two come the items of the groups that the cut splits.
 pub fn tidy_records_may_be_cut<E, V>()
     ensures { (g : ℕ) (xs ys : List (Record E V)) → Tidy (xs ++ ys)
         → rewritten g (xs ++ ys)
         ≡ rewritten g xs ++ (of_group g (completed (unfinished xs) (λ n. head n [] ys)) ++ rewritten g ys) }
 {}
 
-/// What two segments, one after the other, do with a group that is open before them, and which groups they leave
-/// unfinished. The records may be any.
+/// Two segments, one after the other, treat a group that is open before them as the first and then the second does. The
+/// groups that they leave unfinished are those of the first that the second doesn't finish, and those of the second.
+/// The records may be any.
 pub fn borders_of_two<E, V>()
     ensures heads { (n : ℕ) (xs ys : List (Record E V))
         → head n [] (xs ++ ys) ≡ then_head (head n [] xs) (head n [] ys) }
@@ -78,7 +80,7 @@ pub fn borders_of_two<E, V>()
         → unfinished (xs ++ ys) ≡ carried_on (unfinished xs) (λ n. head n [] ys) ++ unfinished ys }
 {}
 
-/// Consecutive segments of tidy records, each read by itself and merged in any bracketing, are the segment of all of
+/// Consecutive segments of tidy records, each read by itself and merged in any bracketing, give the segment of all of
 /// them. Nothing is lost if a border cuts an atomic group.
 pub fn any_bracketing_is_the_whole<E, V>()
     ensures { (t : Bracketing (Record E V))
@@ -86,7 +88,7 @@ pub fn any_bracketing_is_the_whole<E, V>()
 {}
 
 /// Why the records must be tidy. If another record touches the raft group of an open atomic group, merging the two
-/// halves doesn't give what the whole says. Reading from after its begin doesn't either.
+/// halves doesn't give what the whole says. Nor does reading from a place after its begin.
 pub fn disturbed_group()
     ensures whole { value_in (begun ++ newer_then_ended) ≡ Some (Value 1) }
     ensures later_start { value_in newer_then_ended ≡ Some (Value 2) }

@@ -18,22 +18,21 @@ ghost use Rattle.raft_log_model_laws.specs.Table.{
 };
 ghost use Rattle.raft_log_model_laws.specs.Summary.{summary, directory_table};
 
-/// A table after one more item that leaves no hole: the item's word if it touches the slot, otherwise the content
-/// before.
+/// A table takes one more item that leaves no hole. Then each slot that the item touches has the item's word, and any
+/// other its content before.
 pub fn table_takes_an_item<E, V>()
     ensures { (t : Table E V) (x : Item E V) (s : Slot) → FitsOn (span_of t) x
         → content (table_step t x) s ≡ unwrap_or (write s x) (content t s) }
 {}
 
-/// A table after any item, if a run past the end drops the earlier entries: the item's word if it touches the slot,
-/// otherwise the content before.
+/// The same for any item, if a run past the end drops the earlier entries.
 pub fn hostile_table_takes_an_item<E, V>()
     ensures { (t : Table E V) (x : Item E V) (s : Slot)
         → content (table_step_past t x) s ≡ unwrap_or (write_past (span_of t) s x) (content t s) }
 {}
 
-/// A table that took all items of a list has the contents after the list: for lists without holes, those of the last
-/// word; for every list, those of the last word with the rule on runs past the end.
+/// A table that took all items of a list has the contents after the list. For lists without holes, these are the last
+/// word's. For every list, they are the last word's with the rule on runs past the end, if the table follows it.
 pub fn table_holds_what_stands<E, V>()
     ensures without_holes { (xs : List (Item E V)) (s : Slot)
         → NoHole nothing xs → content (table_after no_table xs) s ≡ holds s xs }
@@ -41,8 +40,8 @@ pub fn table_holds_what_stands<E, V>()
         → content (table_after_past no_table xs) s ≡ holds_past s xs }
 {}
 
-/// The table of a directory whose Append has no hole: its entries are those by intervals, also in a hostile directory,
-/// and its values are those of the last word.
+/// The table of a directory whose Append has no hole has the entries by intervals, also for a hostile directory. Its
+/// values are those of the last word.
 pub fn directory_table_holds_what_stands<E, V>()
     ensures entries { (rewrite append : List (Item E V)) (i : ℕ) → NoHole nothing append
         → content (directory_table (table_after_past no_table rewrite) (summary append)) (Index i)

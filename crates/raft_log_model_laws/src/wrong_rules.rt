@@ -1,5 +1,5 @@
-//! Rules that a log store might follow, and short logs for which they are wrong: the meaning of the log, the result of
-//! the right rule, and that of the wrong one.
+//! Wrong rules that a log store might follow. For each, a short log with its meaning, the result of the right rule, and
+//! that of the wrong one.
 
 ghost use Rattle.std.specs.Prelude.{◌≡◌, ◌++◌, ◌∷◌, [], Some, None, true};
 ghost use Rattle.raft_log_model_laws.specs.Item.Item.{Put};
@@ -51,7 +51,7 @@ pub fn chunk_drops_open_group()
     ensures wrong { holds (Index 3) (rewritten 1 first_part ++ rewritten 1 second_part) ≡ None }
 {}
 
-/// A group that a border cuts is put after all of the later segment: it overrides what is newer.
+/// A group that a border cuts is put after all of the later segment, so it overrides what is newer.
 pub fn completed_group_last()
     ensures whole { value_in (begun ++ ended_then_newer) ≡ Some (Value 2) }
     ensures right { holds (Key voter) (of_group 1 (merge (segment begun) (segment ended_then_newer)).counted)

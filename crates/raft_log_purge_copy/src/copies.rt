@@ -1,4 +1,4 @@
-//! Copies are written to Rewrite, and the tables then have the copied items there.
+//! Writes copies to Rewrite, where the tables locate the copied items then.
 
 ghost use Rattle.std.specs.Prelude.{◌≡◌, ◌+◌, ◌-◌, ◌^◌, ℕ, [], Some, min, IfErr, IfOk, OnOk};
 ghost use Rattle.raft_log_record_frames.specs.Meaning.{tagged_items};
@@ -23,9 +23,9 @@ use raft_log_record_base::{FileSeq, LogQueue, Result};
 use raft_log_record_batches::LogBatch;
 use std::alloc::Global;
 
-/// Writes a batch of copies to Rewrite as one record, and moves what it copies there: items in Append in files up to
-/// the gate. Returns the batch, emptied. An empty batch isn't written. Syncs Rewrite first if many bytes are
-/// unsynced.
+/// Writes a batch of copies to Rewrite as one record: copies of items in Append, in files up to the gate. The tables
+/// locate these items in Rewrite then. Returns the batch, emptied. An empty batch isn't written. Syncs Rewrite first if
+/// 512 KiB or more are unsynced.
 ///
 /// Fails with `Full` or `Memory` before the write, or as the sync or the write does. If it fails, what the tables
 /// show is unchanged.
@@ -56,7 +56,7 @@ pub fn write_copies<P: PipeLog, L: Log>(
     write_batch(alloc, rt, pipes, tables, batch, gate, unsynced)
 }
 
-/// Makes the record of a batch that isn't empty, and room for what it copies; then writes it.
+/// Encodes the record of a batch that isn't empty, makes room for what it copies, and writes it.
 fn write_batch<P: PipeLog, L: Log>(
     alloc: Global,
     rt: &L,
@@ -86,7 +86,7 @@ fn write_batch<P: PipeLog, L: Log>(
     append_copies(alloc, rt, pipes, tables, batch, gate)
 }
 
-/// Writes a batch after room was made for it, and moves what it copies.
+/// Writes a batch after room was made for it. The tables locate its items in Rewrite then.
 fn append_copies<P: PipeLog, L: Log>(
     alloc: Global,
     rt: &L,

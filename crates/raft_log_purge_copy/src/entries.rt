@@ -1,4 +1,4 @@
-//! Entries of Append that are to be copied: the next ones, their bytes, and a batch of them.
+//! The next entries of Append that are to be copied, and a batch of them.
 
 ghost use Rattle.std.specs.Prelude.{◌≡◌, map, nat_le, IfErr, IfOk};
 ghost use Rattle.raft_log_record_base.specs.declared.errors.Error.TheVariants as errors;
@@ -17,8 +17,9 @@ use std::alloc::{AllocError, Global};
 /// How many bytes of entries are copied at once, unless a single entry has more.
 const MAX_COPIED_LEN: u64 = 131_072;
 
-/// The entries of a group that are to be copied next: the first in Append, in files up to the gate, as many as a
-/// batch may have. There is at least one, if the group has such entries. Fails only with `Memory`.
+/// The entries of a group that are to be copied next: its first ones in Append, in files up to the gate. They have at
+/// most 128 KiB, or there is one. There are none if the group's first entry in Append is in a file after the gate.
+/// Fails only with `Memory`.
 pub fn next_entries(
     alloc: Global,
     tables: &MemTables,

@@ -1,4 +1,4 @@
-//! Files that are no longer needed leave a queue.
+//! Removes files that are no longer needed from a queue's live range.
 
 ghost use Rattle.std.specs.Prelude.{IfErr, IfOk};
 ghost use Rattle.raft_log_engine_laws.specs.EngineState.{shows};
@@ -11,16 +11,18 @@ use raft_log_memtables::MemTables;
 use raft_log_record_base::{FileId, FileSeq, LogQueue, Result};
 use std::alloc::Global;
 
-/// Takes the files of a queue below the least one in use out of its live range, but none from the limit on. Returns
-/// how many; 0 if a file in use is older than the live range. Clears the cache.
+/// Removes the files of a queue below the first in use from its live range, but none from the limit on. Returns how
+/// many; 0 if the first in use is older than the live range. Clears the cache.
 ///
-/// Fails:
-/// - with `Memory`
-/// - with `NumberRange` if a queue is at its last number
-/// - with `Other` if the limit isn't in the live range
-/// - with `Failed` if a file call failed
+/// The log keeps its contents if nothing is pending in either queue and, for Append, no tombstone is owed.
 ///
-/// After `Failed` the engine has failed; after any other error the log is as it was.
+/// Fails with:
+/// - `Memory`
+/// - `NumberRange` if a queue has the last file number
+/// - `Other` if the limit isn't in the live range
+/// - `Failed` if a file call failed: the engine has failed, and an open finds the contents
+///
+/// After any other error the log has its contents, and nothing is pending.
 pub fn delete_stale_files<P: PipeLog, L: Log>(
     alloc: Global,
     rt: &L,

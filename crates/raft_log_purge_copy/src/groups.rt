@@ -1,4 +1,4 @@
-//! Groups are rewritten: all that they have in Append in files up to a gate is copied to Rewrite.
+//! Rewrites groups: copies all that they have in Append in files up to a gate to Rewrite.
 
 ghost use Rattle.std.specs.Prelude.{IfErr, OnOk};
 ghost use Rattle.raft_log_engine_laws.specs.EngineState.{shows};
@@ -23,9 +23,9 @@ use raft_log_record_base::{FileSeq, Result};
 use std::alloc::Global;
 
 /// Rewrites groups, one after another: nothing of them is left in Append in files up to the gate. Syncs Rewrite after
-/// each 512 KiB or so that are written there, and not at the end.
+/// each 512 KiB or so that it writes there, and not at the end. The log keeps its contents if no tombstone is owed.
 ///
-/// Fails as `rewrite_group` does. Then the groups before are rewritten, and perhaps a part of that one.
+/// Fails as `rewrite_group` does. Then some of what the groups have there may be rewritten.
 pub fn rewrite_groups<P: PipeLog, L: Log>(
     alloc: Global,
     rt: &L,
@@ -53,7 +53,7 @@ pub fn rewrite_groups<P: PipeLog, L: Log>(
 /// Rewrites a group. Copies its entries in Append in files up to the gate to Rewrite, in as many records as they
 /// need. Then copies its values in these files, as one record.
 ///
-/// Fails as `copy_entries` and `copy_keys` do. What was copied before is in Rewrite then.
+/// Fails as `copy_entries` and `copy_keys` do. The tables locate what was copied before in Rewrite then.
 pub fn rewrite_group<P: PipeLog, L: Log>(
     alloc: Global,
     rt: &L,
@@ -77,7 +77,7 @@ pub fn rewrite_group<P: PipeLog, L: Log>(
     Ok(())
 }
 
-/// Copies all entries that a group has in Append in files up to the gate, as many at once as a batch may have.
+/// Copies all entries that a group has in Append in files up to the gate, in records of at most 128 KiB or one entry.
 fn rewrite_entries<P: PipeLog, L: Log>(
     alloc: Global,
     rt: &L,

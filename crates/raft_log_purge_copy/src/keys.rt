@@ -1,4 +1,4 @@
-//! A group's values in Append are copied to Rewrite, all of them as one record.
+//! Copies a group's values in Append to Rewrite, all as one record.
 
 ghost use Rattle.std.specs.Prelude.{◌≡◌, IfErr, IfOk, OnOk};
 ghost use Rattle.raft_log_block_cache.specs.declared.block_cache.BlockCache.{BlockCache};
@@ -19,11 +19,11 @@ use raft_log_record_batches::LogBatch;
 use raft_log_record_items::Bytes;
 use std::alloc::{AllocError, Global};
 
-/// Copies all values that a group has in Append in files up to the gate. Writes them to Rewrite as one record; then
-/// the tables have them there. If there are none, nothing is written.
+/// Copies all values that a group has in Append in files up to the gate. Writes them to Rewrite as one record, where
+/// the tables locate them then. If there are none, writes nothing.
 ///
-/// Fails with `Full`, `Memory`, `InvalidArgument` if a value would be a mark of an atomic group, or as a write to
-/// Rewrite does. If it fails, what the tables show is unchanged.
+/// Fails with `Full` or `Memory`, with `InvalidArgument` if a value would be a mark of an atomic group, or as a write
+/// to Rewrite does. If it fails, what the tables show is unchanged.
 pub fn copy_keys<P: PipeLog, L: Log>(
     alloc: Global,
     rt: &L,
@@ -63,7 +63,7 @@ fn next_keys(
     Ok(pairs)
 }
 
-/// A batch that gives a group's keys these values, as they were read: a key may be one of the log's own.
+/// A batch that puts these keys of a group with their values, as they were read: a key may be one of the log's own.
 fn keys_batch(alloc: Global, group: u64, pairs: &[(Bytes, Bytes)]) -> Result<LogBatch>
     ensures ok { IfOk result (IsKeysBatch group pairs.now) }
     ensures errors { IfErr result (λ error. AreUnput group pairs.now error) }

@@ -1,14 +1,18 @@
-//! Why files may go after groups are rewritten, and how reasons of parts are reasons of the whole.
+//! Why files of Append may be deleted after groups were rewritten, and why the reason of a part is
+//! one of the whole purge.
 
 ghost use Rattle.raft_log_purge_copy.specs.Groups.{RewrittenGroupsArePast};
 ghost use Rattle.raft_log_purge_copy.specs.Reasons.{LaterReasonsAreReasons};
 
-/// After all groups are rewritten up to a file, nothing in use is in Append up to it.
+/// If all groups are rewritten up to a file, and no tombstone is owed, Append may begin after that
+/// file. The premise is that no entry of a group is in an earlier file than the group's first one
+/// in its queue.
 pub fn rewritten_groups_are_past()
     ensures { RewrittenGroupsArePast }
 {}
 
-/// A reason of a later part of a purge is one of the whole: what came before takes no cause away.
+/// A reason for which a later part of a purge fails is one of the whole purge: no earlier step
+/// takes a cause away.
 pub fn later_reasons_are_reasons()
     ensures { LaterReasonsAreReasons }
 {}

@@ -1,8 +1,15 @@
-//! The parts of a purge: they write to Rewrite, from Append or from Rewrite itself (`restating`), and delete files.
-//! The map is kept at every exit.
+//! The parts of a purge: they copy what is live in Append, or in Rewrite itself (`restating`), to new records of
+//! Rewrite, and delete files.
 //!
-//! Each part works on a log's pipes and the tables of its groups. Its contract holds for every map that the log had
-//! (`Represents`), with nothing pending: it asks nothing of the caller.
+//! A part works on a log's pipes and the tables of its groups. Its contract holds for any contents that the log had
+//! with no batch pending (`Represents`):
+//! - `purge_all_stale` allows pending batches, which become part of the contents.
+//! - `delete_stale_files` also requires that nothing is pending in Rewrite (`HoldsSettled`). For Append it requires
+//!   that no tombstone is owed.
+//! - `rewrite_groups`, `rewrite_group` and their parts require that no tombstone is owed (`OweNothing`).
+//!
+//! Under these premises the log keeps its contents, whether a part succeeds or fails. After `Failed` the engine has
+//! failed, and an open of its files finds the contents.
 #![tactic(auto)]
 
 pub mod copies;

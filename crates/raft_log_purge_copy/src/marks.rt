@@ -1,4 +1,4 @@
-//! Owed tombstones are written to Rewrite: read from the tables, written, synced, and only then no longer owed.
+//! Writes owed tombstones to Rewrite. They are owed until Rewrite was synced.
 
 ghost use Rattle.std.specs.Prelude.{◌≡◌, ◌∷◌, [], IfErr, IfOk, OnErr, OnOk};
 ghost use Rattle.raft_log_record_frames.specs.Meaning.{tagged_items};
@@ -44,7 +44,7 @@ pub fn rewrite_marks<P: PipeLog, L: Log>(
     write_tombstones(alloc, rt, pipes, tables, marks.as_slice())
 }
 
-/// Writes the owed tombstones to Rewrite, as `rewrite_marks` does; the caller read them from the tables.
+/// Writes these tombstones to Rewrite, as `rewrite_marks` does. They must be all that the tables owe.
 ///
 /// Fails with `Memory` or `Full` before the write, or as the write or the sync does. If it fails, the tables still
 /// owe them. After `Failed` the engine has failed.
@@ -90,7 +90,7 @@ fn write_marks<P: PipeLog, L: Log>(
     Ok(())
 }
 
-/// A batch that says these tombstones. If all are owed ones, fails only with `Memory`.
+/// A batch of these tombstones. Fails with `Memory`, or with `InvalidArgument` if an item is no tombstone.
 fn marks_batch(alloc: Global, marks: &[LogItem]) -> Result<LogBatch>
     ensures ok { IfOk result (SaysSame marks.now) }
     ensures bare { IfOk result (λ batch. batch.entries ≡ []) }
@@ -101,7 +101,7 @@ fn marks_batch(alloc: Global, marks: &[LogItem]) -> Result<LogBatch>
     Ok(batch)
 }
 
-/// Adds tombstones to a batch that has nothing yet.
+/// Adds tombstones to an empty batch.
 fn add_marks(alloc: Global, batch: &mut LogBatch, items: &[LogItem]) -> Result<()>
     requires state { batch.old.state ≡ Filling }
     requires none { batch.old.items ≡ [] }

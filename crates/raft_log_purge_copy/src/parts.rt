@@ -1,4 +1,4 @@
-//! An atomic group restates a group: a record that begins it, those between, and a batch that ends it.
+//! Restates a group as an atomic group: a record that begins it, those between, and a batch that ends it.
 
 ghost use Rattle.std.specs.Prelude.{◌≡◌, ◌+◌, ◌≤◌, ◌<◌, ◌++◌, List, [], ◌∷◌, None, drop, length, take, IfErr, IfOk, OnOk};
 ghost use Rattle.raft_log_record_batches.specs.AtomicGroup.{IsGroupOpen};
@@ -30,9 +30,9 @@ pub struct RestatedPart {
     pub items: Vec<LogItem>,
 }
 
-/// Begins an atomic group: its first part has the first `count` of a group's entries.
+/// Begins an atomic group: its first part has the first `count` of the entries that a group has in Rewrite.
 ///
-/// Fails if an entry isn't read, with `Full` or `Memory`, or as a write to Rewrite does. If it fails, nothing of the
+/// Fails if an entry can't be read, with `Full` or `Memory`, or as a write to Rewrite does. If it fails, nothing of the
 /// atomic group counts.
 pub fn begin_parts<P: PipeLog, L: Log>(
     alloc: Global,
@@ -70,10 +70,11 @@ pub fn begin_parts<P: PipeLog, L: Log>(
     write_part(alloc, rt, pipes, batch, unsynced)
 }
 
-/// Continues an atomic group with parts that have the entries from `begin` on, except those of the last part, which
-/// make one record. Returns where these begin.
+/// Continues an atomic group with parts that have the entries from `begin` on, except the last ones, which fit in one
+/// record. Returns the position of the first of these. Adds the written parts to `parts`.
 ///
-/// Fails as `write_middle` does; then the group is given up.
+/// Fails if an entry can't be read, with `Full` or `Memory`, or as a write to Rewrite does. Then the atomic group is
+/// given up.
 pub fn write_middles<P: PipeLog, L: Log>(
     alloc: Global,
     rt: &L,
@@ -113,7 +114,8 @@ pub fn write_middles<P: PipeLog, L: Log>(
 
 /// Continues an atomic group with a part that has `count` entries from `done` on.
 ///
-/// Fails if an entry isn't read, with `Full` or `Memory`, or as a write to Rewrite does; then the group is given up.
+/// Fails if an entry can't be read, with `Full` or `Memory`, or as a write to Rewrite does. Then the atomic group is
+/// given up.
 fn write_middle<P: PipeLog, L: Log>(
     alloc: Global,
     rt: &L,
@@ -152,10 +154,10 @@ fn write_middle<P: PipeLog, L: Log>(
     write_part(alloc, rt, pipes, batch, unsynced)
 }
 
-/// A batch that ends an atomic group: it has the entries from `done` on, and the group's keys.
+/// A batch that ends an atomic group: it has the entries from `done` on, and these keys with their values.
 ///
-/// Fails if an entry isn't read, with `Full` or `Memory`, or with `InvalidArgument` if a value would be a mark of an
-/// atomic group. Then the group is given up.
+/// Fails if an entry can't be read, with `Full` or `Memory`, or with `InvalidArgument` if a value would be a mark of an
+/// atomic group. Then the atomic group is given up.
 pub fn last_batch<P: PipeLog>(
     alloc: Global,
     pipes: &P,
@@ -180,7 +182,7 @@ pub fn last_batch<P: PipeLog>(
     Ok(batch)
 }
 
-/// Writes a part, and keeps its items, with their places.
+/// Writes a part, and returns its items with their places.
 fn write_part<P: PipeLog, L: Log>(
     alloc: Global,
     rt: &L,

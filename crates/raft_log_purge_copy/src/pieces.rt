@@ -1,4 +1,4 @@
-//! What a group has in Rewrite, and batches that restate it.
+//! What a group has in Rewrite, and batches of it.
 
 ghost use Rattle.std.specs.Prelude.{◌≡◌, ◌≤◌, ◌<◌, [], length, map, take, IfErr, IfOk, OnOk};
 ghost use Rattle.raft_log_memtable_index.specs.Listing.{ListsAll, rewritten_values};
@@ -50,8 +50,8 @@ pub fn rewritten_keys(
     Ok(pairs)
 }
 
-/// How many of the entries, from the first on, are written as one record: as many as have at most 128 KiB, but at
-/// least one. Returns 0 if there are none.
+/// How many of the entries, from the first on, are written as one record: as many as have at most 128 KiB together, but
+/// at least one. Returns 0 if there are none.
 pub fn piece_len(entries: &[EntryIndex]) -> usize
     ensures few { result ≤ length entries.now }
     ensures piece { MakeOnePiece (take result entries.now) }
@@ -69,9 +69,9 @@ pub fn piece_len(entries: &[EntryIndex]) -> usize
     entries.len()
 }
 
-/// A batch of the entries at these places, which are read through their blocks, and of keys of their group.
+/// A batch of the entries at these places, which it reads, and of keys of their group with their values.
 ///
-/// Fails if an entry isn't read, with `Full` or `Memory`, or with `InvalidArgument` if a value would be a mark of an
+/// Fails if an entry can't be read, with `Full` or `Memory`, or with `InvalidArgument` if a value would be a mark of an
 /// atomic group.
 pub fn piece_of<P: PipeLog>(
     alloc: Global,

@@ -1,4 +1,4 @@
-//! The record of a batch that goes to Rewrite.
+//! Encodes a batch that is written to Rewrite.
 
 ghost use Rattle.std.specs.Prelude.{◌≡◌, IfErr, IfOk};
 ghost use Rattle.raft_log_record_batches.specs.declared.log_batch.BatchState.TheVariants.{Filling};
@@ -9,7 +9,7 @@ use raft_log_block_cache::SignedBatch;
 use raft_log_record_base::Result;
 use raft_log_record_batches::LogBatch;
 
-/// Makes the record of a batch. If it fails, the batch is dropped.
+/// Encodes the record of a batch. Fails with `Full` or `Memory`, and then drops the batch.
 pub fn record_of(batch: LogBatch) -> Result<SignedBatch>
     requires { batch.state ≡ Filling }
     ensures ok { IfOk result (λ signed. IsRecordMade batch signed.batch) }

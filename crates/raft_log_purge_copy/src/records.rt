@@ -1,4 +1,4 @@
-//! A record is written to Rewrite.
+//! Writes a record to Rewrite.
 
 ghost use Rattle.std.specs.Prelude.{◌≡◌, IfErr, IfOk, OnOk};
 ghost use Rattle.raft_log_record_batches.specs.declared.log_batch.BatchState.TheVariants.{Filling};
@@ -22,7 +22,7 @@ pub struct WrittenRecord {
     pub batch: LogBatch,
 }
 
-/// Writes the record of a batch to Rewrite. Syncs Rewrite first if many bytes are unsynced.
+/// Writes the record of a batch to Rewrite. Syncs Rewrite first if 512 KiB or more are unsynced.
 ///
 /// Fails with `Full` or `Memory` before anything is done, with `Failed` if the sync fails, or as the write does.
 pub fn write_record<P: PipeLog, L: Log>(

@@ -1,5 +1,5 @@
-//! Groups are restated: what each has in Rewrite is written there again. It becomes one record, or an atomic group if
-//! it is more than one record may have.
+//! Restates groups: writes what each has in Rewrite there again. It becomes one record, or an atomic group if its
+//! entries have more than 128 KiB and aren't a single one.
 
 ghost use Rattle.std.specs.Prelude.{◌≡◌, ◌≤◌, ◌<◌, IfErr, IfOk, None, OnOk, length, take};
 ghost use Rattle.raft_log_engine_laws.specs.EngineState.{shows};
@@ -31,10 +31,10 @@ use raft_log_record_batches::{AtomicGroupBuilder, LogBatch};
 use raft_log_record_items::{Bytes, EntryIndex};
 use std::alloc::Global;
 
-/// Restates groups, one after another: all that each has in Rewrite is then in files from the one that was active
-/// when this began. `number` is the number of the next atomic group, and is counted up.
+/// Restates groups, one after another. All that each has in Rewrite is then in the file that was active before the
+/// call, or in later ones. `number` is the number of the next atomic group, and is counted up.
 ///
-/// Fails as `restate_group` does. Then the groups before are restated, and that one is unchanged.
+/// Fails as `restate_group` does. Then some of the groups may be restated.
 pub fn compact_rewrite_groups<P: PipeLog, L: Log>(
     alloc: Global,
     rt: &L,
@@ -71,10 +71,15 @@ pub fn compact_rewrite_groups<P: PipeLog, L: Log>(
 }
 
 /// Restates a group: writes all that it has in Rewrite there again, as one record or as an atomic group with this
-/// number. The number is counted up if it was used. A group that has nothing there writes nothing.
+/// number. The number is counted up if it was used. If the group has nothing there, writes nothing.
 ///
-/// Fails if an entry isn't read, with `Full` or `Memory`, or as a write to Rewrite does. If it fails, what the tables
-/// show is unchanged.
+/// Fails:
+/// - if an entry can't be read
+/// - with `Full` or `Memory`
+/// - with `InvalidArgument` if a value would be a mark of an atomic group
+/// - as a write to Rewrite does
+///
+/// If it fails, what the tables show is unchanged.
 pub fn restate_group<P: PipeLog, L: Log>(
     alloc: Global,
     rt: &L,
@@ -120,8 +125,8 @@ pub fn restate_group<P: PipeLog, L: Log>(
     )
 }
 
-/// Restates a group with these entries and keys in Rewrite by one record, if there are any. The entries are no more
-/// than one record has.
+/// Restates a group with these entries and keys in Rewrite by one record, if there are any. The entries must fit in one
+/// record.
 fn restate_at_once<P: PipeLog, L: Log>(
     alloc: Global,
     rt: &L,
@@ -204,7 +209,7 @@ fn restate_in_parts<P: PipeLog, L: Log>(
 
 /// Ends an atomic group by its last record: the tables take its parts, one after another, and note its files.
 ///
-/// Fails as `write_last` does; then the group is given up.
+/// Fails as `write_last` does; then the atomic group is given up.
 fn end_parts<P: PipeLog, L: Log>(
     alloc: Global,
     rt: &L,

@@ -1,4 +1,4 @@
-//! A group's entries in Append are copied to Rewrite, as many at once as a batch may have.
+//! Copies a group's entries in Append to Rewrite, at most 128 KiB or one entry at once.
 
 ghost use Rattle.std.specs.Prelude.{◌≡◌, IfErr, IfOk, OnOk};
 ghost use Rattle.raft_log_engine_laws.specs.EngineState.{shows};
@@ -17,12 +17,11 @@ use raft_log_record_base::{FileSeq, Result};
 use raft_log_record_items::RawMessage;
 use std::alloc::Global;
 
-/// Copies a group's first entries in Append, all in files up to the gate, as many as a batch may have. Returns
-/// whether there were any. They are read through their blocks, and written to Rewrite as one record; then the tables
-/// have them there.
+/// Copies a group's first entries in Append, in files up to the gate, at most 128 KiB or one entry. Returns whether
+/// there were any. It writes them to Rewrite as one record, where the tables locate them then.
 ///
-/// Fails if an entry isn't read, with `Full` or `Memory`, or as a write to Rewrite does. If it fails, what the tables
-/// show is unchanged.
+/// Fails if an entry can't be read, with `Full` or `Memory`, or as a write to Rewrite does. If it fails, what the
+/// tables show is unchanged.
 pub fn copy_entries<P: PipeLog, L: Log>(
     alloc: Global,
     rt: &L,

@@ -1,4 +1,4 @@
-//! Both queues lose all files that have nothing in use.
+//! Rotates both queues, and removes their files below the first in use.
 
 ghost use Rattle.std.specs.Prelude.{◌≡◌, IfErr, IfOk, OnOk};
 ghost use Rattle.raft_log_engine_laws.specs.EngineState.{shows};
@@ -15,10 +15,12 @@ use raft_log_memtables::MemTables;
 use raft_log_record_base::{LogQueue, Result};
 use std::alloc::Global;
 
-/// Takes all files that have nothing in use out of both queues. Syncs Append, writes the owed tombstones, and then
-/// each queue rotates and loses the files before, Rewrite first.
+/// Syncs Append and writes the owed tombstones. Then rotates each queue, Rewrite first, and removes its files below the
+/// first in use from its live range. The batches that were pending are part of the contents then, and nothing is
+/// pending.
 ///
-/// Fails as a sync, `rewrite_marks`, a rotation or `delete_stale_files` does. If it fails, the map is kept.
+/// Fails as a sync, `rewrite_marks`, a rotation or `delete_stale_files` does. The log keeps its contents then; after
+/// `Failed`, the pending batches are all durable or all still pending.
 pub fn purge_all_stale<P: PipeLog, L: Log>(
     alloc: Global,
     rt: &L,
@@ -40,7 +42,7 @@ pub fn purge_all_stale<P: PipeLog, L: Log>(
     Ok(())
 }
 
-/// Rotates a queue, and takes the files before that aren't in use out of its live range. Returns how many.
+/// Rotates a queue, and removes its files below the first in use from its live range. Returns how many.
 fn turn_and_purge<P: PipeLog, L: Log>(
     alloc: Global,
     rt: &L,

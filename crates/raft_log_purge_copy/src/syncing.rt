@@ -1,4 +1,4 @@
-//! Rewrite is synced after each so many bytes that a purge writes there.
+//! Syncs Rewrite after each 512 KiB that a purge writes there.
 
 ghost use Rattle.std.specs.Prelude.{◌≡◌, ◌≤◌, true, IfErr, OnErr, OnOk};
 ghost use Rattle.raft_log_record_base.specs.declared.errors.Error.TheVariants as errors;
@@ -15,8 +15,8 @@ use raft_log_record_base::{LogQueue, Result};
 /// After so many bytes of unsynced records, Rewrite is synced before the next record is written.
 const MAX_UNSYNCED_LEN: u64 = 524_288;
 
-/// Syncs Rewrite if 512 KiB or more were written since its last sync; then none of them counts as unsynced. If it
-/// fails, the error is `Failed`, and they still count.
+/// Syncs Rewrite if `unsynced` is 512 KiB or more, and sets it to 0 then. If it fails, the error is `Failed`, the pipes
+/// have failed, and `unsynced` stays.
 pub fn sync_if_due<P: PipeLog, L: Log>(rt: &L, pipes: &mut P, unsynced: &mut u64) -> Result<()>
     ensures ok { OnOk result (MaySync (P.shown pipes.old) (P.shown pipes.new)) }
     ensures due { OnOk result

@@ -1,5 +1,5 @@
-//! The last record that restates a group is written, and the tables take all of its records. Room is made before it,
-//! so that nothing can fail after it.
+//! Writes the last record that restates a group, and updates the tables with all of its records. Room is made before
+//! the write, so that nothing can fail after it.
 
 ghost use Rattle.std.specs.Prelude.{◌≡◌, ◌-◌, ◌++◌, ℕ, IfErr, IfOk, OnErr, OnOk};
 ghost use Rattle.raft_log_record_batches.specs.declared.log_batch.BatchState.TheVariants.{Filling};
@@ -30,8 +30,8 @@ use raft_log_record_batches::LogBatch;
 use raft_log_record_items::LogItem;
 use std::alloc::{AllocError, Global};
 
-/// Writes the last record that restates a group to Rewrite. Then moves what all of the group's records have to where
-/// they were written, part after part. Returns the place of the last record.
+/// Writes the last record that restates a group to Rewrite. The tables then locate what all of its records have there,
+/// part after part. Returns the place of the last record.
 ///
 /// Fails with `Full` or `Memory` before the write, or as the sync or the write does. If it fails, what the tables
 /// show is unchanged.
@@ -77,7 +77,7 @@ pub fn write_last<P: PipeLog, L: Log>(
     }
 }
 
-/// The file of the first of the parts, or that one if there is none.
+/// The file of the first of the parts, or `last` if there is none.
 pub fn first_file(parts: &[RestatedPart], last: FileSeq) -> FileSeq
     ensures { result ≡ first_file_of parts.now last }
 {
@@ -109,8 +109,8 @@ fn make_room(
     tables.prepare_rewrite(items)
 }
 
-/// Moves what the parts have to where they were written, part after part, and then the items of the batch at this
-/// place.
+/// Makes the tables locate what the parts have where they were written, part after part, and then the items of the
+/// batch at this place.
 fn take_items(
     tables: &mut MemTables,
     parts: &[RestatedPart],

@@ -20,22 +20,22 @@ pub enum Error {
     /// A call of the file system failed.
     #[error("IO Error: {0}")]
     Io(ErrorKind),
-    /// A number's bytes end too early, or the number doesn't fit.
+    /// A number's bytes end too early, or the number doesn't fit 64 bits.
     #[error("Codec Error: {0}")]
     Codec(codec::Error),
     /// A message's `parse` rejects the bytes.
     #[error("Message Error: {0}")]
     Message(String),
-    /// Nothing was changed, and the same call may succeed.
+    /// Space ran out and nothing was added; the same call may succeed.
     #[error("Try again error: {0}")]
     TryAgain(String),
-    /// The entry was dropped by a compaction.
+    /// The index is below the group's first entry.
     #[error("Entry Compacted")]
     EntryCompacted,
     /// There is no such entry.
     #[error("Entry not found")]
     EntryNotFound,
-    /// A batch has no room for the entries' bytes.
+    /// A batch or its record would get too long.
     #[error("Full")]
     Full,
     /// Anything else.
@@ -44,10 +44,10 @@ pub enum Error {
     /// Memory ran out.
     #[error("Memory")]
     Memory,
-    /// A failure that couldn't be repaired came before; the log takes nothing more.
+    /// A failure, now or before, couldn't be repaired. Every later read and write of the log fails with this error.
     #[error("Failed")]
     Failed,
-    /// The entries would leave a gap after those that are there.
+    /// The entries would leave a gap after those that are there, or reach index 2^64 - 1.
     #[error("Hole")]
     Hole,
     /// The numbers of files have run out.
@@ -61,7 +61,7 @@ pub type Result<T, E = Error> = std::result::Result<T, E>;
 impl Error {
     ghost use Rattle.raft_log_record_base.specs.Fault.{IsOtherOf, IsInvalidSize};
 
-    /// Any other error, or `Memory` if there is no memory to keep it.
+    /// `Other` with this error, or `Memory` if there is no memory to keep it.
     pub fn other(alloc: Global, error: anyhow::Error) -> Error
         ensures { IsOtherOf error result }
     {
@@ -71,7 +71,8 @@ impl Error {
         }
     }
 
-    /// The error for a text that is no size: an invalid argument, or `Memory` if there is no memory for its text.
+    /// The error for a text that is no size: `InvalidArgument` with the fault's text, or `Memory` if there is no memory
+    /// for it.
     pub fn invalid_size(alloc: Global, fault: ParseSizeError) -> Error
         ensures { IsInvalidSize fault result }
     {

@@ -155,7 +155,7 @@ impl fmt::Display for Version {
     }
 }
 
-/// What records need to know of a segment file: which file it is, and its format's version.
+/// What a record depends on of its segment file: which file it is, and its format's version.
 #[derive(Clone, Copy, Debug, PartialEq, Eq)]
 pub struct LogFileContext {
     /// The file.

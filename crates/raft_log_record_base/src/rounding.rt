@@ -2,7 +2,8 @@
 
 ghost use Rattle.std.specs.Prelude.{◌≡◌, ℕ, ◌+◌, ◌-◌, ◌*◌, ◌/◌, ◌^◌, ◌<◌, ◌≤◌};
 
-/// The least multiple of `alignment` that is not below `offset`.
+/// The least multiple of `alignment` that is not below `offset`. `alignment` must not be 0, and the multiple must be
+/// below 2^64.
 #[inline]
 pub fn round_up(offset: usize, alignment: usize) -> usize
     requires positive { 0 < alignment }
@@ -14,7 +15,7 @@ pub fn round_up(offset: usize, alignment: usize) -> usize
     offset.div_ceil(alignment) * alignment
 }
 
-/// The greatest multiple of `alignment` that is not above `offset`.
+/// The greatest multiple of `alignment` that is not above `offset`. `alignment` must not be 0.
 #[inline]
 pub fn round_down(offset: usize, alignment: usize) -> usize
     requires { 0 < alignment }

@@ -28,8 +28,8 @@ pub const TIB: u64 = 1024 * GIB;
 pub const PIB: u64 = 1024 * TIB;
 
 /// A size in bytes. It prints as a number of the greatest unit of `PiB`, `TiB`, `GiB`, `MiB` and `KiB` that divides it,
-/// else with `B`; 0 prints as `0KiB`. It is read from a whole number and a unit: nothing, `B`, `K`, `KB`, `KiB`, and
-/// the same three forms of `M`, `G`, `T` and `P`, with white space before and after.
+/// else with `B`; 0 prints as `0KiB`. It is read from a whole number, directly followed by a unit: nothing, `B`, `K`,
+/// `KB`, `KiB`, and the same three forms of `M`, `G`, `T` and `P`. White space before and after is skipped.
 #[derive(Clone, Copy, Debug, PartialEq, Eq, PartialOrd, Ord)]
 pub struct ReadableSize(pub u64);
 
@@ -45,7 +45,7 @@ pub enum ParseSizeError {
 }
 
 impl ReadableSize {
-    /// `count` times 1,024 bytes.
+    /// `count` times 1,024 bytes, which must be below 2^64.
     pub const fn kb(count: u64) -> ReadableSize
         requires { count * 2 ^ 10 < 2 ^ 64 }
         ensures { result.0 ≡ count * 2 ^ 10 }
@@ -53,7 +53,7 @@ impl ReadableSize {
         ReadableSize(count * KIB)
     }
 
-    /// `count` times 1,024 KiB.
+    /// `count` times 1,024 KiB, which must be below 2^64 bytes.
     pub const fn mb(count: u64) -> ReadableSize
         requires { count * 2 ^ 20 < 2 ^ 64 }
         ensures { result.0 ≡ count * 2 ^ 20 }
@@ -61,7 +61,7 @@ impl ReadableSize {
         ReadableSize(count * MIB)
     }
 
-    /// `count` times 1,024 MiB.
+    /// `count` times 1,024 MiB, which must be below 2^64 bytes.
     pub const fn gb(count: u64) -> ReadableSize
         requires { count * 2 ^ 30 < 2 ^ 64 }
         ensures { result.0 ≡ count * 2 ^ 30 }
@@ -69,7 +69,7 @@ impl ReadableSize {
         ReadableSize(count * GIB)
     }
 
-    /// The number of whole MiB in it.
+    /// The size in MiB, rounded down.
     pub const fn as_mb(self) -> u64
         ensures { result ≡ self.0 / 2 ^ 20 }
     {

@@ -10,7 +10,7 @@ use raft_log_record_base::codec::{BytesSlice, append_var_u64, decode_var_u64};
 use raft_log_record_base::{Error, Result, codec};
 use std::alloc::{AllocError, Global};
 
-/// Reads a length and that many bytes.
+/// Reads a length and that many bytes. If it fails, it consumes nothing.
 #[tactic(auto, unfolding(crate::specs::Reading::bytes_at))]
 pub(crate) fn split_bytes(alloc: Global, source: &mut BytesSlice<'_>) -> Result<Bytes>
     ensures { ReadsOrMemory result source.old.now source.new.now (bytes_at source.old.now) }
@@ -26,7 +26,7 @@ pub(crate) fn split_bytes(alloc: Global, source: &mut BytesSlice<'_>) -> Result<
     Ok(bytes)
 }
 
-/// Appends a length and that many bytes.
+/// Appends a length and that many bytes. If it fails, a part may follow the old bytes.
 #[tactic(auto, unfolding(crate::specs::Writing::bytes_bytes))]
 pub(crate) fn append_bytes(out: &mut Vec<u8>, bytes: &[u8]) -> Result<(), AllocError>
     ensures ok { OnOk result (out.new.items ≡ out.old.items ++ bytes_bytes bytes.now) }

@@ -1,4 +1,4 @@
-//! Commands: statements about a whole group.
+//! Commands: changes of a whole group.
 ghost use Rattle.std.specs.Prelude.{◌≡◌, ◌++◌, IsOk, OnOk, OnErr};
 ghost use Rattle.raft_log_record_base.specs.Fault.{ReadsOrMemory, DecodesOrMemory};
 ghost use Rattle.raft_log_record_items.specs.Items.{IsCommand};
@@ -17,18 +17,19 @@ const COMMAND_CLEAN: u8 = 1;
 /// The first byte of a `Compact`.
 const COMMAND_COMPACT: u8 = 2;
 
-/// A statement about a whole group.
+/// A change of a whole group.
 #[derive(Clone, Copy, Debug, PartialEq, Eq)]
 pub enum Command {
-    /// All entries and keys of the group are gone.
+    /// Deletes all entries and keys of the group.
     Clean,
-    /// All entries below the index are gone.
+    /// Deletes all entries below the index.
     Compact { index: u64 },
 }
 
 impl Command {
-    /// Reads a command. Fails with `Corruption` if its kind is unknown, with the kind in the text. Only that text takes
-    /// memory.
+    /// Reads a command. Fails with `Codec` if the bytes end early or the index doesn't fit 64 bits. Fails with
+    /// `Corruption` for an unknown kind, which the text names. Only that text takes memory. If it fails, it consumes
+    /// nothing.
     pub fn decode(alloc: Global, source: &mut BytesSlice<'_>) -> Result<Command>
         ensures decodes { DecodesOrMemory IsCommand result source.old.now source.new.now }
         ensures exact { ReadsOrMemory result source.old.now source.new.now (command_at source.old.now) }

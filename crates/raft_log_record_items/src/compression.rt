@@ -1,4 +1,4 @@
-//! How the entries of a batch are compressed: not at all.
+//! How the entries of a batch are compressed. They aren't.
 ghost use Rattle.std.specs.Prelude.{◌≡◌, IsOk};
 ghost use Rattle.raft_log_record_base.specs.Fault.{GivesOrMemory};
 ghost use Rattle.raft_log_record_items.specs.Reading.{compression_of};
@@ -13,7 +13,8 @@ pub enum CompressionType {
 }
 
 impl CompressionType {
-    /// The kind of this byte. Fails with `Corruption` for any byte but 0; only that error's text takes memory.
+    /// The kind of compression with this byte. Fails with `Corruption` for any byte but 0; only that error's text takes
+    /// memory.
     pub fn from_u8(alloc: Global, byte: u8) -> Result<CompressionType>
         ensures exact { GivesOrMemory result (compression_of byte) }
         ensures sure { IsOk (compression_of byte) → IsOk result }

@@ -10,7 +10,7 @@ use raft_log_record_base::FileBlockHandle;
 pub struct EntryIndex {
     /// The entry's number in the group's log.
     pub index: u64,
-    /// The entry block that holds the entry, once it is written.
+    /// The place of the entry block that holds the entry, once it is written.
     pub entries: Option<FileBlockHandle>,
     /// How the block is compressed.
     pub compression_type: CompressionType,
@@ -21,7 +21,7 @@ pub struct EntryIndex {
 }
 
 impl EntryIndex {
-    /// An entry of this index and length that is in no file yet.
+    /// An entry of this index and length without a place.
     pub fn unplaced(index: u64, entry_len: u32) -> EntryIndex
         ensures { result ≡ unplaced_entry index entry_len }
     {

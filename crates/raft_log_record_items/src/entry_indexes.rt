@@ -57,7 +57,7 @@ impl Eq for EntryIndexes {
 }
 
 impl EntryIndexes {
-    /// A run of these entries; nothing is copied.
+    /// A run of these entries, whose indexes must be consecutive and below 2^64 - 1. Nothing is copied.
     pub fn new(entries: Vec<EntryIndex>) -> Self
         requires { IsRun entries.items }
         ensures { result ≡ entries.items }
@@ -100,6 +100,7 @@ impl EntryIndexes {
     }
 
     /// Lays out the entries one after another from this offset in their block, and returns the offset of the next one.
+    /// That offset must be below 2^32.
     pub fn lay_out(&mut self, offset: u32) -> u32
         requires { offset + run_len self.old < 2 ^ 32 }
         ensures laid { self.new ≡ laid_run offset self.old }
@@ -124,9 +125,11 @@ impl EntryIndexes {
         entries
     }
 
-    /// Reads the entries of an item: their indexes and lengths. The item doesn't have their places.
+    /// Reads the entries of an item: their indexes and lengths. The item's bytes don't have their places.
     ///
-    /// Fails with `Corruption` for an index of 2^64 - 1 or a length of more than 32 bits.
+    /// Fails with `Codec` if the bytes end early or a number doesn't fit 64 bits. Fails with `Corruption` for an index
+    /// of 2^64 - 1 or more, or for a length of more than 32 bits. Fails with `Memory`. If it fails, it consumes
+    /// nothing.
     pub fn decode(alloc: Global, source: &mut BytesSlice<'_>) -> Result<EntryIndexes>
         ensures decodes { DecodesOrMemory IsEntries result source.old.now source.new.now }
         ensures exact { ReadsOrMemory result source.old.now source.new.now (entries_at source.old.now) }
@@ -199,7 +202,7 @@ fn split_counted_entries(
     Ok(EntryIndexes::new(entries))
 }
 
-/// Reads the first of `count` indexes.
+/// Reads the first of `count` indexes, the last of which must be below 2^64 - 1.
 #[tactic(auto, unfolding(crate::specs::Reading::first_index_at))]
 fn split_first_index(alloc: Global, source: &mut BytesSlice<'_>, count: u64) -> Result<u64>
     ensures read { ReadsOrMemory result source.old.now source.new.now (first_index_at count source.old.now) }

@@ -1,4 +1,4 @@
-//! Items: the statements of a batch about a group.
+//! Items: the changes of groups in a batch.
 ghost use Rattle.std.specs.Prelude.{◌≡◌, ◌+◌, ◌-◌, ◌<◌, ◌≤◌, ◌^◌, ◌++◌, min, OnOk, OnErr};
 ghost use Rattle.raft_log_record_base.specs.Fault.{ReadsOrMemory, DecodesOrMemory};
 ghost use Rattle.raft_log_record_items.specs.Items.{IsItem, item_of, new_key};
@@ -34,7 +34,7 @@ pub enum LogItemContent {
     Kv(KeyValue),
 }
 
-/// One statement of a batch about a group.
+/// One change of a group in a batch.
 #[derive(Clone, Debug, Drop, PartialEq)]
 pub struct LogItem {
     pub raft_group_id: u64,
@@ -85,8 +85,8 @@ impl LogItem {
     }
 
     /// Sets the item's places: its entries are one after another in the block at this place, from this offset on.
-    /// Returns the offset of the next entry, or 2^64 - 1 if that is higher. If the returned offset doesn't fit 32 bits,
-    /// the item is unchanged.
+    /// Returns the offset of the next entry, or 2^64 - 1 if that is higher. If the returned offset is 2^32 or more, the
+    /// item is unchanged.
     pub fn place(&mut self, block: FileBlockHandle, offset: u64) -> u64
         ensures end { result ≡ min (offset + content_len self.old.content) (2 ^ 64 - 1) }
         ensures places { result < 2 ^ 32 → self.new ≡ placed_item block offset self.old }
@@ -100,7 +100,10 @@ impl LogItem {
         end
     }
 
-    /// Reads an item. Its bytes don't have its entries' places, nor its file.
+    /// Reads an item. Its bytes have neither the places of its entries nor the file of its key.
+    ///
+    /// Fails with `Codec` if the bytes end early or a number doesn't fit 64 bits. Fails with `Corruption` for an
+    /// unknown kind or a fault of the content. Fails with `Memory`. If it fails, it consumes nothing.
     pub fn decode(alloc: Global, source: &mut BytesSlice<'_>) -> Result<LogItem>
         ensures decodes { DecodesOrMemory IsItem result source.old.now source.new.now }
         ensures exact { ReadsOrMemory result source.old.now source.new.now (item_at source.old.now) }
@@ -196,7 +199,7 @@ pub(crate) fn lay_out_content(content: &mut LogItemContent, offset: u32) -> u32
     }
 }
 
-/// Sets the places of a content whose entry block is written at this place.
+/// Sets the places of a content whose entry block was written at this place.
 pub(crate) fn set_content_written(content: &mut LogItemContent, handle: FileBlockHandle)
     ensures { content.new ≡ written_content handle content.old }
 {

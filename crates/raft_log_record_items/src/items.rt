@@ -1,4 +1,4 @@
-//! Lists of items, their count first, and the places of their entries.
+//! Lists of items, and the places of their entries.
 ghost use Rattle.std.specs.Prelude.{◌≡◌, ◌+◌, ◌/◌, ◌<◌, ◌^◌, ◌++◌, [], flat_map, length, map, min, vec_capacity, IfOk, OnOk, OnErr};
 ghost use Rattle.raft_log_record_base.specs.Fault.{ReadsItemsOrMemory, DecodesItemsOrMemory};
 ghost use Rattle.raft_log_record_items.specs.Items.{AreItems};
@@ -32,7 +32,8 @@ fn copy_of(item: &LogItem) -> Result<LogItem, AllocError>
     item.clone()
 }
 
-/// Sets the places of a written batch's items: their entries are one after another in the block at this place.
+/// Sets the places of a written batch's items: their entries are one after another in the block at this place. They
+/// must have less than 2^32 bytes.
 pub fn place(items: &mut [LogItem], handle: FileBlockHandle)
     requires { entries_len items.old < 2 ^ 32 }
     ensures { items.new ≡ placed handle items.old }
@@ -41,7 +42,7 @@ pub fn place(items: &mut [LogItem], handle: FileBlockHandle)
     set_written(items, handle);
 }
 
-/// Lays out the entries of all items one after another, from this offset in their block on.
+/// Lays out the entries of all items one after another, from this offset in their block on. They must end below 2^32.
 pub fn lay_out(items: &mut [LogItem], offset: u32)
     requires { offset + entries_len items.old < 2 ^ 32 }
     ensures { items.new ≡ laid_out offset items.old }
@@ -52,7 +53,7 @@ pub fn lay_out(items: &mut [LogItem], offset: u32)
     }
 }
 
-/// Sets the places of items whose entry block is written at this place.
+/// Sets the places of items whose entry block was written at this place.
 pub fn set_written(items: &mut [LogItem], handle: FileBlockHandle)
     ensures { items.new ≡ written handle items.old }
 {
@@ -63,7 +64,8 @@ pub fn set_written(items: &mut [LogItem], handle: FileBlockHandle)
 
 /// Reads a list of items: the count, and then each item.
 ///
-/// The room that it makes is at most one item for each three bytes, whatever the count says.
+/// Fails as `LogItem::decode` does, and then consumes nothing. It reserves room for at most one item for each three
+/// bytes, whatever the count is.
 pub fn decode_items(alloc: Global, source: &mut BytesSlice<'_>) -> Result<Vec<LogItem>>
     ensures decodes { DecodesItemsOrMemory AreItems result source.old.now source.new.now }
     ensures exact { ReadsItemsOrMemory result source.old.now source.new.now (items_at source.old.now) }
@@ -97,10 +99,10 @@ fn split_items(alloc: Global, source: &mut BytesSlice<'_>, count: u64) -> Result
     Ok(items)
 }
 
-/// Reads a list of items whose entries are one after another in the block at this place. Returns with it the entries'
-/// length in bytes, or 2^64 - 1 if they are longer. Each item gets its places as it is read.
+/// Reads a list of items whose entries are one after another in the block at this place. Each item gets its places as
+/// it is read. Returns the items and the entries' length in bytes, or 2^64 - 1 if they are longer.
 ///
-/// If the entries have 2^32 bytes or more, nothing is promised of their places.
+/// If the entries have 2^32 bytes or more, the contract doesn't give their places. Fails as `decode_items` does.
 #[tactic(auto, unfolding(crate::specs::Reading::items_at))]
 pub fn decode_placed_items(
     alloc: Global,
@@ -137,7 +139,7 @@ fn split_placed_items(
     Ok((items, len))
 }
 
-/// Room for `count` items, but for no more than `len` bytes can hold.
+/// Room for `count` items, but for no more than `len` bytes can hold: each takes at least three bytes.
 fn room_for_items(alloc: Global, count: u64, len: usize) -> Result<Vec<LogItem>, AllocError>
     ensures empty { IfOk result (λ items. items.items ≡ []) }
     ensures room { IfOk result (λ items. vec_capacity items ≡ min count (len / 3)) }

@@ -30,9 +30,9 @@ const OP_DEL: u8 = 2;
 pub struct KeyValue {
     pub op_type: OpType,
     pub key: Bytes,
-    /// The value of a put. A put without one is written with the empty value; for a deletion no value is written.
+    /// The value of a put. A put without one is written with the empty value. For a deletion no value is written.
     pub value: Option<Bytes>,
-    /// The file that holds the item, once it is written.
+    /// The file that has the item, once it is written.
     pub file_id: Option<FileId>,
 }
 
@@ -49,7 +49,9 @@ impl KeyValue {
         }
     }
 
-    /// Reads a key that is put with its value, or that is deleted.
+    /// Reads a key that is put with its value, or that is deleted. Fails with `Codec` if the bytes end early or a
+    /// length doesn't fit 64 bits, with `Corruption` for an unknown operation, or with `Memory`. If it fails, it
+    /// consumes nothing.
     pub fn decode(alloc: Global, source: &mut BytesSlice<'_>) -> Result<KeyValue>
         ensures decodes { DecodesOrMemory IsKeyValue result source.old.now source.new.now }
         ensures exact { ReadsOrMemory result source.old.now source.new.now (key_value_at source.old.now) }
@@ -57,7 +59,8 @@ impl KeyValue {
         split_key_value(alloc, source)
     }
 
-    /// Appends the key, each number in its shortest spelling. If it fails, the buffer's bytes are unchanged.
+    /// Appends the operation, the key and the value of a put, each number in its shortest spelling. If it fails, the
+    /// buffer's bytes are unchanged.
     pub fn encode(&self, out: &mut Vec<u8>) -> Result<(), AllocError>
         ensures ok { OnOk result (out.new.items ≡ out.old.items ++ key_value_bytes self.now) }
         ensures err { OnErr result (out.new.items ≡ out.old.items) }

@@ -14,8 +14,8 @@ pub fn equal_where_same()
     ensures items { (a b : Item) → IsTrue (⟦<LogItem as PartialEq>⟧.eq a b) ↔ (a ≡ b) }
 {}
 
-/// No spelling of a kind begins another one of the kind, and none spells two values. What was written can therefore be
-/// read back, whatever follows it.
+/// No spelling of a kind begins another one of the kind, and none spells two values. So what was written can be read
+/// back, whatever follows it.
 pub fn no_spelling_begins_another()
     ensures bytes { IsPrefixFree IsBytes }
     ensures entries { IsPrefixFree IsEntries }

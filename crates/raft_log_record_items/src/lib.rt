@@ -1,4 +1,4 @@
-//! The items of a log and their bytes: entry indexes, commands, keys; and the messages that users keep in them.
+//! The items of a log and their bytes: runs of entries, commands and keys. Also the messages that users keep in them.
 #![tactic(auto)]
 
 mod bytes;

@@ -16,14 +16,14 @@ pub trait Message: Drop {
     /// The value of these bytes. A value may have other spellings than the one that is written.
     ghost reading: { List ℕ → Option Self };
 
-    /// Appends the bytes of the message. They are read as the same message again. That is promised for this value, so
-    /// that a type whose values have a range can satisfy it. If it fails, a part may follow the old bytes.
+    /// Appends the bytes of the message, which are read as the same message again. This is promised for this value
+    /// only, so a type whose values have a range can satisfy it. If it fails, a part may follow the old bytes.
     fn write(&self, out: &mut Vec<u8>) -> Result<(), AllocError>
         ensures ok { OnOk result (out.new.items ≡ out.old.items ++ spelling self.now) }
         ensures err { OnErr result (KeepsFront out.old.items out.new.items) }
         ensures again { IsReadBack spelling reading self.now };
 
-    /// The message of these bytes. Fails with a `Message` error if they are no message's.
+    /// The message of these bytes. Fails with `Message` if they are no message, or with `Memory`.
     fn parse(alloc: Global, bytes: &[u8]) -> Result<Self>
         ensures { Parses result (reading bytes.now) };
 }

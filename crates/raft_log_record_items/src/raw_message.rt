@@ -29,8 +29,8 @@ impl Message for RawMessage {
     }
 }
 
-/// A log whose entries are any bytes. Bytes don't contain their index: such entries are added with their indexes, and
-/// here each index is 0.
+/// A log whose entries are any bytes. The bytes don't contain an index, so `index` returns 0; add such entries with
+/// their indexes.
 pub struct RawEntries {}
 
 impl MessageExt for RawEntries {

@@ -1,4 +1,4 @@
-//! A log that was closed properly, which an open finds whatever chance does.
+//! A log that was closed properly: an open finds its contents without a premise on CRC collisions.
 
 ghost use Rattle.raft_log_recovery_laws.specs.Closed.{ClosedEnginesReopen, ClosedFilesMeetThePremise};
 ghost use Rattle.raft_log_recovery_laws.specs.Closed.{RestingLogsAskNothing, SuccessfulClosesAreProper, UndisturbedClosesAreProper};
@@ -15,18 +15,20 @@ pub fn undisturbed_closes_are_proper()
     ensures { UndisturbedClosesAreProper }
 {}
 
-/// A log at rest asks nothing of chance: neither to be opened or copied as it is, nor to crash.
+/// If a log is at rest, there is no CRC collision in its active files: neither as they are, for an open in place or a
+/// fork, nor in any crash image. In each crash image the log is at rest with the same contents.
 pub fn resting_logs_ask_nothing()
     ensures { RestingLogsAskNothing }
 {}
 
-/// After a proper close both last files hold their header and the records of their queue and nothing else, all synced.
-/// So the log is at rest, and there is no CRC collision in them, as they are or after any crash.
+/// After a proper close both active files have exactly their header and their queue's records, all synced. So the log
+/// is at rest with all batches. There is no CRC collision in the files, as they are or after any crash.
 pub fn closed_files_meet_the_premise()
     ensures { ClosedFilesMeetThePremise }
 {}
 
-/// An open after a proper close gives what was in the log, with all batches. There may be a crash between the two.
+/// An open after a proper close gives the contents after all batches. There may be a crash between the close and the
+/// open. If the open fails, the log is left with these contents.
 pub fn closed_engines_reopen<F: FileSystem>()
     ensures { ClosedEnginesReopen F.disk F.tells_space }
 {}

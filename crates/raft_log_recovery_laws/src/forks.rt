@@ -1,4 +1,4 @@
-//! From a log at rest to an engine that is opened over its fork.
+//! What a fork leaves of its source, and which contents an open of it finds.
 
 ghost use Rattle.raft_log_recovery_laws.specs.ForkLeaving.{ForksLeaveTheSource};
 ghost use Rattle.raft_log_recovery_laws.specs.ForkLeft.{LeftLogsShowAlike};
@@ -7,33 +7,34 @@ ghost use Rattle.raft_log_recovery_laws.specs.ForkResting.{ForkedLogsRest, Targe
 
 use raft_log_fs::FileSystem;
 
-/// However a fork ends, the log that was to be copied still rests, or is left, where it was. If no log had begun there,
-/// none has.
+/// Whether a fork succeeds or fails, its source is unchanged. A log at rest stays at rest. A log that is left stays
+/// left with the same contents and pending batches. If no log had begun there, none has.
 pub fn forks_leave_the_source()
     ensures { ForksLeaveTheSource }
 {}
 
-/// On a sound disk a log may be forked into any directory in which no directory has the path of a log file. A directory
-/// that doesn't exist has no file in it; a fork checks one that exists.
+/// On a sound disk a target is clear (`IsClear`) if no directory in it has the name of a log file. If the target
+/// doesn't exist, there is no file in it; if it exists, the fork checks for files.
 pub fn targets_are_clear()
     ensures { TargetsAreClear }
 {}
 
-/// A fork of a log at rest leaves a log at rest in the target, for settings that name only the target. It has the same
-/// files, records and map.
+/// A fork of a log at rest into a clear target is at rest there, for settings that name only the target. It has the
+/// same files, records and contents.
 pub fn forked_logs_rest()
     ensures { ForkedLogsRest }
 {}
 
-/// An engine that is opened over a fork holds the same map as one over the fork's source, opened before the fork or
-/// after it. If an open fails, the log is left with its map.
+/// If a log at rest was forked into a clear target, an open of the fork gives the same contents as an open of its
+/// source. The source may be opened before the fork or after it. If an open fails, the log is left with these contents.
 pub fn forks_open_as_their_source<F: FileSystem>()
     ensures { ForksOpenAsTheirSource F.disk F.tells_space }
 {}
 
-/// What an engine left, closed or failed, is opened in place, and forked without a crash or an open in between. Both
-/// show the map after the same first pending batches, for any settings that name its directories. They are those that a
-/// restart without loss shows.
+/// Suppose that an engine left its log, closed or failed, and that it is forked into a clear target. There was no crash
+/// and no open in between. Then an open of the fork gives the same contents as an open of the source in place: those
+/// after a prefix of the pending batches. The prefix is the same for all settings that name the source's directories. A
+/// crash that kept all bytes would leave it too. This requires that there is no CRC collision in the active files.
 pub fn left_logs_show_alike<F: FileSystem>()
     ensures { LeftLogsShowAlike F.disk F.tells_space }
 {}

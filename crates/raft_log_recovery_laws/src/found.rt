@@ -6,22 +6,25 @@ ghost use Rattle.raft_log_recovery_laws.specs.FileReading.{FinishedFileIsRead, H
 ghost use Rattle.raft_log_recovery_laws.specs.Padding.{BareDirectoriesHaveNoPadding, RestingLogsHaveNoPadding, StandingLogsHaveNoPadding};
 ghost use Rattle.raft_log_recovery_laws.specs.Scanned.{ReadFilesAreScanned, ScannedFilesAreSpanned};
 
-/// What is read of the last file of a queue are its records, up to the end that its pipe takes for it.
+/// Reading a queue's last file without an alignment returns one batch for each whole record, and the end of these
+/// records. If the file has no header, it returns neither.
 pub fn last_files_are_read()
     ensures { LastFileIsRead }
 {}
 
-/// The format that is read of a file's header encodes to that header.
+/// If reading a file without an alignment finds an end of records, the file begins with the header that encodes the
+/// format read.
 pub fn headers_are_written()
     ensures { HeaderIsWritten }
 {}
 
-/// A file that a pipe has finished reads whole, and has no fault.
+/// Reading a file that a pipe has finished returns all its records, and finds no fault.
 pub fn finished_files_are_read()
     ensures { FinishedFileIsRead }
 {}
 
-/// The files that a scan keeps of a queue are a live range of it.
+/// The files that a scan keeps of a queue have consecutive numbers, each at the path of its number. The last one is
+/// open for reading and writing.
 pub fn scanned_files_are_spanned()
     ensures { ScannedFilesAreSpanned }
 {}
@@ -31,7 +34,8 @@ pub fn scanned_files_begin()
     ensures { ScannedFilesBegin }
 {}
 
-/// If a stop left a queue in these directories, a scan of them returns all of its files from the last gap on.
+/// If a queue is at rest in these directories, a scan of them returns all of its files from the last gap in their
+/// numbers on.
 pub fn scanned_files_are_all()
     ensures { ScannedFilesAreAll }
 {}
@@ -47,9 +51,9 @@ pub fn read_files_are_scanned()
 {}
 
 /// An open finds no file with an alignment, and removes no padding:
-/// - from a log that rests on a disk, such as one that a crash left;
-/// - from one that an engine left and that is opened without a crash;
-/// - if nothing of a log is there.
+/// - from a log at rest, such as one that a crash left;
+/// - from one that an engine left and that is opened without a crash, if there is no CRC collision in its active files;
+/// - if there is no log yet.
 pub fn own_logs_have_no_padding()
     ensures bare { BareDirectoriesHaveNoPadding }
     ensures resting { RestingLogsHaveNoPadding }

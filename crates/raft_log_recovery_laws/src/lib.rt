@@ -1,6 +1,5 @@
-//! Laws of opening a log, for use in proofs. They say what an open finds of the files that an engine left, and that the
-//! engine that is made of it holds the map: in place, after a crash, and from a fork. They also say what an open that
-//! fails leaves.
+//! Laws of opening a log, for use in proofs. They say which contents an open finds in the files that an engine left: in
+//! place, after a crash, and in a fork. They also say what an open that fails leaves.
 //!
 //! Each public function here is a law over the definitions of `specs/`: it does nothing, and its contract is
 //! what is proved.

@@ -1,4 +1,4 @@
-//! From what an engine left to an engine that is opened.
+//! Which contents an open finds after a crash, in a log at rest, and if there is no log yet.
 
 ghost use Rattle.raft_log_recovery_laws.specs.Bare.{BareDirectoriesOpen};
 ghost use Rattle.raft_log_recovery_laws.specs.Directory.{CrashedDirectoriesOpen, RestingDirectoriesOpen};
@@ -8,53 +8,56 @@ ghost use Rattle.raft_log_recovery_laws.specs.Running.{CrashedEnginesOpen};
 
 use raft_log_fs::FileSystem;
 
-/// If a log rests on a disk, a scan of the settings' directories finds all files of either queue from the last gap on.
+/// If a log is at rest, a scan of the settings' directories finds all files of either queue from the last gap in their
+/// numbers on.
 pub fn scans_find_all_files()
     ensures { ScansFindAllFiles }
 {}
 
-/// An engine that is opened there can use all files that are kept for use, whatever they held: they are synced before.
+/// After a log at rest was recovered and its files were synced, each file that is kept for recycling can be recycled,
+/// whatever it holds. No two of them have the same path.
 pub fn synced_spares_can_be_used<F: FileSystem>()
     ensures { SyncedSparesCanBeUsed F.disk F.tells_space }
 {}
 
-/// A log that rests on a disk is scanned, read by any number of workers, truncated, synced and opened: an engine of
-/// what was read holds its map. If an open fails anywhere, the log is left on the disk with its map. Nothing is pending
-/// in either case.
+/// A log at rest is scanned, read by any number of workers, truncated, synced and opened: the engine has its contents.
+/// If an open fails anywhere, the log is left with its contents. Nothing is pending in either case.
 pub fn resting_logs_open_by_calls<F: FileSystem>()
     ensures { RestingLogsOpenByCalls F.disk F.tells_space }
 {}
 
-/// If any crash image of what an engine left is opened by these steps, the map is that after a prefix of the pending
-/// batches. This is so whether the open succeeds or fails. The prefix is the same for all settings that name its
-/// directories, and for any number of workers. The image must have no CRC collision.
+/// If a crash image of what an engine left is opened by these steps, the contents are those after a prefix of the
+/// pending batches. This is so whether the open succeeds or fails. The prefix is the same for all settings that name
+/// its directories, so for any number of workers. The image must have no CRC collision.
 pub fn crashed_logs_open_by_calls<F: FileSystem>()
     ensures { CrashedLogsOpenByCalls F.disk F.tells_space }
 {}
 
-/// If the directories of a log that rests there are opened with `open_directory` of `raft_log_open`, the
-/// engine holds its map, and nothing is pending. If that fails, the log is left with its map.
+/// If a log at rest is opened with `open_directory` of `raft_log_open`, the engine has its contents, and nothing is
+/// pending. If that fails, the log is left with its contents.
 pub fn resting_directories_open<F: FileSystem>()
     ensures { RestingDirectoriesOpen F.disk F.tells_space }
 {}
 
-/// If the directories of any crash image of what an engine left are opened with `open_directory`, the map is that after
-/// a prefix of the pending batches. This is so whether the open succeeds or fails. The prefix is the same for all
-/// settings that name the directories, and for any number of workers. The image must have no CRC collision.
+/// If a crash image of what an engine left is opened with `open_directory`, the contents are those after a prefix of
+/// the pending batches. This is so whether the open succeeds or fails. The prefix is the same for all settings that
+/// name the directories, so for any number of workers. The image must have no CRC collision.
 pub fn crashed_directories_open<F: FileSystem>()
     ensures { CrashedDirectoriesOpen F.disk F.tells_space }
 {}
 
-/// If the directories of any crash image of a running engine are opened with `open_directory`, the map is that after a
-/// prefix of the pending batches. This is so whether the open succeeds or fails. The prefix is the same for all
-/// settings that name the directories. The image must have no CRC collision, which depends only on the engine's pipes
-/// and on the bytes on the disk. So whatever is read of a file was written there, or passed to it by an unsynced write.
+/// If a crash image of a running engine is opened with `open_directory`, the contents are those after a prefix of the
+/// pending batches. This is so whether the open succeeds or fails. The prefix is the same for all settings that name
+/// the directories.
+///
+/// The image must have no CRC collision, which depends only on the engine's pipes and on the bytes on the disk. Each
+/// record that is read of an active file must have been written there, or passed to an unsynced write at that offset.
 pub fn crashed_engines_open<F: FileSystem>()
     ensures { CrashedEnginesOpen F.disk F.tells_space }
 {}
 
-/// If nothing of a log is there, and maybe none of its directories, opening these gives an empty map. If it fails,
-/// nothing is there still, or a log with an empty map is left.
+/// If there is no log in the directories, and maybe none of these, opening them gives empty contents. If it fails,
+/// there still is no log, or one with empty contents is left.
 pub fn bare_directories_open<F: FileSystem>()
     ensures { BareDirectoriesOpen F.disk F.tells_space }
 {}

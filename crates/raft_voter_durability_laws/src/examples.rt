@@ -15,8 +15,8 @@ pub fn refused_places()
     ensures places { refused_from 0 three_replies ≡ 1 ∷ [] }
 {}
 
-/// Before the first reply, nothing was passed. A round that is given up at its last request may have taken it, or
-/// not.
+/// Before the first reply, no request was taken. If the engine fails at the round's last request, that request may be
+/// taken or not.
 pub fn rounds_cut_off()
     ensures none { IsPassed fresh_world three_votes [] fresh_world }
     ensures without { IsPassedOrOneMore fresh_world three_votes (Granted 5 ∷ Refused ∷ [])

@@ -7,7 +7,8 @@ use crate::history::{History, Named};
 use crate::rule::{Append, HistoryPass, Twice, Whole};
 use std::marker::{Model, PhantomData};
 
-/// The history has these records, from this place on. Contracts see it as the place and the records. It takes no memory.
+/// Says that the history has these records, from this place on. Contracts see it as the place and the records. It takes
+/// no memory.
 #[derive(Drop)]
 pub struct Claim<L: Named> {
     pass: HistoryPass,
@@ -61,7 +62,7 @@ impl<L: Named> Claim<L> {
         Claim::of(second)
     }
 
-    /// Takes in a claim for the records that follow in the history.
+    /// Adds to this claim one for the records that follow its own in the history.
     pub fn join(&mut self, history: &History<L>, next: Claim<L>)
         requires { next.0 ≡ self.old.0 + length self.old.1 }
         ensures { self.new ≡ (self.old.0, self.old.1 ++ next.1) }

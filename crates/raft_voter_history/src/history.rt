@@ -1,4 +1,4 @@
-//! What ties the keeper of a history and the claims together.
+//! The history, which its keeper and its claims have in common.
 ghost use Rattle.std.specs.Prelude.{◌≡◌, [], IfOk};
 ghost use Rattle.crossbeam_utils.specs.Seq.{cell_view};
 ghost use Rattle.raft_voter_history.specs.History.{knows};
@@ -8,11 +8,11 @@ use crate::rule::{Cell, HistoryPass};
 use std::alloc::{AllocError, Global};
 use std::marker::{Brand, PhantomData};
 
-/// Names a history.
+/// Names a history, so that a keeper and claims are of the same one.
 pub trait Named {
     ghost use Rattle.atomic_table.specs.Seated.{TableId};
 
-    /// The history.
+    /// The history's name.
     ghost history: { TableId };
 }
 
@@ -32,13 +32,14 @@ pub struct FreshHistory {
 }
 
 impl FreshHistory {
-    /// Returns an empty history. Memory may run out.
+    /// Returns an empty history without a name. Fails if memory runs out.
     pub fn new(alloc: Global) -> Result<FreshHistory, AllocError> {
         let (cell, pass) = Cell::ruled(alloc, [0])?;
         Ok(FreshHistory { cell, pass })
     }
 
-    /// Names the history, and returns it with its keeper.
+    /// Names the history, and returns it with its keeper. `L::history` must be the name of this
+    /// one.
     pub fn named<L: Named>(self) -> (History<L>, Keeper<L>)
         requires { self.cell.table.shared.table_id ≡ L.history }
         ensures { result.1 ≡ [] }
@@ -52,7 +53,7 @@ impl FreshHistory {
     }
 }
 
-/// A history, by which its keeper and its claims know each other.
+/// A history. Its keeper and its claims are used together with it.
 #[derive(Drop)]
 pub struct History<L: Named> {
     pub(crate) cell: Cell,

@@ -43,7 +43,7 @@ impl<L: Named> Keeper<L> {
         }
     }
 
-    /// Adds a record at the end of the history. Returns a claim for it.
+    /// Adds a record at the end of the history, and returns a claim for it. May wait.
     pub fn note<R: Wait>(&mut self, rt: &R, history: &History<L>, round: &Round) -> Claim<L>
         ensures noted { self.new ≡ self.old ++ round.now ∷ [] }
         ensures claim { result ≡ (length self.old, round.now ∷ []) }
@@ -51,7 +51,7 @@ impl<L: Named> Keeper<L> {
         Claim::of(noted::<Brand, R>(rt, &history.cell, &mut self.pass, round))
     }
 
-    /// Returns a claim for the last records of the history, which begin at this place.
+    /// Returns a claim for the records `part`, which the history must have from place `first` on.
     pub fn claim(&mut self, history: &History<L>, first: usize, part: &[Round]) -> Claim<L>
         requires { HasPart self.old first part.now }
         ensures same { self.new ≡ self.old }
@@ -60,7 +60,7 @@ impl<L: Named> Keeper<L> {
         Claim::of(claimed::<Brand>(&history.cell, &mut self.pass, first, part))
     }
 
-    /// Compares a claim with the history: the history has its records.
+    /// Compares a claim with the history, which proves that the history has the claim's records. May wait.
     pub fn find<R: Wait>(&mut self, rt: &R, history: &History<L>, claim: Claim<L>)
         ensures same { self.new ≡ self.old }
         ensures found { HasPart self.old claim.0 claim.1 }

@@ -1,5 +1,5 @@
 //! The history of a store of voters: the records of all rounds that it served. It exists in proofs alone and takes no
-//! memory. One keeper adds records to it. Claims say which records are in it, and at which places.
+//! memory. One keeper adds records to it. A claim says which records are in it, from which place on.
 #![tactic(auto)]
 
 mod claim;

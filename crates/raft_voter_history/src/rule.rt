@@ -1,4 +1,4 @@
-//! The rule of a history, and what each step of a pass says.
+//! The rule of a history, and what each step changes in the view of a pass.
 use atomic_table::{Join, Split};
 use crossbeam_utils::atomic::seq_cell::{Pass, RuledSeqCell};
 use crossbeam_utils::rule::{Outcome, Protocol};
@@ -6,7 +6,8 @@ use raft_voter_messages::Round;
 use std::collections::LinkedList;
 use std::marker::{Brand, PhantomData};
 
-/// What a pass knows: the whole history, or the records of a part of it. No value of it is made.
+/// What a pass knows: the whole history, or the records of a part of it. It exists in contracts
+/// alone.
 pub struct View {
     /// Whether the pass knows the whole history.
     pub keeps: bool,
@@ -20,7 +21,7 @@ pub struct View {
     pub part: LinkedList<Round>,
 }
 
-/// The rule: there is one history.
+/// The rule: there is one history of which all views are true.
 pub struct OneHistory;
 
 impl Protocol<[u64; 1], View> for OneHistory {
@@ -72,7 +73,7 @@ impl Outcome<[u64; 1], View> for Find {
     ghost then = { Finds };
 }
 
-/// The keeper hands out a claim for a part.
+/// The keeper gives out a claim for a part.
 pub struct Give<X: Portion> {
     of: PhantomData<X>,
 }
@@ -85,7 +86,7 @@ impl<X: Portion> Split<View> for Give<X> {
     ghost right = { λ v. claims_part X.first X.part };
 }
 
-/// The keeper takes a claim in.
+/// The keeper takes over a claim.
 pub struct TakeIn;
 
 impl Join<View> for TakeIn {
@@ -107,7 +108,7 @@ impl Join<View> for Append {
     ghost spent = { spent };
 }
 
-/// A pass hands all that it claims to a new one.
+/// A pass gives all that it claims to a new one.
 pub struct Whole;
 
 impl Split<View> for Whole {
@@ -118,7 +119,7 @@ impl Split<View> for Whole {
     ghost right = { λ v. v };
 }
 
-/// A pass hands a new one the same claim, and keeps it.
+/// A pass gives a new one the same claim, and keeps its own.
 pub struct Twice;
 
 impl Split<View> for Twice {
@@ -127,7 +128,7 @@ impl Split<View> for Twice {
     ghost right = { λ v. v };
 }
 
-/// The cell whose passes are under the rule.
+/// The cell whose passes follow the rule.
 pub type Cell = RuledSeqCell<[u64; 1], View, OneHistory, 1>;
 
 /// A pass of the cell. It has no bytes.

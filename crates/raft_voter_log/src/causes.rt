@@ -1,4 +1,4 @@
-//! The cause that is returned for an error of the log.
+//! The cause that an open or a purge returns for an error of the log.
 ghost use Rattle.std.specs.Prelude.{◌≡◌};
 ghost use Rattle.raft_voter_log.specs.Causes.{cause_of, purge_cause, unread_cause};
 
@@ -6,7 +6,8 @@ use raft_log_engine::Error;
 use raft_voter::Cause;
 use raft_voter_recovery::Unread;
 
-/// Why opening a log, or reading its voters, failed: `Memory` or `FileSystem`.
+/// The cause of a failed open, or of a failed read of its voters: `Memory` if memory ran out, else
+/// `FileSystem`. This is also the cause if a group stores no voter.
 pub fn unread_cause(cause: &Unread) -> Cause
     ensures { result ≡ unread_cause cause.now }
 {
@@ -17,7 +18,8 @@ pub fn unread_cause(cause: &Unread) -> Cause
     }
 }
 
-/// Why a purge failed, for a store that had failed before or not.
+/// The cause of a failed purge: `Failed` if the store had failed before, `Memory` if memory ran
+/// out, else `FileSystem`.
 pub fn purge_cause(failed: bool, error: &Error) -> Cause
     ensures { result ≡ purge_cause failed error.now }
 {
@@ -27,7 +29,7 @@ pub fn purge_cause(failed: bool, error: &Error) -> Cause
     cause_of(error)
 }
 
-/// `Memory` for out of memory, else `FileSystem`.
+/// `Memory` if memory ran out, else `FileSystem`.
 fn cause_of(error: &Error) -> Cause
     ensures { result ≡ cause_of error.now }
 {

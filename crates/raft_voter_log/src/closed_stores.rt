@@ -1,4 +1,4 @@
-//! Stores whose logs are closed properly: an open finds their voters, whatever chance does.
+//! Stores whose logs are closed properly: an open finds their voters, without a premise on CRC collisions.
 
 ghost use Rattle.raft_log_engine.specs.raft_log_engine_core.specs.Reads.{shows_of};
 ghost use Rattle.raft_voter_log.specs.ClosedRuns.{ClosedRunsAskNothing};
@@ -11,7 +11,8 @@ use raft_log_fs::FileSystem;
 use raft_voter::RoundService;
 use raft_voter_world::{VoterDisk, VoterStorage};
 
-/// A log at rest asks nothing of chance, whatever left it so.
+/// If a log at rest stores voters, there is no CRC collision in its files: neither as they are nor in what a crash
+/// leaves of them.
 pub fn resting_voters_ask_nothing()
     ensures { RestingVotersAskNothing }
 {}
@@ -23,17 +24,19 @@ pub fn closed_stores_meet_the_premise()
 {}
 
 /// An open of a log that a store closed properly finds the voters that the store kept. There may be a crash between the
-/// two.
+/// close and the open. All settings that name the directories find them.
 pub fn closed_stores_are_found<F: FileSystem>()
     ensures { ClosedStoresAreFound F.disk F.tells_space }
 {}
 
-/// Runs from files without a log. In them stores are opened, serve, are purged, are closed, and crash while they run or
-/// are closed; faults are armed, and closed logs are copied. A store that crashes or closes hasn't failed, and no file
-/// call fails in a close. Only a close that ends the run may be any. A crash of an open store only loses writes
-/// (`OnlyLoses`).
+/// Let a run start from files without a log, in which these happen:
+/// - Stores are opened, serve, are purged, have faults armed under them, are closed, and crash. Each open succeeds.
+/// - A store that is closed hasn't failed, and no file call fails in the close. The run may end with any close.
+/// - A crash of an open store, which hasn't failed, only loses writes (`OnlyLoses`).
+/// - While no store is open, faults are armed, logs are copied, and a crash may leave anything.
 ///
-/// Then each opened store serves voters, no open loses them, and voters that never fail explain the rounds.
+/// Then each opened store serves voters, no open loses them, and voters that never fail explain the rounds. This needs
+/// no premise on CRC collisions.
 pub fn closed_runs_ask_nothing<R: Log>()
     ensures { ClosedRunsAskNothing ⟦<LogVoters as RoundService<R>>⟧.service
         ⟦<LogVoters as VoterStorage<R>>⟧.upkeep ⟦<LogFiles as VoterDisk<R, LogVoters>>⟧.disk

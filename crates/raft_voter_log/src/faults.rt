@@ -5,7 +5,7 @@ ghost use Rattle.raft_voter_log.specs.Faults.{fault_of, remainder_of};
 use raft_log_engine::{Fault as DiskFault, Remainder};
 use raft_voter_world::{Fault, Left};
 
-/// The fault, as the file system has it.
+/// The same fault in the file system's terms.
 pub fn fault_of(fault: &Fault) -> DiskFault
     ensures { result ≡ fault_of fault.now }
 {
@@ -15,7 +15,7 @@ pub fn fault_of(fault: &Fault) -> DiskFault
     }
 }
 
-/// What a crash leaves, as the file system has it.
+/// What a crash leaves, in the file system's terms.
 pub fn remainder_of(left: &Left) -> Remainder
     ensures { result ≡ remainder_of left.now }
 {

@@ -43,7 +43,7 @@ impl LogFiles {
         }
     }
 
-    /// A copy of the settings with so many workers.
+    /// A copy of the settings with this many workers.
     fn settings_for(&self, workers: u64) -> Result<Config, Memory>
         ensures { IfOk result (HasWorkers self.now.config workers) }
     {

@@ -2,8 +2,8 @@
 
 ghost use Rattle.raft_voter_log.specs.Kept.{ArmsKeepVoters, KeptVotersAreTold, VotersHaveNoOwnKey};
 
-/// A store that keeps voters lists just these. A call that keeps them, as every purge does, succeeded or failed,
-/// therefore changes nothing of the list.
+/// If a store's log stores voters, the store lists just these. So a call that keeps them doesn't change the list; a
+/// purge keeps them, unless it leaves the store failed.
 pub fn kept_voters_are_told()
     ensures { KeptVotersAreTold }
 {}

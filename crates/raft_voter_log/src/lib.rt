@@ -1,5 +1,5 @@
-//! A store of voters on a log in a file system in memory, as the store and the disk of a world. It says what it serves,
-//! what a crash, a stop or a failed call leaves of it, and what an open finds of that.
+//! A store of voters on a log in a file system in memory, as the store and the disk of a world. Laws say what it
+//! serves, what a crash, a stop or a failed call leaves of it, and what an open finds of that.
 #![tactic(auto)]
 
 mod causes;

@@ -4,8 +4,8 @@ ghost use Rattle.raft_voter_log.specs.Workers.{AnyWorkersOpenAlike};
 
 use raft_log_engine::{FileSystem, MemoryFileSystem};
 
-/// Opens in a run over a log find the same voters with any two numbers of workers, and list them alike. This requires
-/// that there is no CRC collision.
+/// Two opens of the same files that succeed find the same voters and list them alike, with any two numbers of workers.
+/// The files are such as a run over a log leaves, without a CRC collision.
 pub fn any_workers_open_alike()
     ensures { AnyWorkersOpenAlike ⟦<MemoryFileSystem as FileSystem>⟧.tells_space }
 {}

@@ -64,7 +64,7 @@ impl PlainFile {
         self.synced = self.bytes.len();
     }
 
-    /// The machine stops: the unsynced bytes are lost.
+    /// Crashes: the unsynced bytes are lost.
     pub fn crash(&mut self)
         ensures { self.new ≡ after_crash self.old }
     {

@@ -1,7 +1,7 @@
 //! Voters in memory, and a plain file in memory that keeps them.
 //!
-//! `PlainVoters` is a `RoundService`: it returns replies only after their changes are synced. Its `PlainFile` keeps the
-//! voters while it isn't open.
+//! `PlainVoters` is a `RoundService`: it syncs the changes of a round before it returns the replies. Its `PlainFile`
+//! keeps the voters while no store is open.
 #![tactic(auto)]
 
 mod file;

@@ -14,7 +14,7 @@ use thiserror::Error;
 /// Why a file couldn't be opened.
 #[derive(Clone, Copy, Debug, PartialEq, Eq, Error)]
 pub enum OpenFault {
-    /// The file's bytes aren't those of records.
+    /// The file's bytes aren't a sequence of records.
     #[error("damaged file")]
     Damaged,
     /// An allocation failed.
@@ -55,7 +55,7 @@ impl From<StoredFault> for OpenFault {
     }
 }
 
-/// Encodes a record.
+/// Returns the record of a group's voter. Fails only with `Memory`.
 #[tactic(auto, unfolding(crate::specs::Records::voter_record, crate::specs::Records::voter_bytes))]
 pub fn voter_record(alloc: Global, group: u64, voter: &Voter) -> Result<Vec<u8>, Memory>
     ensures bytes { IfOk result (λ bytes. bytes.items ≡ voter_record (group, voter.now)) }
@@ -71,7 +71,7 @@ pub fn voter_record(alloc: Global, group: u64, voter: &Voter) -> Result<Vec<u8>,
     Ok(bytes)
 }
 
-/// Appends the stored entries of a log; the first one has this index.
+/// Appends the stored entries of a log; the first one has the index `first`.
 fn put_entries(bytes: &mut Vec<u8>, first: u64, log: &[(u64, Items<u8>)]) -> Result<(), Memory>
     requires { first + length log.now < 2 ^ 64 }
     ensures { OnOk result (bytes.new.items ≡ bytes.old.items ++ log_bytes first log.now) }

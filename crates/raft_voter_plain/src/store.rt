@@ -18,7 +18,7 @@ use std::alloc::Global;
 use std::collections::BTreeMap;
 
 /// The voters of many groups in memory, and the file that keeps them. The file is in memory too: if memory runs out in
-/// the middle of a round, the cause is the file system.
+/// the middle of a round, the round is cut off with `FileSystem`, and the store has failed.
 #[derive(Drop)]
 pub struct PlainVoters {
     pub alloc: Global,
@@ -38,8 +38,10 @@ pub struct FileRefused {
 
 impl PlainVoters {
     /// Opens a file: reads it whole, takes the last record of each group as its voter, and syncs all that was written.
-    /// A store that was just opened hasn't failed. Fails with `Damaged` only if the bytes aren't records, which a store
-    /// never writes. An empty file always opens.
+    /// The store hasn't failed then.
+    ///
+    /// Fails with `Damaged` only if the bytes aren't a sequence of records, or with `Memory`. Then the file is returned
+    /// unchanged. An empty file always opens.
     pub fn open(alloc: Global, file: PlainFile) -> Result<PlainVoters, FileRefused>
         ensures synced { IfOk result (λ store. store.file ≡ all_synced file) }
         ensures voters { IfOk result (λ store. StandsFor (whole file) (world_of store)) }
@@ -63,9 +65,9 @@ impl PlainVoters {
         }
     }
 
-    /// The voters take requests in order, and what they change is written. The replies are put into `replies`, which
-    /// has room for them. If memory runs out, some of the first requests were taken, and what was synced is unchanged.
-    /// It can't run out if there are no requests.
+    /// The voters take requests in order, and their changes are appended to the file. Returns the replies in `replies`,
+    /// which must be empty and have room for them. If memory runs out, the voters took a prefix of the requests, and
+    /// the synced bytes are unchanged. It can't run out if there are no requests.
     fn take_all(
         &mut self,
         requests: &[(u64, Request)],
@@ -85,8 +87,8 @@ impl PlainVoters {
         Ok(Items::from_vec(replies))
     }
 
-    /// A group's voter takes a request, and what it changes is written. If memory runs out, it may have taken the
-    /// request only in memory.
+    /// A group's voter takes a request, and its change is appended to the file. If memory runs out, the voter may have
+    /// taken the request, and the file is unchanged.
     fn take(&mut self, group: u64, request: &Request) -> Result<Reply, Memory>
         ensures ok { IfOk result (λ told. Takes self.old (group, request.now) told self.new) }
         ensures err { OnErr result (OneIsRefused self.old (group, request.now) self.new) }
@@ -213,7 +215,7 @@ impl<R> StoreFiles<R, PlainVoters> for PlainFile {
     }
 }
 
-/// A group's voter takes a request and returns the reply.
+/// A group's voter takes a request and returns the reply. If memory runs out, no voter changes.
 fn step(
     alloc: Global,
     voters: &mut BTreeMap<u64, Voter>,
@@ -250,7 +252,7 @@ fn may_change(request: &Request) -> bool
     }
 }
 
-/// Reads the voters that a file's bytes keep.
+/// Reads the voters that a file's bytes store. Fails with `Damaged` only if they aren't a sequence of records.
 fn read_voters(alloc: Global, bytes: &[u8]) -> Result<BTreeMap<u64, Voter>, OpenFault>
     ensures ok { IfOk result (λ voters. StandsFor bytes.now (world_in voters)) }
     ensures err { IfErr result (TellsDamage (StandsForNothing bytes.now)) }

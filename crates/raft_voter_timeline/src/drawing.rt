@@ -14,7 +14,8 @@ use std::alloc::Global;
 use std::collections::VecDeque;
 use std::thread::Threads;
 
-/// Returns the picture of these events, as SVG: runs them over these files, and draws them with their results.
+/// Returns the picture of these events as SVG: runs them over these files, and draws them with their results. It takes
+/// all voters as fresh at first: if the files have others, the marks `durable` and `unchanged` may be wrong.
 ///
 /// Fails with `Memory` if there is no room for the run or for the picture.
 pub fn draw_run<R: Threads + Sync, S: VoterStorage<R> + Drop, F: VoterDisk<R, S> + Drop>(

@@ -4,8 +4,8 @@ ghost use Rattle.raft_voter_timeline.specs.Escape.{escaped, Gains};
 
 use raft_voter_messages::Memory;
 
-/// Appends a text so that XML reads it back. The five characters that are marks in XML are written by their names. A
-/// character that XML can't contain is written as U+FFFD. If memory runs out, a prefix may have been appended.
+/// Appends a text, escaped for XML. The characters `&`, `<`, `>` and both quotes become entities. A tab, a line end and
+/// a character that XML can't contain become U+FFFD. If memory runs out, a prefix may have been appended.
 pub fn push_escaped(text: &mut String, part: &str) -> Result<(), Memory>
     ensures { OnOk result (Gains text.old text.new (flat_map escaped (chars part.now))) }
 {

@@ -71,7 +71,8 @@ pub struct Line {
 }
 
 impl Line {
-    /// Returns a line with these words, each shortened if it is too long.
+    /// Returns a line with these words. Of words with more than 60 characters it has the first 60
+    /// and two dots. Fails only with `Memory`.
     pub fn new(alloc: Global, mark: Mark, text: &str, outcome: &str) -> Result<Line, Memory>
         ensures { IfOk result (λ line. line.mark ≡ mark) }
     {

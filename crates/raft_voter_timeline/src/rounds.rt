@@ -8,9 +8,9 @@ use raft_voter_messages::{Memory, Outcome, Request, Round};
 use std::alloc::Global;
 use std::collections::VecDeque;
 
-/// Returns the lines of a picture, from top to bottom: those of the events. The lines of the next round replace the
-/// line of a round's event. `writes` says for each round whether it wrote. Each round that was cut off uses the next
-/// cut.
+/// Returns the lines of a picture, from top to bottom. The line of a round's event is replaced by the lines of the next
+/// round; if no round or no item of `writes` is left, it stays. `writes` says for each round whether it wrote. Each
+/// round that was cut off uses the next cut.
 ///
 /// Fails with `Memory` if there is no room for them.
 pub fn lines_of(
@@ -51,8 +51,8 @@ pub fn lines_of(
     Ok(lines)
 }
 
-/// Returns the place up to which a round was taken: all of it if it got replies, otherwise up to the next of these
-/// cuts.
+/// Returns the place up to which a round was taken: all of it if it got replies, otherwise up to the first of these
+/// cuts, or nothing if there is none.
 pub fn taken_up_to(round: &Round, cuts: &[usize]) -> usize
     ensures { result ≡ taken_up_to round.now cuts.now }
 {
@@ -105,7 +105,7 @@ fn head_line(alloc: Global, number: usize, round: &Round) -> Result<Line, Memory
     }
 }
 
-/// Returns the line where what was taken of a round ends.
+/// Returns the line at which what was taken of a round ends.
 fn end_line(alloc: Global, round: &Round, wrote: bool, up_to: usize) -> Result<Line, Memory>
     ensures { IfOk result (λ line. line.mark ≡ end_mark round.now.outcome wrote) }
 {

@@ -8,7 +8,7 @@ use raft_voter_world::{Event, Left};
 use std::alloc::Global;
 use std::collections::VecDeque;
 
-/// Returns a line for each event, in order. The line of a round has no words: `lines_of` adds its result.
+/// Returns a line for each event, in order. The line of a round has no words: `lines_of` replaces it.
 ///
 /// Fails with `Memory` if there is no room for them.
 pub fn titles_of(alloc: Global, events: &VecDeque<Event>) -> Result<VecDeque<Line>, Memory>

@@ -12,9 +12,9 @@ use raft_voter_messages::{Memory, Request, Round};
 use raft_voter_outline::{Change, Decision, Outline, Outlines};
 use std::alloc::Global;
 
-/// Returns for each round whether it wrote: exactly if a request that it took changed its group's voter. A store syncs
-/// such a round before it replies. The voters are fresh before the first round. Each round that was cut off uses the
-/// next cut.
+/// Returns for each round whether it wrote: whether a request that it took changed its group's voter. A store syncs
+/// such a round before it replies. All voters count as fresh before the first round. Each round that was cut off uses
+/// the next cut.
 ///
 /// Fails with `Memory` if there is no room for the outlines or the result.
 pub fn writes_of(alloc: Global, rounds: &[Round], cuts: &[usize]) -> Result<Vec<bool>, Memory>
@@ -33,8 +33,7 @@ pub fn writes_of(alloc: Global, rounds: &[Round], cuts: &[usize]) -> Result<Vec<
     Ok(writes)
 }
 
-/// The outlines take a round's requests up to this place, except those that were refused. Returns whether a voter
-/// changed.
+/// The outlines take a round's requests up to this place, except the refused ones. Returns whether a voter changed.
 fn take_all(
     alloc: Global,
     outlines: &mut Outlines,
@@ -60,7 +59,8 @@ fn is_taken(place: usize, up_to: usize, refused: &[usize]) -> bool
     place < up_to && !refused.contains(&place)
 }
 
-/// A group's outline takes a request, if its round took it. Returns whether a voter has changed in the round by then.
+/// A group's outline takes a request, if its round took it. Returns whether this request or an earlier one of the round
+/// (`wrote`) changed a voter.
 fn take_if(
     alloc: Global,
     outlines: &mut Outlines,

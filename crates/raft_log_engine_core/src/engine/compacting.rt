@@ -21,12 +21,10 @@ use raft_log_record_items::Command;
 use std::alloc::Global;
 
 impl<P: PipeLog> LogEngine<P> {
-    /// Writes a batch that deletes a group's entries below an index, and returns how many it deletes. Nothing is
-    /// written for a group without entries. Doesn't sync: it only writes the record, after rotating Append if needed.
-    /// Listeners hear what they hear of any `write`.
+    /// Writes a batch that deletes a group's entries below an index, and returns how many it deletes. Doesn't sync. For
+    /// a group without entries it writes nothing, and returns 0. Listeners hear of the record as of any other.
     ///
-    /// Fails with `Failed` if the engine has failed, with `Memory` before anything is done, or with the errors of
-    /// `write`.
+    /// Fails with `Failed` if the engine has failed, with `Memory` before anything is done, or as `write` does.
     pub fn compact_to<L: Log>(&mut self, rt: &L, raft_group_id: u64, index: u64) -> Result<u64>
         ensures model { FollowsModel (ModelCompacts raft_group_id index) result
             (shows_of P.shown self.old) (shows_of P.shown self.new) }
@@ -67,7 +65,7 @@ impl<P: PipeLog> LogEngine<P> {
     }
 }
 
-/// The batch that deletes a group's entries below an index. Fails only for lack of memory.
+/// The batch that deletes a group's entries below an index. Fails only with `Memory`.
 fn compact_batch(alloc: Global, raft_group_id: u64, index: u64) -> Result<LogBatch>
     ensures ok { IfOk result (SaysCompact raft_group_id index) }
     ensures err { IfErr result (λ error. error ≡ errors.Memory) }

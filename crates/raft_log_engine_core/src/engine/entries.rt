@@ -22,14 +22,15 @@ use std::alloc::Global;
 use std::io::ErrorKind;
 
 impl<P: PipeLog> LogEngine<P> {
-    /// The entry of a group at an index, if there is one.
+    /// Returns the entry of a group at an index, if there is one.
     ///
     /// # Errors
     /// - `Failed` if the engine has failed.
-    /// - `Io` if reading its block fails.
+    /// - `Io` if its block can't be read.
     /// - `Message` if its bytes aren't a message.
-    /// - `Memory`, only while the file system runs: if it has stopped, the error is `Io(Other)`.
-    /// - `Corruption` only if the block was damaged from outside: no entry of a log that holds returns it.
+    /// - `Memory`; once the file system has stopped, the error is `Io(Other)` instead.
+    /// - `Corruption` only if the block was damaged from outside. The contract excludes it for an engine that
+    ///   `Represents` relates to a log.
     pub fn get_entry<M: MessageExt>(
         &mut self,
         raft_group_id: u64,
@@ -62,15 +63,15 @@ impl<P: PipeLog> LogEngine<P> {
         }
     }
 
-    /// Appends to `vec` the entries of a group from `begin` on, below `end`, and returns how many. The first is always
-    /// included, and the list ends before the sum of lengths exceeds `max_size`. Appends none if none are requested, or
-    /// if the group took nothing since it was cleaned. Entries of one block are read by one read. If it fails, nothing
-    /// is appended.
+    /// Appends to `vec` the entries of a group from `begin` on, below `end`, and returns how many. It appends the
+    /// first, and more while their bytes are at most `max_size` together. It appends none if none are requested, or if
+    /// the group took nothing since it was last cleaned. A block is read once for the consecutive entries in it. If it
+    /// fails, nothing is appended.
     ///
     /// # Errors
     /// - `Failed` if the engine has failed.
-    /// - `EntryNotFound` if the group has no entries or doesn't have the last one.
-    /// - `EntryCompacted` if `begin` is below the first.
+    /// - `EntryCompacted` if `begin` is below the group's first entry.
+    /// - `EntryNotFound` if the group has no entries, or `begin` isn't below the first and the last one is missing.
     /// - The errors of `get_entry` for one of them.
     pub fn fetch_entries_to<M: MessageExt>(
         &mut self,
@@ -109,8 +110,8 @@ impl<P: PipeLog> LogEngine<P> {
         }
     }
 
-    /// Appends the entries of a group as `fetch_entries_to` does, for an engine that hasn't failed. If it fails, it
-    /// keeps what was there, and may have appended some of these.
+    /// Appends the entries of a group as `fetch_entries_to` does, for an engine that hasn't failed. If it fails, it may
+    /// have appended some.
     fn read_to<M: Message>(
         &mut self,
         raft_group_id: u64,
@@ -153,7 +154,7 @@ impl<P: PipeLog> LogEngine<P> {
         Ok(count)
     }
 
-    /// The error that a failed read returns: if the file system has stopped, out of memory becomes that error.
+    /// The error that a failed read returns: if the file system has stopped, `Memory` becomes `Io(Other)`.
     fn unread(&self, error: Error) -> Error
         ensures { IsToldAs (P.shown self.now.pipes).disk.stopped error result }
     {
@@ -174,9 +175,9 @@ impl<P: PipeLog> LogEngine<P> {
     }
 }
 
-/// Appends `count` entries of a table, from an index on, as messages, for which there is room. Reads a block once for
-/// the consecutive entries in it. It looks up the places of the next ones before it reads this block, so that the next
-/// read needn't wait for the table. If it fails, it keeps what was there, and may have appended some of these.
+/// Appends `count` entries of a table, from an index on, as messages. The table must have them, and `messages` room.
+/// Reads a block once for the consecutive entries in it. It looks up the places of the next ones before it reads this
+/// block, so that the next read needn't wait for the table. If it fails, it may have appended some.
 ///
 /// Not inlined: within a caller its loop has too few registers, which costs a fetch of short entries some 2 %.
 #[inline(never)]

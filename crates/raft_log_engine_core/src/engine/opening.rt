@@ -17,29 +17,32 @@ use raft_log_replay::ReplayThreads;
 use std::alloc::Global;
 use std::thread::Threads;
 
-/// The pipes of an engine that is opened: both of its log, a listener of their files, and after it the engine's own
-/// hook.
+/// The pipes of an opened engine: those of the log's two queues, a listener of their files, and the engine's own hook,
+/// which hears each event after the listener.
 pub type EnginePipes<F, E = Nobody> = ToldPipes<ToldPipes<DualPipes<F>, E>, PurgeHook>;
 
 /// An engine as it is opened over a file system: a [`LogEngine`] whose pipes call a listener and its own hook.
 pub type Engine<F, E = Nobody> = LogEngine<EnginePipes<F, E>>;
 
 impl<F: FileSystem + Sync> LogEngine<ToldPipes<ToldPipes<DualPipes<F>, Nobody>, PurgeHook>> {
-    /// Opens the log of these settings over a file system, which the engine owns from then on. It finds all that was
-    /// written and synced, or was there when the log was closed. It creates directories that don't exist, and begins a
-    /// log if there are no files. Files with an alignment, as another program may write them, are first written anew
-    /// without their padding. The only listener is the engine's own hook.
+    /// Opens the log of these settings over a file system, which the engine owns from then on. It creates directories
+    /// that don't exist, and begins a log if there are no files. Files with an alignment, as another program may write
+    /// them, are first written anew without padding. The only listener is the engine's own hook.
     ///
-    /// If it fails, the file system is returned, and the log may be opened again. Nothing is truncated unless all
-    /// files could be read.
+    /// What it finds is proved in `raft_log_recovery_laws`: all that was synced or closed, unless leftover bytes pass a
+    /// CRC by accident.
+    ///
+    /// If it fails, the file system is returned with the error, and the log may be opened again. Nothing is truncated
+    /// unless all files could be read.
     ///
     /// # Errors
     /// - `Io(Other)` if the file system has stopped. This is checked first, so that a stop never shows as `Memory`.
     /// - `Other` if the settings have a fault, or a file has the path of a directory.
-    /// - `Io` if a file can't be read, which never counts as damage, or isn't truncated, created or synced.
-    /// - `Corruption` or `Codec` for damage that the recovery mode doesn't tolerate, or for a wrong name.
-    /// - `Hole` or `Corruption` for records that can't be.
-    /// - `NumberRange` if there is no name for a file.
+    /// - `Io` if a file can't be read, truncated, created or synced. A failed read never counts as damage.
+    /// - `Corruption` or `Codec` for damage that the recovery mode doesn't tolerate.
+    /// - `Corruption` for a misnamed file, or for a record that another program wrote.
+    /// - `Hole` or `Corruption` for records that can't follow each other.
+    /// - `NumberRange` if the file numbers are used up.
     /// - `Memory`.
     pub fn open_with_file_system<R: Threads + Log + Sync>(
         rt: &R,
@@ -68,10 +71,10 @@ impl<F: FileSystem + Sync, E: EventListener> LogEngine<
     ghost use Rattle.raft_log_dual_pipes.specs.Pipes.{main_directory};
 
     /// Opens the log as `open_with_file_system` does, with a listener. The listener, and after it the engine's own
-    /// hook, hear what happens to the log's files; first of all they hear of the files of both queues. `Listeners`
-    /// makes several listeners one. A listener may hold back a purge, and changes nothing else.
+    /// hook, hear what happens to the log's files, beginning with the files of both queues. A listener can pin files,
+    /// and changes nothing else. `Listeners` makes one listener of several.
     ///
-    /// Fails as `open_with_file_system` does; the listener is dropped then.
+    /// Fails as `open_with_file_system` does, and drops the listener.
     pub fn open_with<R: Threads + Log + Sync>(
         rt: &R,
         alloc: Global,
@@ -171,8 +174,8 @@ impl<F: FileSystem + Sync, E: EventListener> LogEngine<
         }
     }
 
-    /// Opens the log as `open_with` does, but reads it on the caller's thread. So it needs no threads, and a library
-    /// that a C program calls can open a log.
+    /// Opens the log as `open_with` does, but reads it on the caller's thread. It needs no threads, so a library that a
+    /// C program calls can open a log.
     ///
     /// Fails as `open_with` does.
     pub fn open_in_turn<R: Log>(
@@ -210,7 +213,7 @@ impl<F: FileSystem + Sync, E: EventListener> LogEngine<
         }
     }
 
-    /// The directory that holds the log: the first one of Append's files.
+    /// The main directory: the first one of Append's files.
     pub fn path(&self) -> &str
         ensures { result.now ≡ main_directory
             (⟦<ToldPipes<ToldPipes<DualPipes<F>, E>, PurgeHook> as PipeLog>⟧.shown self.now.pipes) }
@@ -221,7 +224,7 @@ impl<F: FileSystem + Sync, E: EventListener> LogEngine<
 
 impl<F: FileSystem + Sync> LogEngine<DualPipes<F>> {
     /// Opens the log as `Engine::open_with_file_system` does, over its pipes alone. There is no listener and no hook,
-    /// so no purge is ever held back (`nobody_holds_back` in `raft_log_dual_pipes`).
+    /// so nothing pins files (`nobody_holds_back` in `raft_log_dual_pipes`).
     ///
     /// Fails as `Engine::open_with_file_system` does.
     pub fn open_alone<R: Threads + Log + Sync>(

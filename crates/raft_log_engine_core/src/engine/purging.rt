@@ -29,22 +29,22 @@ use raft_log_purge::{purge_and_count, rewrite_and_count, rewrite_append_and_coun
 use raft_log_record_base::{Error, FileSeq, Result};
 
 impl<P: PipeLog> LogEngine<P> {
-    /// Purges both queues if they are past the thresholds of the settings:
-    /// - syncs Append;
+    /// Syncs Append, and purges each queue that is past its threshold in the settings:
     /// - compacts Rewrite if enough of it is garbage;
     /// - writes Append's owed tombstones, and rewrites the groups that the rules pick;
-    /// - deletes files, but none of Append that a listener pins.
+    /// - deletes Append's files below the first in use, but none from the first pinned one on.
     ///
-    /// Returns the groups that should be compacted, in ascending order. If nine purges in a row asked for a group by
-    /// the rules for Append, and the next one asks again, that one rewrites it. The map is unchanged, and nothing is
-    /// pending.
+    /// Returns the groups that the caller should compact, in ascending order. If nine purges in a row asked for a group
+    /// by the rules for Append, and the next one asks again, that one rewrites it. The log keeps its contents, and
+    /// nothing is pending.
     ///
     /// If a queue is past its threshold, what is live in Rewrite is counted before and after, which takes time for each
-    /// group: what was written there and is no longer live is garbage. Otherwise this only syncs Append.
+    /// group. What was written there and is no longer live is garbage.
     ///
     /// Fails with `Failed` if the engine has failed, or with the errors of a sync, a rotation, the tombstones, the
-    /// copies, and the deletions. The map is unchanged then, no round is counted, and the old copies of groups that
-    /// were written to Rewrite again count as garbage.
+    /// copies, and the deletions. Then the log keeps its contents, and this purge isn't counted among the nine. The old
+    /// copies of groups that were written to Rewrite again count as garbage. After `Failed`, an open finds the
+    /// contents.
     pub fn purge_expired_files<L: Log>(&mut self, rt: &L) -> Result<Vec<u64>>
         ensures model { FollowsModel ModelPurges result (shows_of P.shown self.old) (shows_of P.shown self.new) }
         ensures ok { IfOk result (λ groups. PurgesAndCounts (PipesHoldBack P.shown P.holds_back Append)
@@ -73,10 +73,11 @@ impl<P: PipeLog> LogEngine<P> {
     }
 
     /// Compacts Rewrite, whatever its size is: syncs Append, writes what is live in Rewrite there again, and deletes
-    /// its old files, pinned or not. The map is unchanged, and nothing is pending.
+    /// its old files, pinned or not. The log keeps its contents, and nothing is pending.
     ///
     /// Fails with `Failed` if the engine has failed, or with the errors of a sync, a rotation, the writes, and the
-    /// deletions. The map is unchanged then, and the old copies of groups that were written again count as garbage.
+    /// deletions. The log keeps its contents then, and the old copies of groups that were written again count as
+    /// garbage.
     pub fn must_rewrite_rewrite_queue<L: Log>(&mut self, rt: &L) -> Result<()>
         ensures model { FollowsModel ModelPurges result (shows_of P.shown self.old) (shows_of P.shown self.new) }
         ensures ok { OnOk result (SyncsAndRewrites self.new.tables
@@ -104,15 +105,15 @@ impl<P: PipeLog> LogEngine<P> {
     }
 
     /// Rewrites Append up to a file, the watermark: at most the last file, which is also the default. Ignores pins.
-    /// - Syncs Append, rotates it if the last file is to be rewritten, and writes the owed tombstones.
-    /// - Rewrites all groups, and syncs Rewrite.
-    /// - Removes the files up to the watermark from Append's live range, and all others below the least in use.
+    /// 1. Syncs Append, rotates it if the last file is to be rewritten, and writes the owed tombstones.
+    /// 2. Copies what all groups have in files up to the watermark to Rewrite, and syncs Rewrite.
+    /// 3. Removes the files up to the watermark from Append's live range, and all others below the first in use.
     ///
-    /// With `exit_after_step` it ends after the first or the second of these steps. The map is unchanged, and nothing
-    /// is pending.
+    /// With `exit_after_step` it ends after step `Some(1)` or `Some(2)`. The log keeps its contents, and nothing is
+    /// pending.
     ///
     /// Fails with `Failed` if the engine has failed, or with the errors of a sync, a rotation, the tombstones, the
-    /// copies, and the deletions: the map is unchanged.
+    /// copies, and the deletions. The log keeps its contents then.
     pub fn must_rewrite_append_queue<L: Log>(
         &mut self,
         rt: &L,
@@ -146,12 +147,11 @@ impl<P: PipeLog> LogEngine<P> {
         )
     }
 
-    /// Removes all files from both queues that have nothing in use: syncs Append and writes the owed tombstones. Then
-    /// rotates each queue and deletes its earlier files, Rewrite first. Ignores pins. The map is unchanged, and nothing
-    /// is pending.
+    /// Syncs Append and writes the owed tombstones. Then rotates each queue, Rewrite first, and deletes its files below
+    /// the first in use. Ignores pins, and copies nothing. The log keeps its contents, and nothing is pending.
     ///
-    /// Fails with `Failed` if the engine has failed, or with the errors of a sync, the tombstones, a rotation, and
-    /// the deletions: the map is unchanged.
+    /// Fails with `Failed` if the engine has failed, or with the errors of a sync, the tombstones, a rotation, and the
+    /// deletions. The log keeps its contents then.
     pub fn must_purge_all_stale<L: Log>(&mut self, rt: &L) -> Result<()>
         ensures model { FollowsModel ModelPurges result (shows_of P.shown self.old) (shows_of P.shown self.new) }
         ensures ok { OnOk result (PurgesAllStale self.new.tables

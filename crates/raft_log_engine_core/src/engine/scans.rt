@@ -17,10 +17,10 @@ use std::alloc::Global;
 impl<P: PipeLog> LogEngine<P> {
     /// Calls back with each key of a group within the bounds and with its value, in the order of the keys' bytes or
     /// backwards. It ends after the first call that returns false. A key is within the bounds if it isn't below the
-    /// start and is below the end, if they are given. It takes time in the keys within the bounds, also in those that
-    /// have no value.
+    /// start and is below the end, if they are given. The time grows with the number of keys within the bounds, also of
+    /// those without a value. The callback must have no precondition.
     ///
-    /// Fails with `Failed` if the engine has failed; then nothing is called.
+    /// Fails with `Failed` if the engine has failed, and then calls nothing.
     pub fn scan_raw_messages<C: FnMut(&[u8], &[u8]) -> bool>(
         &self,
         raft_group_id: u64,
@@ -53,10 +53,10 @@ impl<P: PipeLog> LogEngine<P> {
     /// Calls back with each key of a group within the bounds, and with its value as a message. The keys are in the
     /// order of their bytes, or backwards. The scan ends after the first call that returns false. A key is within the
     /// bounds if it isn't below the start and is below the end, if they are given. A value that isn't a message is
-    /// skipped. The keys and values within the bounds are copied first.
+    /// skipped. The keys and values within the bounds are copied first. The callback must have no precondition.
     ///
-    /// Fails with `Failed` if the engine has failed; then nothing is called. If it fails with `Memory`, some may have
-    /// been called.
+    /// Fails with `Failed` if the engine has failed, and then calls nothing. If it fails with `Memory`, it may have
+    /// called back for some keys.
     pub fn scan_messages<S: Message, C: FnMut(&[u8], S) -> bool>(
         &self,
         raft_group_id: u64,
@@ -82,9 +82,9 @@ impl<P: PipeLog> LogEngine<P> {
         visit(self.alloc, pairs.as_slice(), callback)
     }
 
-    /// Copies of the keys of a group within the bounds, and of their values, in the order of the keys' bytes. A key is
-    /// within the bounds if it isn't below the start and is below the end, if they are given. Fails with `Failed` if
-    /// the engine has failed, or `Memory`.
+    /// Returns copies of the keys of a group within the bounds, and of their values, in the order of the keys' bytes. A
+    /// key is within the bounds if it isn't below the start and is below the end, if they are given. Fails with
+    /// `Failed` if the engine has failed, or `Memory`.
     pub fn pairs_within(
         &self,
         raft_group_id: u64,
@@ -114,7 +114,7 @@ impl<P: PipeLog> LogEngine<P> {
 }
 
 /// Calls back with each key whose value is a message, and with that message, up to the first call that returns false.
-/// Fails only for lack of memory.
+/// Fails only with `Memory`.
 fn visit<S: Message, C: FnMut(&[u8], S) -> bool>(
     alloc: Global,
     pairs: &[(Bytes, Bytes)],
@@ -136,7 +136,7 @@ fn visit<S: Message, C: FnMut(&[u8], S) -> bool>(
     Ok(())
 }
 
-/// The message of these bytes, if they are one. Fails only for lack of memory.
+/// The message of these bytes, if they are one. Fails only with `Memory`.
 fn message_of<S: Message>(alloc: Global, bytes: &[u8]) -> Result<Option<S>>
     ensures ok { IfOk result (λ message. S.reading bytes.now ≡ message) }
     ensures err { IfErr result (λ error. error ≡ errors.Memory) }

@@ -19,10 +19,9 @@ impl<P: PipeLog> LogEngine<P> {
         self.pipes.file_system()
     }
 
-    /// Arms a fault of the file system: it changes which later calls fail, and nothing else. A place that it makes
-    /// unreadable is marked on the disk.
+    /// Arms a fault of the file system, which makes later calls fail. Nothing else of the engine's state changes.
     ///
-    /// Fails with `Io` if it isn't armed: the file system had stopped, or is out of memory.
+    /// Fails with `Io` if the file system has stopped, or memory ran out; then nothing is armed.
     pub fn arm(&mut self, fault: &Fault) -> Result<()>
         ensures ok { OnOk result
             (ArmsEngine fault.now (shows_of P.shown self.old) (shows_of P.shown self.new)) }
@@ -36,7 +35,8 @@ impl<P: PipeLog> LogEngine<P> {
         self.pipes.arm(fault)
     }
 
-    /// The numbers of the first and the last file of a queue. Fails with `Failed` if the engine has failed.
+    /// The numbers of the first and the last file of a queue's live range. Fails with `Failed` if the engine has
+    /// failed.
     pub fn file_span(&self, queue: LogQueue) -> Result<(FileSeq, FileSeq)>
         ensures ok { IfOk result (λ span. TellsSpan queue (P.shown self.now.pipes) span.0 span.1) }
         ensures lived { OnOk result (Lives (shows_of P.shown self.now)) }
@@ -48,8 +48,8 @@ impl<P: PipeLog> LogEngine<P> {
         Ok(self.pipes.file_span(queue))
     }
 
-    /// The size of all files of both queues in bytes, each with the length it is meant to have; at most the greatest
-    /// `usize`. Fails with `Failed` if the engine has failed.
+    /// The size of both queues in bytes, with each file counted at its target size; at most 2^64 - 1. Fails with
+    /// `Failed` if the engine has failed.
     pub fn get_used_size(&self) -> Result<usize>
         ensures ok { IfOk result (λ size. size ≡ used_size (P.shown self.now.pipes)) }
         ensures lived { OnOk result (Lives (shows_of P.shown self.now)) }

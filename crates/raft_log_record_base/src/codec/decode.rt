@@ -1,7 +1,7 @@
 //! Reads fixed numbers from the front of bytes.
 //!
-//! Each function takes just the bytes of its number. If too few bytes are there, it fails with `UnexpectedEof` and
-//! takes none.
+//! Each function consumes the bytes of its number. If there are too few bytes, it fails with `UnexpectedEof` and
+//! consumes none.
 
 ghost use Rattle.std.specs.Prelude.{◌≡◌, ◌<◌, ◌↔◌, [], length, Err};
 ghost use Rattle.std.specs.Int.{w16, w32, w64};

@@ -9,7 +9,7 @@ use std::io::ErrorKind;
 use std::{fmt, io};
 
 /// Why a codec fails. A decoder fails with two kinds of `Io`: `UnexpectedEof` if the bytes end inside a number, and
-/// `InvalidData` if a number doesn't fit 64 bits.
+/// `InvalidData` if a number doesn't fit 64 bits. An encoder fails with the kind of its writer's error.
 #[derive(Clone, Copy, Debug, PartialEq, Eq)]
 pub enum Error {
     Io(ErrorKind),

@@ -20,7 +20,7 @@ use super::error::{BytesSlice, Error, Result};
 use super::signed::from_zigzag;
 use std::io::ErrorKind;
 
-/// The greatest number of bytes that a number has.
+/// The greatest length of a number in bytes.
 pub const MAX_VAR_U64_LEN: usize = 10;
 
 /// How many bytes with the top bit set a number may begin with.
@@ -32,9 +32,9 @@ pub const CONTINUES: u8 = 0x80;
 /// The greatest tenth byte: nine bytes hold 63 bits.
 const GREATEST_LAST: u8 = 1;
 
-/// Reads what `encode_var_u64` writes, and longer spellings of at most ten bytes. Fails with `InvalidData` if nine
-/// bytes have the top bit set and the tenth is above 1. Fails with `UnexpectedEof` if the bytes end before the number
-/// does.
+/// Reads what `encode_var_u64` writes, and longer spellings of at most ten bytes. Fails with `InvalidData` if the first
+/// nine bytes have the top bit set and the tenth is above 1. Fails with `UnexpectedEof` if the bytes end before the
+/// number does. If it fails, it consumes nothing.
 #[inline(always)]
 pub fn decode_var_u64(source: &mut BytesSlice<'_>) -> Result<u64>
     ensures decodes { Decodes IsVarU64 result source.old.now source.new.now }

@@ -25,9 +25,9 @@ KeepsTheMap s t = (home : LogDirectories) (m : LogMap) → RunsOrIsLeft home s m
 abbrev pub map_of : List KeyChange → LogMap
 map_of changes = taken nothing_stands (map said_by changes)
 
--- Keys of a log were changed, and purges succeeded or failed. Then there was a crash, and a key was read. Suppose that
--- there was no log at first, both settings name the same directories, and there is no CRC collision. Then the value
--- read is that of the key after the changes.
+-- A log was opened with the settings `config`, its keys were changed, and purges succeeded or failed. Then there was a
+-- crash, and an open with the settings `again` read a key. Suppose that there was no log at first, both settings name
+-- the same directories, and there is no CRC collision. Then the value read is that of the key after the changes.
 pub record ReadsBehindPurges {F : Type 0} (disk : F → Disk) (tells : F → List ℕ → ℕ → Type 0) (config : Config)
     (changes : List KeyChange) (again : Config) (group : ℕ) (key : List ℕ) (old : F) (found : Option (List ℕ))
     : Type 0 where

@@ -1,5 +1,5 @@
--- The two places of a directory: names in the first one have no sign, names in the second one have a sign. (These
--- lemmas are in `specs` because the law of an impl cites them.)
+-- The two places of a directory (`has_sign`): file names have no plus sign at the first one, and have one at the
+-- second. (These lemmas are in `specs` because the law of an impl cites them.)
 use Rattle.std.proofs.Common.{◌≡◌, ℕ, ◌+◌, ◌-◌, ◌<◌, Bool, true, false, cond, ◌∙◌, ap, arith}
 use Rattle.std.proofs.lemmas.Bool.{lt-leb, le-leb}
 use Rattle.raft_log_active_file.specs.Layout.{has_sign, plain_place}

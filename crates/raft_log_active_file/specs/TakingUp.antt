@@ -59,7 +59,7 @@ IsTrimmed F own base handle (Some end) q path N old new = (front : List ℕ) × 
 IsTrimmed F own base handle None q path N old new = (recent q ≡ [])
     × Stands F own base q path handle.file (λ file. file ≡ at_rest []) N new
 
--- `stale` are the bytes that may follow a file's records: all that it held before, or allocated zeros
+-- `stale` are the file's stale bytes, counted from its start: all its bytes on the disk `d`, or allocated zeros
 abbrev pub IsWhatItHeld : Handle → List ℕ → Disk → Type 0
 IsWhatItHeld handle stale d = HasFile handle.file (λ file. stale ≡ file.content) d
     ⊎ ((room : ℕ) × (stale ≡ grown room []))

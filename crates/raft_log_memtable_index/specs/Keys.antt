@@ -1,4 +1,5 @@
--- The keys of a group in its table: their values, the Dels that the table owes, and which keys have a slot.
+-- The keys of a group in its table: their values, the Dels that the table owes, and for which keys it has a slot
+-- (`KeySlot`), that is, memory for a value and a Del.
 use Rattle.std.specs.Prelude.{◌≡◌, ℕ, Bool, true, false, ◌||◌, List, [], ◌∷◌, Option, Some, None, if◌then◌else◌, is_some, bytes_eq}
 use Rattle.std.specs.Option.{option_or}
 use Rattle.std.specs.Map.{lookup}
@@ -112,8 +113,9 @@ abbrev pub with_slots : Keys → List (List ℕ × KeySlot) → Keys
 with_slots ks [] = ks
 with_slots ks (e ∷ es) = with_slots (with_slot ks e.0 e.1) es
 
--- The keys of a segment, changed by those of a later segment: later values and Dels take precedence. The slots are
--- those of the earlier one.
+-- The keys of a segment, joined with those of a later segment. A key has its later value if there is one. Otherwise it
+-- keeps its earlier value, unless the later segment owes its Del. A Del that either segment owes stays owed. The slots
+-- are those of the earlier segment.
 abbrev pub joined_keys : Keys → Keys → Keys
 joined_keys ks later = record {
   values = λ k. option_or (later.values k) (if later.deleted k then None else ks.values k);

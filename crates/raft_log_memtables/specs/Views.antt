@@ -14,8 +14,8 @@ use Rattle.raft_log_memtable_index.specs.Noted.{AreInFile, AreUpTo, IsLeastInRew
 use Rattle.raft_log_memtable_index.specs.Bridge.{AllOwed, CanAllMove, IsMeant, Located, Move, all_moved, items_of as copies_of, marks, unmarked, without}
 use Rattle.raft_log_memtables.specs.Batch.{MayFollowAll, all_shown, all_written}
 
--- The view of an engine with the tables `v` and the contents `m`. For each slot, it has the file where the slot's
--- content is. For Rewrite, it also has the first file that must be kept to recover that content.
+-- The view of an engine with the tables `v` and the contents `m`. `noted` has the file of each slot's content. If this
+-- is in Rewrite, `noted_in_rewrite` has the first file of Rewrite that must be kept to recover it.
 abbrev pub view_of : {E : Type 0} → (ℕ → Shown) → Map E (List ℕ) → View E (List ℕ)
 view_of v m = record {
   whereabouts = λ g. whereabouts (v g);

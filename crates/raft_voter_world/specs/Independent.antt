@@ -53,8 +53,8 @@ abbrev pub replies_alone : State → List Request → List Reply
 replies_alone v [] = []
 replies_alone v (q ∷ qs) = reply v q ∷ replies_alone (next v q) qs
 
--- Each group got the replies of its voter in world `W` to this group's requests alone, out of these rounds. In world
--- `X` the group has that voter after these requests.
+-- `told` has the replies to these rounds. Each group's replies are those that its voter in world `W` gives if it gets
+-- that group's requests alone. In world `X` the group has that voter after these requests.
 pub record AreIndependent (W : World) (rounds : List (List (ℕ × Request))) (told : List (List Reply)) (X : World)
     : Type 0 where
   pub replies : (g : ℕ) → told_in g rounds told ≡ replies_alone (W g) (asked_in g rounds)

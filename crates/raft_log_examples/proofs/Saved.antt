@@ -1,9 +1,14 @@
 -- A key that is put in a log has its value there.
 use Rattle.std.proofs.Common.{◌≡◌, ◌==◌, ℕ, Bool, true, false, List, [], ◌∷◌, ◌++◌, Option, Some, None, inl, inr, refl, sym, ap, ◌∙◌, arith, if◌then◌else◌}
+use Rattle.std.specs.Global.{Vec}
 use Rattle.std.specs.Prelude.{IsTrue, OnOk, Ok, Result, option_map, unwrap_or}
 use Rattle.std.proofs.Common.{subst}
 use Rattle.std.proofs.lemmas.Bool.{false≢true}
+use Rattle.raft_log_world.specs.Model.{Adds, ModelLog}
+use Rattle.raft_log_world.specs.Reads.{bytes_of}
+use Rattle.raft_log_engine.specs.raft_log_engine_core.specs.ModelCalls.{FollowsModel, IsEngineLog, IsValueOf, ModelReads, ModelWrites}
 use Rattle.raft_log_engine.specs.raft_log_model_laws.specs.Groups.{taken}
+use Rattle.raft_log_engine.specs.raft_log_model_laws.specs.Item.{items_of}
 use Rattle.raft_log_engine.specs.raft_log_model_laws.specs.Item.Record.{Plain}
 use Rattle.raft_log_engine.specs.raft_log_model_laws.specs.Item.Item.{Put}
 use Rattle.raft_log_engine.specs.raft_log_model_laws.specs.Meaning.{Content, says}
@@ -65,14 +70,21 @@ unfolding value_in
 is_value v (Some w) same = ap Some (sym (ap value_in same))
 is_value v None same = absurd (let clash : Some (Value v) ≡ None = same in let never : ⊥ = cc in never)
 
--- what is read behind the write is the value
-pub saved_value : (b : Batch) (g : ℕ) (k v : List ℕ) (s t : EngineState) (found : Option (List ℕ)) → is_internal k ≡ false → b.items ≡ put_item g k v ∷ [] → Writes b true s t → ReadsValue t g k found
-    → (home : LogDirectories) (m : LogMap) → Represents home s m [] → found ≡ Some v
-saved_value b g k v s t found own items writes reads home m h =
+-- a record with items that was written durably is in the contents
+added : (home : LogDirectories) (t : EngineState) (m : LogMap) (r : LogRecordValue) (log : ModelLog) → (items_of r ≡ [] → ⊥) → Adds true m [] r log → IsEngineLog home t log → Represents home t (taken m (r ∷ [])) []
+added home t m r log some (inl now) at = subst (IsEngineLog home t) now at
+added home t m r log some (inr none) at = absurd (some none.0)
+
+-- In the words of the model, what is read after the write is the value.
+pub saved_value : (b : Batch) (g : ℕ) (k v : List ℕ) (len : ℕ) (s t : EngineState) (value : Option (Vec ℕ)) → is_internal k ≡ false → b.items ≡ put_item g k v ∷ []
+    → FollowsModel (ModelWrites b true) (Ok len) s t → FollowsModel (ModelReads (IsValueOf g k)) (Ok value) t t → (home : LogDirectories) (m : LogMap) → Represents home s m [] → bytes_of value ≡ Some v
+saved_value b g k v len s t value own items writes reads home m h =
     let says_it : said_of b ≡ Plain (record { group = g; item = Put k v } ∷ []) =
     ap (λ l. unwrap_or (record_of (entry_bytes b.entries) l) (Plain [])) items ∙ put_said (entry_bytes b.entries) g k v own in
-    let told = reads.exact home (taken m (said_of b ∷ [])) [] (writes.synced refl home m [] h) in
-    is_value v found (sym (stands m g k v) ∙ ap (λ (r : LogRecordValue). taken m (r ∷ []) g (Key k)) (sym says_it) ∙ told)
+    let some : items_of (said_of b) ≡ [] → ⊥ = λ none. (let clash : items_of {V = List ℕ} (Plain (record { group = g; item = Put k v } ∷ [])) ≡ [] = sym (ap items_of says_it) ∙ none in let never : ⊥ = cc in never) in
+    let (log, adds, at) = writes.runs home m [] h in
+    let (same, told, there) = reads.runs home (taken m (said_of b ∷ [])) [] (added home t m (said_of b) log some adds at) in
+    is_value v (bytes_of value) (sym (stands m g k v) ∙ ap (λ (r : LogRecordValue). taken m (r ∷ []) g (Key k)) (sym says_it) ∙ told.0)
 
 -- a batch that was put into when it was empty
 pub only_put : (old new : Batch) (g : ℕ) (k v : List ℕ) → old ≡ empty_batch 0 0 → Puts old new g k v → new.items ≡ put_item g k v ∷ []
@@ -87,10 +99,11 @@ pub of_ok : (came : Result (Unit {0}) Error) (v : Unit {0}) (P : Type 0) → cam
 of_ok came v P is holds = subst (λ (r : Result (Unit {0}) Error). OnOk r P) is holds
 
 -- opened, written, read, closed
-module _ {F : Type 0} (disk : F → Disk) (tells : F → List ℕ → ℕ → Type 0) (config : Config) (g : ℕ) (k v : List ℕ) (old new : F) (found : Option (List ℕ)) where
+module _ {F : Type 0} (disk : F → Disk) (tells : F → List ℕ → ℕ → Type 0) (config : Config) (g : ℕ) (k v : List ℕ) (old new : F) (value : Option (Vec ℕ)) where
   pub saves_in_log : (pipes : LogPipes) (tables : MemTables) (cache : BlockCache) (b : Batch) (len : ℕ) (t : EngineState) → OpensDirectory disk tells config old pipes tables → is_internal k ≡ false → b.items ≡ put_item g k v ∷ []
-      → WritesBytes b true len (shows pipes tables cache) t → ReadsValue t g k found → ClosesSettled t.pipes (disk new) → SavesInLog disk tells config g k v old new found
-  saves_in_log pipes tables cache b len t opens own items wrote reads closes = elim wrote [
+      → WritesBytes b true len (shows pipes tables cache) t → FollowsModel (ModelWrites b true) (Ok len) (shows pipes tables cache) t → ReadsValue t g k (bytes_of value) → FollowsModel (ModelReads (IsValueOf g k)) (Ok value) t t
+      → ClosesSettled t.pipes (disk new) → SavesInLog disk tells config g k v old new (bytes_of value)
+  saves_in_log pipes tables cache b len t opens own items wrote writes reads told closes = elim wrote [
     | inl none ↦ absurd (some_items b g k v items none.0)
     | inr some ↦ record {
       pipes = pipes;
@@ -103,6 +116,6 @@ module _ {F : Type 0} (disk : F → Disk) (tells : F → List ℕ → ℕ → Ty
       writes = some.1;
       reads = reads;
       closes = closes;
-      same = saved_value b g k v (shows pipes tables cache) t found own items some.1 reads;
+      same = saved_value b g k v len (shows pipes tables cache) t value own items writes told;
     }
   ]

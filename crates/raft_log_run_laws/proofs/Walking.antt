@@ -126,6 +126,6 @@ module _ {S G C : Type 0} (p : Parts S G) (losses : LossesLeaveNoChance) (closed
       let (last, explains, ended) = walked (Closed files) run.moments (resting m) (refl, rests) (rests, tt) run.explained quiet in (
         last,
         subst (λ (es : List (Event Batch C)). Explains said_of (resting m) es report.answers.items last) run.played
-        (subst (λ (answers : List Answer). Explains said_of (resting m) (map (λ x. x.event) run.moments) answers last) run.told explains),
+            (subst (λ (answers : List Answer). Explains said_of (resting m) (map (λ x. x.event) run.moments) answers last) run.told explains),
         subst (λ (at : Storage S G). Stands {C = C} (engine_log p) at last) run.ended ended,
       )

@@ -36,12 +36,6 @@ ReadsAllChanges disk first second last before after group key old found = IsBare
     → home_of second ≡ home_of first → home_of last ≡ home_of first
     → found ≡ value_behind group key (before ++ after) None
 
--- A proper close leaves no CRC collision in the active files, whatever the log's contents and pending batches are.
-abbrev pub ProperClosesLeaveNoChance : Type 0
-ProperClosesLeaveNoChance = (home : LogDirectories) (e : EngineState) (m : LogMap) (pending : List LogRecordValue) (d : Disk)
-    → IsSound e.pipes.disk → Represents home e m pending → ClosesProperly e.pipes d
-    → ClosesWithoutChance home e.pipes d
-
 -- What a close left of the pipe's active file has all that the pipe wrote to it, which are whole records, and then
 -- another record of the file. No unsynced write was asked to write that record there.
 pub record LeavesForeignBehind (F : Format LogRecord) (files : PipeFiles) (old new : Disk) : Type 0 where

@@ -5,9 +5,7 @@ mod Foreign
 mod Kept
 mod Lived
 mod Purged
-mod Reopened
 mod Said
-mod Saved
 pub mod Served
 mod Steps
 mod Valued

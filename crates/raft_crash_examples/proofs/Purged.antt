@@ -20,9 +20,8 @@ use Rattle.raft_crash_examples.specs.Keys.{value_behind}
 use Rattle.raft_crash_examples.specs.Lives.{OpensAndChanges}
 use Rattle.raft_crash_examples.specs.Purging.{KeepsTheMap, ReadsBehindPurges, map_of}
 use Rattle.raft_crash_examples.specs.Saving.{Loads}
-use Rattle.raft_crash_examples.proofs.Lived.{nothing_yet}
-use Rattle.raft_crash_examples.proofs.Steps.{changed, crashed_whole, told}
-use Rattle.raft_crash_examples.proofs.Valued.{behind, one_value}
+use Rattle.raft_crash_examples.proofs.Lived.{nothing_yet, reads}
+use Rattle.raft_crash_examples.proofs.Steps.{changed, crashed_whole}
 
 -- which log the engine has after a purge
 left_with : {A : Type 0} (r : Result A Error) (m : LogMap) (next : ModelLog) → ModelPurges r m [] next → IsOpenWith m [] next
@@ -52,8 +51,7 @@ module _ {F : Type 0} (disk : F → Disk) (tells : F → List ℕ → ℕ → Ty
       let h = purges (home_of config) m (record { log = running m []; is = holds; has = inl refl }) in (
         h,
         λ chance.
-            let ready = crashed_whole disk tells laws config engine left crashes m h.log h.has h.is chance in
-            one_value m g k found (value_behind g k changes None) (told disk tells laws config again left m g k found same ready loads) (behind changes nothing_stands g k None refl),
+            reads disk tells laws config again changes g k left found same (crashed_whole disk tells laws config engine left crashes m h.log h.has h.is chance) loads,
       )
 
   pub reads_behind_purges : ReadsBehindPurges disk tells config changes again g k old found

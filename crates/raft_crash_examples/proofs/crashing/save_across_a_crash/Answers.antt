@@ -1,5 +1,5 @@
 use Rattle.std.proofs.lemmas.Result.{IfOk-weaker}
-use Rattle.raft_crash_examples.proofs.Saved.{saves_across}
+use Rattle.raft_crash_examples.proofs.Lived.{saves_across}
 use Rattle.raft_crash_examples.proofs.crashing.save_across_a_crash.Goals as goal
 
 pub returns : goal.returns

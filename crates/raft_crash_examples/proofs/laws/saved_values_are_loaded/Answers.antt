@@ -1,4 +1,4 @@
-use Rattle.raft_crash_examples.proofs.Saved.{saved_values_are_loaded}
+use Rattle.raft_crash_examples.proofs.Lived.{saved_values_are_loaded}
 use Rattle.raft_crash_examples.proofs.laws.saved_values_are_loaded.Goals as goal
 
 pub returns : goal.returns

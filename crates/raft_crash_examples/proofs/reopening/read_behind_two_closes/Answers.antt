@@ -1,5 +1,5 @@
 use Rattle.std.proofs.lemmas.Result.{IfOk-weaker}
-use Rattle.raft_crash_examples.proofs.Reopened.{reads_all_changes}
+use Rattle.raft_crash_examples.proofs.Lived.{reads_all_changes}
 use Rattle.raft_crash_examples.proofs.reopening.read_behind_two_closes.Goals as goal
 
 pub returns : goal.returns

@@ -26,8 +26,8 @@ abbrev pub said_by_both : KeyChange → KeyChange → LogRecordValue
 said_by_both one other = Plain (record { group = one.group; item = word_of one.key.items one.value }
     ∷ record { group = other.group; item = word_of other.key.items other.value } ∷ [])
 
--- The log had the contents `m` before a write of the batch, which succeeded if `answered` is true.
--- - `either`: now the log has `m` without the batch, or with it; or the engine has failed, and the batch is pending.
+-- The log had the contents `m` before a write of the batch. Now it is `log`. The write succeeded if `answered` is true.
+-- - `either`: the log has `m` without the batch, or with it; or the engine has failed, and the batch is pending.
 -- - `has`: if the write succeeded, the log has `m` with the batch, durably.
 pub record MayHave (answered : Bool) (m : LogMap) (batch : LogRecordValue) (log : ModelLog) : Type 0 where
   pub either : IsOpenWith m [] log ⊎ (log ≡ running (taken m (batch ∷ [])) []) ⊎ (log ≡ failed m (batch ∷ []))

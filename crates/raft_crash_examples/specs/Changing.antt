@@ -36,8 +36,8 @@ pub record AddsChange (c : KeyChange) (old new : Batch) : Type 0 where
   pub filling : new.state ≡ old.state
   pub users : is_internal c.key.items ≡ false
 
--- A batch was written as this record, and synced if `sync` is true. If the log had the contents `m`, with nothing
--- pending, the record is now durable, or pending after `m`. With a sync it is durable.
+-- A batch was written as the record `written`, with a sync if `sync` is true. If the log had the contents `m`, with
+-- nothing pending, the record is now durable, or pending after `m`. With a sync it is durable.
 abbrev pub WritesRecord : LogRecordValue → Bool → EngineState → EngineState → Type 0
 WritesRecord written sync s t = (home : LogDirectories) (m : LogMap) → Represents home s m []
     → (next : ModelLog) × HasWritten sync m (written ∷ []) next × IsEngineLog home t next

@@ -1,4 +1,4 @@
--- Opening a log, and then doing something with the engine.
+-- Opening a log, and what is then done with the engine.
 use Rattle.std.specs.Prelude.{◌≡◌, ℕ, List, None}
 use Rattle.raft_log_engine.specs.raft_log_fs.specs.Disk.{Disk}
 use Rattle.raft_log_engine.specs.raft_log_file_settings.specs.declared.config.Config.{Config}
@@ -18,7 +18,7 @@ pub record Opens {F : Type 0} (disk : F → Disk) (tells : F → List ℕ → �
   pub opens : OpensDirectory disk tells config old pipes tables
   pub is : engine ≡ shows pipes tables cache
 
--- The log of these settings was opened, and then `does` was done with the engine.
+-- The log of these settings was opened as the engine `opened`, and then `does` holds of this engine.
 pub record OpensAnd {F : Type 0} (disk : F → Disk) (tells : F → List ℕ → ℕ → Type 0) (config : Config) (old : F)
     (does : EngineState → Type 0) : Type 0 where
   pub opened : EngineState

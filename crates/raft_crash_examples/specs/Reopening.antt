@@ -1,5 +1,4 @@
--- A log that is opened, changed and closed properly, and then opened again. This needs no premise on CRC collisions.
--- `disk` gives the disk of a file system's state, and `tells` which sizes it may return as a directory's free space.
+-- A log that is opened, changed and closed properly, and then opened again. Nothing is asked of chance.
 use Rattle.std.specs.Prelude.{◌≡◌, ◌⊎◌, ℕ, ◌+◌, Some, None, List, ◌++◌, length, Option}
 use Rattle.raft_log_file_writer.specs.LawsChains.{AreFrames, Written, spelled}
 use Rattle.raft_log_file_writer.specs.KeepsSynced.{IsHandedIn}
@@ -37,14 +36,8 @@ ReadsAllChanges disk first second last before after group key old found = IsBare
     → home_of second ≡ home_of first → home_of last ≡ home_of first
     → found ≡ value_behind group key (before ++ after) None
 
--- A proper close leaves no CRC collision in the active files, whatever the log's contents and pending batches are.
-abbrev pub ProperClosesLeaveNoChance : Type 0
-ProperClosesLeaveNoChance = (home : LogDirectories) (e : EngineState) (m : LogMap) (pending : List LogRecordValue) (d : Disk)
-    → IsSound e.pipes.disk → Represents home e m pending → ClosesProperly e.pipes d
-    → ClosesWithoutChance home e.pipes d
-
--- After a close, the pipe's active file has its header, the whole records that the pipe wrote, and then another record
--- of this file. No unsynced write of the file passed this other record there.
+-- What a close left of the pipe's active file has all that the pipe wrote to it, which are whole records, and then
+-- another record of the file. No unsynced write was asked to write that record there.
 pub record LeavesForeignBehind (F : Format LogRecord) (files : PipeFiles) (old new : Disk) : Type 0 where
   pub before : File
   pub was : old.files files.writer.handle.file ≡ Some before
@@ -63,8 +56,7 @@ pub record LeavesForeignBehind (F : Format LogRecord) (files : PipeFiles) (old n
   pub are : file.content ≡ active_header files ++ (spelled own ++ (foreign.bytes ++ behind))
   pub unhanded : IsHandedIn file.changes (length (active_header files) + length (spelled own)) foreign.bytes → ⊥
 
--- If a close leaves a record as in `LeavesForeignBehind` in either queue, the premise on CRC collisions
--- (`ClosesWithoutChance`) fails. A close that fails may leave such a record in a recycled file.
+-- If a close leaves such a record in either queue, as one that fails may over a recycled file, there is a CRC collision.
 abbrev pub ForeignRecordsBehindACloseAreChance : Type 0
 ForeignRecordsBehindACloseAreChance = (home : LogDirectories) (e : EngineState) (m : LogMap) (pending : List LogRecordValue)
     → Represents home e m pending → (d : Disk)

@@ -18,8 +18,7 @@ use std::alloc::Global;
 use std::marker::Send;
 use std::thread::Threads;
 
-/// The files of a queue that a scan found, open, in the order of their numbers, and the results of a recovery for
-/// them.
+/// The files of a queue that a scan found, open, in the order of their numbers, and the results of a recovery for them.
 #[derive(Drop, Debug)]
 pub struct RecoveredQueue {
     /// The files.

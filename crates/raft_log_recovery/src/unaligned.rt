@@ -19,8 +19,7 @@ pub(crate) fn have_no_padding(endings: &[FileEnding]) -> bool
     true
 }
 
-/// The error if a file has an alignment: `InvalidArgument`, or `Memory` if there is no memory for
-/// its text.
+/// The error if a file has an alignment: `InvalidArgument`, or `Memory` if there is no memory for its text.
 pub(crate) fn aligned(alloc: Global) -> Error
     ensures { TellsAligned result }
 {

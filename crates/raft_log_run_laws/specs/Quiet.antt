@@ -48,9 +48,9 @@ abbrev pub AllQuiet : {S G C : Type 0} → Parts S G → Storage S G → List (M
 AllQuiet p at [] = Unit {0}
 AllQuiet p at (m ∷ ms) = IsQuiet p at m.event m.answer m.now × AllQuiet p m.now ms
 
--- Suppose that the files with which a run begins are a log at rest with the contents `m`, and each moment is quiet. Then
--- the model explains the report's answers, without a premise on CRC collisions. What is left is the log that the model
--- has become.
+-- Suppose that a run begins with files that are a log at rest with the contents `m`, and each moment is quiet. Then the
+-- model explains the report's answers, without a premise on CRC collisions. What is left is the log that the model has
+-- become.
 abbrev pub QuietRunsAskNothing : {S G : Type 0} → Type 0 → Parts S G → Type 0
 QuietRunsAskNothing {S} {G} C p = (files : G) (events : List (Event Batch C)) (report : LogReport S G)
     → (run : IsLogRun (engine_log p) files events report) → (m : Contents)

@@ -1,30 +1,13 @@
--- What is told of a group's keys, and of the groups.
-use Rattle.std.proofs.Common.{◌≡◌, ◌↔◌, ◌==◌, ◌||◌, ◌&&◌, ◌++◌, ℕ, suc, Bool, true, false, List, [], ◌∷◌, length, Option, None, refl, sym, ap, subst, ◌∙◌, arith, if◌then◌else◌}
-use Rattle.std.specs.List.{list_any}
+-- What is told of a group's keys.
+use Rattle.std.proofs.Common.{◌≡◌, ◌&&◌, ◌++◌, ℕ, Bool, true, false, List, [], Option, None, refl, sym, ap, subst, ◌∙◌, if◌then◌else◌}
 use Rattle.std.specs.List.Sorted.{IsStrictlySortedBy}
-use Rattle.std.proofs.lemmas.Bool.{false≢true}
 use Rattle.raft_log_memtable_index.specs.Listing.{AddsAll, ListsAll, Visits, in_direction, is_below, is_from, values_within}
 use Rattle.raft_log_memtable_index.specs.Bridge.{bytes_held}
 use Rattle.raft_log_memtable_index.specs.Shown.{Shown, nothing_shown}
-use Rattle.raft_log_memtables.specs.Walking.{ListsGroups}
 use Rattle.raft_log_purge.specs.raft_log_engine_laws.specs.EngineState.{EngineState}
 use Rattle.raft_log_purge.specs.raft_log_engine_laws.specs.Reading.{ReadsKeys}
 use Rattle.raft_log_purge.specs.raft_log_engine_laws.proofs.Reading.{tables_tell}
-use Rattle.raft_log_engine_core.specs.Reads.{NoneCounts, ScansKeys}
-
-itself : (n : ℕ) → (n == n) ≡ true
-itself n = grind (arith)
-
-some_left : (n : ℕ) → (suc n == 0 ≡ true) → ⊥
-some_left n is = grind (arith, is)
-
--- no group is listed exactly where none counts
-pub none_listed : (test : ℕ → Bool) (gs : List ℕ) → ListsGroups test gs → (length gs == 0 ≡ true) ↔ NoneCounts test
-none_listed test [] lists = (λ zero g. sym (lists.exact g), λ none. refl)
-none_listed test (x ∷ xs) lists = (
-  λ zero. absurd (some_left (length xs) zero),
-  λ none. absurd (false≢true (sym (none x) ∙ sym (lists.exact x) ∙ ap (λ (t : Bool). t || list_any (λ k. k == x) xs) (itself x))),
-)
+use Rattle.raft_log_engine_core.specs.Reads.{ScansKeys}
 
 -- of a group of which nothing shows there are no keys
 none_within : (start end : Option (List ℕ)) (k : List ℕ) → ◌≡◌ {A = Option (List ℕ)} None (values_within start end nothing_shown k)

@@ -6,6 +6,7 @@ use Rattle.std.specs.Map.{keys_of}
 use Rattle.std.specs.Ordering.{nat_cmp}
 use Rattle.std.specs.declared.cmp.Ordering.TheVariants.{Less}
 use Rattle.raft_log_memtables.specs.declared.group_table.GroupTable.{GroupTable}
+use Rattle.raft_log_memtables.specs.Tables.{counts_in}
 use Rattle.raft_log_memtables.specs.Walking.{listed_in, ListsGroups}
 use Rattle.raft_log_memtables.proofs.Ready.{by_group, same_or_apart}
 use Rattle.raft_log_memtables.proofs.Segments.{AllOnce, found, found_first, found_later}
@@ -79,3 +80,26 @@ all_known es once sorted =
     same : (o : Option GroupTable) → listed_in true o ≡ is_some o
     same None = refl
     same (Some t) = refl
+
+-- No group counts if none is listed.
+
+same_counts : (o : Option GroupTable) → listed_in false o ≡ counts_in o
+same_counts None = refl
+same_counts (Some t) = refl
+
+pub none_counts : (es : List (ℕ × GroupTable)) → AllOnce es → group_list false es ≡ [] → (g : ℕ) → counts_in (found es g) ≡ false
+none_counts es once none g =
+    sym (same_counts (found es g)) ∙ sym (listed_exactly false es once g) ∙ ap (λ (gs : List ℕ). list_any (λ k. k == g) gs) none
+
+pub one_counts : (es : List (ℕ × GroupTable)) (k : ℕ) (rest : List ℕ) → AllOnce es → group_list false es ≡ k ∷ rest → counts_in (found es k) ≡ true
+one_counts es k rest once is =
+    sym (same_counts (found es k)) ∙ sym (listed_exactly false es once k) ∙ ap (λ (gs : List ℕ). list_any (λ j. j == k) gs) is
+    ∙ ap (λ (t : Bool). t || list_any (λ j. j == k) rest) (itself k)
+
+-- the first table is of a group that counts
+pub counts_first : (es : List (ℕ × GroupTable)) (e : ℕ × GroupTable) (next : List (ℕ × GroupTable)) → e.1.counts ≡ true → group_list false (e ∷ next) ≡ group_list false es → group_list false es ≡ e.0 ∷ group_list false next
+counts_first es e next one is = sym is ∙ ap (λ (b : Bool). with_listed e.0 b (group_list false next)) one
+
+-- the first table is of a group that doesn't count
+pub counts_later : (es : List (ℕ × GroupTable)) (e : ℕ × GroupTable) (next : List (ℕ × GroupTable)) → e.1.counts ≡ false → group_list false (e ∷ next) ≡ group_list false es → group_list false next ≡ group_list false es
+counts_later es e next none is = sym (ap (λ (b : Bool). with_listed e.0 b (group_list false next)) none) ∙ is

@@ -60,8 +60,8 @@ rewritten_owes thresholds old new before after false s t (leaves, tables, same, 
 purged_well : (thresholds : Thresholds) (held : Option ℕ) (restated : Bool) (before after : MemTables) (old new : Rounds) (groups : List ℕ) (s t : EngineState) → PurgesIfPast thresholds held restated before after old new groups s t → GoesWell s t
 purged_well thresholds held restated before after old new groups s t (inl (takes, purges)) = record {
   alive = λ lived. purges.rewrites.alive;
-  later = purges.rewrites.later;
-  holds = λ home log h. settled_held home t log (purges.rewrites.settles home log h);
+  later = later_on s.pipes.disk purges.freed.pipes.disk t.pipes.disk purges.deletes.later purges.rewrites.later;
+  holds = λ home log h. settled_held home t log (purges.rewrites.settles home log (purges.deletes.keeps home log h));
 }
 purged_well thresholds held restated before after old new groups s t (inr (leaves, lets)) = subst (GoesWell s) (sym lets.same) (goes_nowhere s)
 

@@ -1,5 +1,4 @@
 pub mod Coming
-pub mod DeletedFirst
 pub mod Expiring
 pub mod Free
 pub mod Groups

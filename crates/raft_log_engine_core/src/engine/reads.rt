@@ -96,16 +96,16 @@ impl<P: PipeLog> LogEngine<P> {
         }
     }
 
-    /// Whether no group took anything since it was last cleaned. Lists the groups, so it fails with `Failed` if the
-    /// engine has failed, or `Memory`.
+    /// Whether no group took anything since it was last cleaned. Takes no memory. Fails with `Failed` if the engine has
+    /// failed.
     pub fn is_empty(&self) -> Result<bool>
         ensures ok { IfOk result (λ empty. IsTrue empty ↔ NoneCounts (counts self.now.tables)) }
         ensures lived { OnOk result (Lives (shows_of P.shown self.now)) }
-        ensures err { IfErr result (IsUncopied (shows_of P.shown self.now)) }
+        ensures err { IfErr result (IsFailed (shows_of P.shown self.now)) }
     {
-        match self.raft_groups() {
-            Ok(groups) => Ok(groups.is_empty()),
-            Err(error) => Err(error),
+        if self.is_failed() {
+            return Err(Error::Failed);
         }
+        Ok(self.tables.is_empty())
     }
 }

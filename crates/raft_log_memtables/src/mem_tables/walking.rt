@@ -1,5 +1,5 @@
 //! Walks the groups that have a table, in the order of their numbers.
-ghost use Rattle.std.specs.Prelude.{◌≡◌, ◌⊎◌, ◌≤◌, ℕ, Some, option_copied, IfOk};
+ghost use Rattle.std.specs.Prelude.{◌≡◌, ◌⊎◌, ◌↔◌, ◌≤◌, ℕ, false, Some, option_copied, IfOk, IsTrue};
 ghost use Rattle.std.specs.BTreeMap.{keys};
 ghost use Rattle.std.specs.List.Sorted.{IsStrictlySortedBy};
 ghost use Rattle.std.specs.Ordering.{nat_cmp};
@@ -20,6 +20,18 @@ impl MemTables {
         ensures { IfOk result (λ groups. ListsGroups (counts self.now) groups.items) }
     {
         self.list_groups(false)
+    }
+
+    /// Whether no group counts. It takes one walk over the groups at most, and no memory.
+    pub fn is_empty(&self) -> bool
+        ensures { IsTrue result ↔ ((group : ℕ) → counts self.now group ≡ false) }
+    {
+        for (_, table) in self.groups.iter() {
+            if table.counts {
+                return false;
+            }
+        }
+        true
     }
 
     /// The numbers of all groups that have a table, in ascending order. They include groups that were cleaned, whose

@@ -1,5 +1,5 @@
 -- Append is purged by the rules: its exits, put together of what each part told.
-use Rattle.std.proofs.Common.{◌≡◌, ◌==◌, ◌<◌, ◌≤◌, ℕ, max, Bool, true, false, List, [], ◌∷◌, length, Option, None, inl, inr, refl, sym, subst, ◌∙◌, arith}
+use Rattle.std.proofs.Common.{◌≡◌, ◌==◌, ◌<◌, ◌≤◌, ℕ, suc, max, Bool, true, false, List, [], ◌∷◌, length, Option, None, inl, inr, refl, sym, subst, ◌∙◌, arith}
 use Rattle.std.specs.Prelude.{Result, Ok, Err, IfErr, OnOk}
 use Rattle.std.proofs.lemmas.Bool.{false≢true}
 use Rattle.raft_log_model_laws.specs.Groups.{of_group}
@@ -11,8 +11,7 @@ use Rattle.raft_log_record_items.specs.declared.item.LogItem.{LogItem}
 use Rattle.raft_log_record_frames.specs.Meaning.{tagged_items}
 use Rattle.raft_log_machine_laws.specs.Calls.Which.{InAppend, InRewrite}
 use Rattle.raft_log_machine_laws.specs.Whereabouts.{OwesNothing}
-use Rattle.raft_log_memtable_index.specs.Bridge.{whereabouts}
-use Rattle.raft_log_memtable_index.specs.Shown.{Shown}
+use Rattle.raft_log_memtable_index.specs.Shown.{Shown, whereabouts}
 use Rattle.raft_log_memtable.proofs.Leasts.{front_is_least}
 use Rattle.raft_log_memtables.specs.declared.mem_tables.MemTables.{MemTables}
 use Rattle.raft_log_memtables.specs.Owing.{AreOwed, AreOwedAt}
@@ -106,10 +105,13 @@ module _ (held : Option ℕ) (least : ℕ) (m : MemTables) (v : LogPipes) (old :
 
 -- Files go before anything is written.
 
+some_left : (n : ℕ) → (suc n == 0 ≡ true) → ⊥
+some_left n is = grind (arith, is)
+
 -- a list is empty exactly if its length is 0
 pub is_none : {A : Type 0} (xs : List A) (b : Bool) → b ≡ (length xs == 0) → (b ≡ true → xs ≡ []) × (b ≡ false → xs ≡ [] → ⊥)
 is_none [] b is = (λ empty. refl, λ full none. false≢true (sym full ∙ is))
-is_none (x ∷ xs) b is = (λ empty. absurd (false≢true (sym is ∙ empty)), λ full none. (let never : ⊥ = cc in never))
+is_none (x ∷ xs) b is = (λ empty. absurd (some_left (length xs) (sym is ∙ empty)), λ full none. (let never : ⊥ = cc in never))
 
 -- no tombstone is owed
 pub owes_nothing : (m : MemTables) (marks : List LogItem) → AreOwed m marks → marks ≡ [] → OweNothing (shown_of m)

@@ -1,10 +1,12 @@
 -- The voters of a store's second life are those that its first life left.
-use Rattle.std.proofs.Common.{◌≡◌, ◌∙◌, ℕ, true, false, List, [], ◌∷◌, ◌++◌, length, None, refl, sym, ap, subst, arith, append-nil}
+use Rattle.std.proofs.Common.{◌≡◌, ◌∙◌, ℕ, false, List, [], ◌∷◌, ◌++◌, None, refl, sym, ap, subst, arith, append-nil}
 use Rattle.std.specs.Prelude.{Contains}
 use Rattle.std.proofs.Math.Logic.{∥∥₁_elim}
 use Rattle.std.proofs.Props.{props}
 use Rattle.raft_log_fs.specs.Disk.{Disk}
 use Rattle.raft_log_fs.specs.Image.{IsSound}
+use Rattle.raft_log_engine.specs.raft_log_fs_memory.specs.Memory.{disk_of}
+use Rattle.raft_log_engine.specs.raft_log_fs_memory.specs.declared.memory.MemoryFileSystem.{MemoryFileSystem}
 use Rattle.raft_log_record_base.specs.declared.pipe_log.LogQueue.TheVariants.{Append}
 use Rattle.raft_log_file_settings.specs.declared.config.Config.{Config}
 use Rattle.raft_log_file_settings.specs.Settings.{Settings, directories_of, settings_of}
@@ -105,3 +107,14 @@ module _ {F : Type 0} (disk : F → Disk) (tells : F → List ℕ → ℕ → Ty
       let at = begins first config old shared (sound old) bare life in
       first_life_shown lead each shared.journal.items voters (life.shares.legal fresh_world at)
       (listed_after closed told fresh_world life.store shared life.shares at found (sound found) either voters lists)
+
+-- what stands in a file system in memory is sound
+pub memory_sound : (system : MemoryFileSystem) → IsSound (disk_of system)
+memory_sound system = let storage = system.whole.sound in record {
+  named = storage.named;
+  one_name = storage.one_name;
+  apart = storage.apart;
+  home = storage.home;
+  fresh = storage.fresh;
+  files = storage.files;
+}

@@ -1,14 +1,14 @@
 -- The receipts of two threads are right for the journal, so each has a record of its own.
-use Rattle.std.proofs.Common.{◌≡◌, ◌∙◌, ℕ, ◌-◌, ◌<◌, ◌==◌, ◌||◌, true, false, List, [], ◌∷◌, ◌++◌, length, Option, Some, Result, Ok, Err, refl, sym, ap, subst, arith}
+use Rattle.std.proofs.Common.{◌≡◌, ◌∙◌, ℕ, ◌==◌, true, false, List, [], ◌∷◌, ◌++◌, Some, Result, Ok, Err, refl, sym, ap, subst, arith}
 use Rattle.std.specs.Prelude.{slice_get}
 use Rattle.std.proofs.lemmas.Bool.{false≢true}
 use Rattle.std.proofs.lemmas.Bool.Decides.{nat_tests}
 use Rattle.raft_voter_messages.specs.declared.request.Request.{Request}
 use Rattle.raft_voter_messages.specs.declared.round.Round.{Round}
-use Rattle.raft_voter_shared.specs.Receipts.{AllRight, IsRight, clash, clashes}
+use Rattle.raft_voter_shared.specs.Receipts.{AllRight, IsRight, clashes}
 use Rattle.raft_voter_rounds.specs.declared.receipt.Statement.{Statement}
 use Rattle.raft_voter_rounds.specs.declared.receipt.SharedFault.{SharedFault}
-use Rattle.raft_shared_examples.specs.Seats.{AreApart, AreServed, HasRecord, IsReceiptOf, place_in, receipts_in}
+use Rattle.raft_shared_examples.specs.Seats.{AreServed, HasRecord, IsReceiptOf, place_in, receipts_in}
 
 -- a right receipt has its record
 recorded : (journal : List Round) (requests : List (ℕ × Request)) (receipts : List Statement) (index : ℕ) (r : Statement) → r.requests ≡ requests → IsRight 0 journal receipts index r → HasRecord journal requests r.place

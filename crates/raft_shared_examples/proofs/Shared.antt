@@ -1,8 +1,7 @@
 -- A store that two threads shared and that was then settled: its journal, and the records of both rounds.
-use Rattle.std.proofs.Common.{◌≡◌, ℕ, List, ◌++◌, Option, Some, Result, Ok, Err, IfOk, sym, subst}
+use Rattle.std.proofs.Common.{◌≡◌, ℕ, List, ◌++◌, Option, Result, Ok, Err, IfOk, sym, subst}
 use Rattle.std.specs.Prelude.{◌↔◌}
 use Rattle.raft_voter_messages.specs.declared.request.Request.{Request}
-use Rattle.raft_voter_messages.specs.declared.round.Round.{Round}
 use Rattle.raft_voter.specs.Rounds.{World}
 use Rattle.raft_voter.specs.Service.{IsOpenAt, Service}
 use Rattle.raft_voter_rounds.specs.declared.receipt.SharedFault.{SharedFault}

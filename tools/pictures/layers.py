@@ -20,7 +20,7 @@ BOXES = [
     (454, 48, 256, 86, "#ffffff", "A node", "voters over a real directory", "",
      ["raftnode", "raft_voter_node"], ""),
     (718, 48, 346, 86, "#ffffff", "Proved callers", "short examples, with contracts", "",
-     ["raft_examples", "raft_crash_examples", "raft_log_file_uses", "raft_log_run_laws"], ""),
+     ["raft_examples", "raft_crash_examples", "raft_log_file_uses", "raft_log_run_laws", "raft_shared_examples"], ""),
     (16, 142, 694, 86, "#f6e3f0", "World", "events on a store and its disk; threads that share a store", "raft_voter_",
      ["world", "session", "timeline", "log", "shared", "shared_log", "rounds", "history"], "run_world, openings_are_explained"),
     (16, 236, 694, 86, "#fbe4e4", "Store", "the voters of many groups on one log; one sync a round", "raft_voter_",

@@ -1,0 +1,4 @@
+mod Closed
+mod Living
+mod Placed
+mod Shared

@@ -1,17 +1,12 @@
-mod Between
 mod Both
 mod Closed
-mod ClosedAlone
 mod Copied
-mod Crashed
-mod Folded
+mod Foreign
 mod Kept
-mod Named
+mod Lived
 mod Purged
-mod Reopened
-mod Rested
-mod Saved
+mod Said
 pub mod Served
+mod Steps
 mod Valued
 pub mod Voted
-mod Written

@@ -1,5 +1,5 @@
 -- Reading a key from a log and from its copy gives the same value.
-use Rattle.std.specs.Prelude.{◌≡◌, ℕ, List, [], Option}
+use Rattle.std.specs.Prelude.{◌≡◌, ℕ, List, Option}
 use Rattle.raft_log_engine.specs.raft_log_fs.specs.Disk.{Disk}
 use Rattle.raft_log_engine.specs.raft_log_file_settings.specs.Settings.{settings_of}
 use Rattle.raft_log_engine.specs.raft_log_file_settings.specs.declared.config.Config.{Config}
@@ -20,12 +20,12 @@ pub record LoadsCopy {F : Type 0} (disk : F → Disk) (tells : F → List ℕ �
   pub forks : Forks (settings_of config) target copied (disk old) (disk after)
   pub loads : Loads disk tells to group key after found
 
--- A log had at least one life (an open, changes, and an end). Each end was a close or a crash, without a CRC collision.
--- There was no log at first. Then a read of a key gives the same value from the log as from a copy of it. The log's
--- settings need only name its directories, and the copy's settings only its directory. No directory in the copy's
--- directory has the name of a log file.
+-- A log had any number of lives (each with an open, changes, and an end). Each end was a close or a crash, without a
+-- CRC collision. There was no log at first. Then a read of a key gives the same value from the log as from a copy of
+-- it. The log's settings need only name its directories, and the copy's settings only its directory. No directory in
+-- the copy's directory has the name of a log file.
 abbrev pub CopiesReadAlike : {F : Type 0} → (F → Disk) → (F → List ℕ → ℕ → Type 0) → Type 0 → Type 0
-CopiesReadAlike {F} disk tells C = (lives : List (Life C)) → (lives ≡ [] → ⊥) → (config : Config) (old left : F)
+CopiesReadAlike {F} disk tells C = (lives : List (Life C)) (config : Config) (old left : F)
     → IsBare config (disk old) → AllLiveIn (home_of config) lives → (on : LivesOn disk tells lives old left)
     → LivesWithoutChance disk tells (home_of config) lives old left on
     → (here to : Config) (target : List ℕ) → home_of here ≡ home_of config → NamesOnly to target

@@ -1,24 +1,33 @@
 -- How an engine ends, by a crash or a close, and the premise on CRC collisions for each.
-use Rattle.std.specs.Prelude.{◌≡◌, ◌⊎◌, ℕ, Some, List, length, false}
+use Rattle.std.specs.Prelude.{◌≡◌, ◌⊎◌, ℕ, Some, List, length, Bool, true, false}
 use Rattle.raft_log_file_writer.specs.LawsChains.{LiesIn, Meets, Written}
 use Rattle.raft_log_file_writer.specs.KeepsSynced.{IsHandedIn}
 use Rattle.raft_log_file_writer.specs.LogFormat.{Format, HasHeader}
 use Rattle.raft_log_file_pipe.specs.declared.pipe_files.PipeFiles.{PipeFiles}
 use Rattle.raft_log_engine.specs.raft_log_fs.specs.Disk.{Disk, File}
-use Rattle.raft_log_engine.specs.raft_log_fs.specs.Image.{IsImage}
+use Rattle.raft_log_engine.specs.raft_log_fs.specs.Image.{IsImage, IsSound}
 use Rattle.raft_log_engine.specs.raft_log_dual_pipes.specs.ClosingCalls.{ClosesLog}
 use Rattle.raft_log_engine.specs.raft_log_dual_pipes.specs.Pipes.{LogPipes}
 use Rattle.raft_log_engine.specs.raft_log_engine_laws.specs.raft_log_active_file.specs.declared.record.LogRecord.{LogRecord}
 use Rattle.raft_log_engine.specs.raft_log_engine_laws.specs.EngineState.{LogDirectories, EngineState, has_failed, log_in}
+use Rattle.raft_log_recovery_laws.specs.Closed.{ClosesProperly}
 use Rattle.raft_log_recovery_laws.specs.Running.{LeavesNoChance, active_header, own_bytes}
 use Rattle.raft_crash_examples.specs.declared.ending.Ending.{Ending}
 use Rattle.raft_crash_examples.specs.declared.ending.Ending.TheVariants.{Close, Crash}
 
--- The disk that the next open finds. After a crash it is an image of the engine's disk. After a close of an engine that
--- hasn't failed, it is what the close left. If the engine had failed, nothing is claimed of a close.
+-- A close of engine `e`, which may succeed or fail, left the disk `d`. Both disks are sound.
+-- - `held`: unless the engine had failed before, the closed log is on `d`.
+-- - `proper`: if the close succeeded, it was proper.
+pub record Closes (succeeded : Bool) (e : EngineState) (d : Disk) : Type 0 where
+  pub before : IsSound e.pipes.disk
+  pub after : IsSound d
+  pub held : has_failed e ≡ false → ClosesLog e.pipes d
+  pub proper : succeeded ≡ true → ClosesProperly e.pipes d
+
+-- the disk that the next open finds: after a crash an image of the engine's disk, after a close what the close left
 abbrev pub Ends : {C : Type 0} → Ending C → EngineState → Disk → Type 0
 Ends (Crash what) e d = IsImage e.pipes.disk d
-Ends Close e d = has_failed e ≡ false → ClosesLog e.pipes d
+Ends Close e d = (succeeded : Bool) × Closes succeeded e d
 
 -- `file`, which was the pipe's active file, has no CRC collision, as a close left it:
 -- - It begins with no header other than its own.
@@ -43,7 +52,13 @@ pub record ClosesWithoutChance (home : LogDirectories) (v : LogPipes) (d : Disk)
   pub append : LeavesWritten (log_in home).append.format v.append.files v.disk d
   pub rewrite : LeavesWritten (log_in home).rewrite.format v.rewrite.files v.disk d
 
+-- A close left no CRC collision. Of a close that succeeded nothing is asked.
+abbrev pub CloseLeavesNoChance : Bool → LogDirectories → LogPipes → Disk → Type 0
+CloseLeavesNoChance true home v d = Unit {0}
+CloseLeavesNoChance false home v d = ClosesWithoutChance home v d
+
 -- the disk that a crash or a close of engine `e` left has no CRC collision
-abbrev pub EndsWithoutChance : {C : Type 0} → LogDirectories → Ending C → EngineState → Disk → Type 0
-EndsWithoutChance home (Crash what) e d = LeavesNoChance home e.pipes d
-EndsWithoutChance home Close e d = ClosesWithoutChance home e.pipes d
+abbrev pub EndsWithoutChance : {C : Type 0} → LogDirectories → (ending : Ending C) → (e : EngineState) → (d : Disk)
+    → Ends ending e d → Type 0
+EndsWithoutChance home (Crash what) e d ends = LeavesNoChance home e.pipes d
+EndsWithoutChance home Close e d ends = CloseLeavesNoChance ends.0 home e.pipes d

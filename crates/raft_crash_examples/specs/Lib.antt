@@ -3,6 +3,7 @@ pub mod Changing
 pub mod Copies
 pub mod Crashing
 pub mod Ending
+pub mod Following
 pub mod Keys
 pub mod Lives
 pub mod Purging
@@ -10,6 +11,5 @@ pub mod Reopening
 pub mod Opening
 pub mod Saving
 pub mod Serving
-pub mod Standing
 pub mod Unsynced
 pub mod Voting

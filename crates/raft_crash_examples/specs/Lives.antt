@@ -1,32 +1,23 @@
 -- The lives of a log, each with an open, changes and an end, and the value of a key after them.
-use Rattle.std.specs.Prelude.{◌≡◌, ℕ, List, [], ◌∷◌, ◌++◌, Option, None, map}
-use Rattle.raft_log_engine.specs.raft_log_model_laws.specs.Groups.{taken}
+use Rattle.std.specs.Prelude.{◌≡◌, ℕ, List, [], ◌∷◌, ◌++◌, Option, None}
 use Rattle.raft_log_engine.specs.raft_log_fs.specs.Disk.{Disk}
 use Rattle.raft_log_engine.specs.raft_log_file_settings.specs.declared.config.Config.{Config}
-use Rattle.raft_log_engine.specs.raft_log_memtables.specs.declared.mem_tables.MemTables.{MemTables}
-use Rattle.raft_log_engine.specs.raft_log_dual_pipes.specs.Pipes.{LogPipes}
-use Rattle.raft_log_engine.specs.raft_log_engine_laws.specs.EngineState.{LogDirectories, LogMap, EngineState}
-use Rattle.raft_log_engine.specs.raft_log_engine_laws.specs.Holding.{Represents}
-use Rattle.raft_log_engine.specs.raft_log_open.specs.Opening.{OpensDirectory}
+use Rattle.raft_log_engine.specs.raft_log_engine_laws.specs.EngineState.{LogDirectories, EngineState}
 use Rattle.raft_log_recovery_laws.specs.Bare.{IsBare}
 use Rattle.raft_log_recovery_laws.specs.ByCalls.{home_of}
-use Rattle.raft_log_recovery_laws.specs.Opened.{HoldsFresh}
 use Rattle.raft_crash_examples.specs.declared.changing.KeyChange.{KeyChange}
 use Rattle.raft_crash_examples.specs.declared.lives.Life.{Life}
-use Rattle.raft_crash_examples.specs.Changing.{said_by}
+use Rattle.raft_crash_examples.specs.Changing.{ChangesKeys}
 use Rattle.raft_crash_examples.specs.Ending.{Ends, EndsWithoutChance}
 use Rattle.raft_crash_examples.specs.Keys.{value_behind}
+use Rattle.raft_crash_examples.specs.Opening.{OpensAnd}
 use Rattle.raft_crash_examples.specs.Saving.{Loads}
 
--- The log of these settings was opened, and the changes were written durably. If it had the contents `m`, it now has
--- `m` with the changes, and nothing is pending.
-pub record OpensAndChanges {F : Type 0} (disk : F → Disk) (tells : F → List ℕ → ℕ → Type 0) (config : Config)
-    (changes : List KeyChange) (old : F) (engine : EngineState) : Type 0 where
-  pub pipes : LogPipes
-  pub tables : MemTables
-  pub opens : OpensDirectory disk tells config old pipes tables
-  pub changed : (home : LogDirectories) (m : LogMap) → HoldsFresh home pipes tables m
-      → Represents home engine (taken m (map said_by changes)) []
+-- the log of these settings was opened, and the changes were written durably
+abbrev pub OpensAndChanges : {F : Type 0} → (F → Disk) → (F → List ℕ → ℕ → Type 0) → Config → List KeyChange → F
+    → EngineState → Type 0
+OpensAndChanges disk tells config changes old engine =
+    OpensAnd disk tells config old (λ opened. ChangesKeys changes opened engine)
 
 -- One life of a log: it was opened with settings that name its directories, the changes were written, and it ended.
 pub record LivesOnce {F C : Type 0} (disk : F → Disk) (tells : F → List ℕ → ℕ → Type 0) (life : Life C)
@@ -53,7 +44,7 @@ abbrev pub LivesWithoutChance : {F C : Type 0} → (disk : F → Disk) → (tell
     → (lives : List (Life C)) → (old new : F) → LivesOn disk tells lives old new → Type 0
 LivesWithoutChance disk tells home [] old new on = Unit {0}
 LivesWithoutChance disk tells home (life ∷ lives) old new on =
-    EndsWithoutChance home life.ending on.1.engine (disk on.0)
+    EndsWithoutChance home life.ending on.1.engine (disk on.0) on.1.ends
     × LivesWithoutChance disk tells home lives on.0 new on.2
 
 -- the changes of all lives, in order

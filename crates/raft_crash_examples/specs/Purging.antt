@@ -8,17 +8,19 @@ use Rattle.raft_log_engine.specs.raft_log_file_settings.specs.declared.config.Co
 use Rattle.raft_log_engine.specs.raft_log_engine_laws.specs.EngineState.{LogDirectories, LogMap, EngineState}
 use Rattle.raft_log_recovery_laws.specs.Bare.{IsBare}
 use Rattle.raft_log_recovery_laws.specs.ByCalls.{home_of}
+use Rattle.raft_log_world_engine.specs.Instance.{CrashSparesEngine}
 use Rattle.raft_crash_examples.specs.declared.changing.KeyChange.{KeyChange}
 use Rattle.raft_crash_examples.specs.Changing.{said_by}
+use Rattle.raft_crash_examples.specs.Following.{HasLog, IsOpenWith}
 use Rattle.raft_crash_examples.specs.Keys.{value_behind}
 use Rattle.raft_crash_examples.specs.Lives.{OpensAndChanges}
 use Rattle.raft_crash_examples.specs.Saving.{Loads}
-use Rattle.raft_crash_examples.specs.Standing.{CrashesWithoutChance, RunsOrIsLeft}
 
 -- If the log of `s` has the contents `m`, with nothing pending, so has the log of `t`. Each of the engines runs; or it
 -- has failed, and its files can be opened.
 abbrev pub KeepsTheMap : EngineState → EngineState → Type 0
-KeepsTheMap s t = (home : LogDirectories) (m : LogMap) → RunsOrIsLeft home s m [] → RunsOrIsLeft home t m []
+KeepsTheMap s t = (home : LogDirectories) (m : LogMap) → HasLog home s (IsOpenWith m [])
+    → HasLog home t (IsOpenWith m [])
 
 -- the contents of a log that was empty before these changes
 abbrev pub map_of : List KeyChange → LogMap
@@ -38,6 +40,6 @@ pub record ReadsBehindPurges {F : Type 0} (disk : F → Disk) (tells : F → Lis
   pub crashes : IsImage engine.pipes.disk (disk left)
   pub loads : Loads disk tells again group key left found
   pub kept : IsBare config (disk old) → home_of again ≡ home_of config
-      → (runs : RunsOrIsLeft (home_of config) engine (map_of changes) [])
-      × (CrashesWithoutChance (home_of config) engine (map_of changes) [] runs (disk left)
+      → (has : HasLog (home_of config) engine (IsOpenWith (map_of changes) []))
+      × (CrashSparesEngine (home_of config) engine has.log has.is (disk left)
       → found ≡ value_behind group key changes None)

@@ -36,12 +36,6 @@ ReadsAllChanges disk first second last before after group key old found = IsBare
     → home_of second ≡ home_of first → home_of last ≡ home_of first
     → found ≡ value_behind group key (before ++ after) None
 
--- A proper close leaves no CRC collision in the active files, whatever the log's contents and pending batches are.
-abbrev pub ProperClosesLeaveNoChance : Type 0
-ProperClosesLeaveNoChance = (home : LogDirectories) (e : EngineState) (m : LogMap) (pending : List LogRecordValue) (d : Disk)
-    → IsSound e.pipes.disk → Represents home e m pending → ClosesProperly e.pipes d
-    → ClosesWithoutChance home e.pipes d
-
 -- What a close left of the pipe's active file has all that the pipe wrote to it, which are whole records, and then
 -- another record of the file. No unsynced write was asked to write that record there.
 pub record LeavesForeignBehind (F : Format LogRecord) (files : PipeFiles) (old new : Disk) : Type 0 where
@@ -62,10 +56,11 @@ pub record LeavesForeignBehind (F : Format LogRecord) (files : PipeFiles) (old n
   pub are : file.content ≡ active_header files ++ (spelled own ++ (foreign.bytes ++ behind))
   pub unhanded : IsHandedIn file.changes (length (active_header files) + length (spelled own)) foreign.bytes → ⊥
 
--- If a close leaves such a record in either queue, as one that fails may over a recycled file, there is a CRC collision.
+-- If a close leaves such a record in either queue, there is a CRC collision. A close that fails may do so, over a
+-- recycled file.
 abbrev pub ForeignRecordsBehindACloseAreChance : Type 0
-ForeignRecordsBehindACloseAreChance = (home : LogDirectories) (e : EngineState) (m : LogMap) (pending : List LogRecordValue)
-    → Represents home e m pending → (d : Disk)
+ForeignRecordsBehindACloseAreChance = (home : LogDirectories) (e : EngineState) (m : LogMap)
+    (pending : List LogRecordValue) → Represents home e m pending → (d : Disk)
     → LeavesForeignBehind (log_in home).append.format e.pipes.append.files e.pipes.disk d
     ⊎ LeavesForeignBehind (log_in home).rewrite.format e.pipes.rewrite.files e.pipes.disk d
     → ClosesWithoutChance home e.pipes d → ⊥

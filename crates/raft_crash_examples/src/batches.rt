@@ -6,6 +6,7 @@ ghost use Rattle.raft_crash_examples.specs.Batches.{LoadsBoth, ReadsBoth, TriesB
 
 use crate::changing::{KeyChange, add};
 use crate::ending::{Crash, lose_power};
+use crate::laws::lives_follow_the_model;
 use crate::opening::open;
 use log::Log;
 use raft_log_engine::{
@@ -105,6 +106,7 @@ pub fn read_both<R: Threads + Log + Sync, F: FileSystem + Sync + Drop, C: Crash<
         read.0 (option_map (λ bytes. bytes.items) read.1.first)
         (option_map (λ bytes. bytes.items) read.1.second)) }
 {
+    lives_follow_the_model::<F>();
     let (engine, answered) = try_to_write(rt, alloc, config, files, one, other)?;
     let left = lose_power(engine, what)?;
     let found = load_both(rt, alloc, again, left, one, other)?;

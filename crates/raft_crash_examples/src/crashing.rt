@@ -4,6 +4,7 @@ ghost use Rattle.std.specs.Prelude.{IfOk, option_map};
 ghost use Rattle.raft_crash_examples.specs.Crashing.{SavesAcrossACrash};
 
 use crate::ending::lose_power;
+use crate::laws::lives_follow_the_model;
 use crate::saving::{load, save};
 use log::Log;
 use raft_log_engine::{Config, FileSystem, MemoryFileSystem, Remainder, Result};
@@ -26,6 +27,7 @@ pub fn save_across_a_crash<R: Threads + Log + Sync>(
         ⟦<MemoryFileSystem as FileSystem>⟧.tells_space config again group key.now value.now
         (option_map (λ bytes. bytes.items) found)) }
 {
+    lives_follow_the_model::<MemoryFileSystem>();
     let files = MemoryFileSystem::new(alloc);
     let engine = save(rt, alloc, config, files, group, key, value)?;
     let left = lose_power(engine, what)?;

@@ -7,6 +7,7 @@ ghost use Rattle.raft_crash_examples.specs.Lives.{LivesOn, LivesOnce, OpensAndCh
 
 use crate::changing::{KeyChange, write_changes};
 use crate::ending::{Crash, Ending, end};
+use crate::laws::lives_follow_the_model;
 use crate::opening::open;
 use crate::saving::load;
 use log::Log;
@@ -93,6 +94,7 @@ pub fn read_behind_lives<R: Threads + Log + Sync, F: FileSystem + Sync + Drop, C
     ensures ok { IfOk result (λ found. ReadsTheFold F.disk F.tells_space lives.now last group key.now files
         (option_map (λ bytes. bytes.items) found)) }
 {
+    lives_follow_the_model::<F>();
     let left = live_on(rt, alloc, files, lives)?;
     load(rt, alloc, last, left, group, key)
 }

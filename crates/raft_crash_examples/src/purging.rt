@@ -6,6 +6,7 @@ ghost use Rattle.raft_crash_examples.specs.Purging.{KeepsTheMap, ReadsBehindPurg
 
 use crate::changing::KeyChange;
 use crate::ending::{Crash, lose_power};
+use crate::laws::lives_follow_the_model;
 use crate::lives::change_keys;
 use crate::saving::load;
 use log::Log;
@@ -64,6 +65,7 @@ pub fn read_behind_purges<R: Threads + Log + Sync, F: FileSystem + Sync + Drop, 
     ensures ok { IfOk result (λ found. ReadsBehindPurges F.disk F.tells_space config changes.now again group key.now
         files (option_map (λ bytes. bytes.items) found)) }
 {
+    lives_follow_the_model::<F>();
     let mut engine = change_keys(rt, alloc, config, files, changes)?;
     purge_all(rt, &mut engine, purges);
     let left = lose_power(engine, what)?;

@@ -5,6 +5,7 @@ ghost use Rattle.std.specs.Prelude.{IfOk, option_map};
 ghost use Rattle.raft_crash_examples.specs.Reopening.{ChangesAndCloses, ReadsAllChanges};
 
 use crate::changing::KeyChange;
+use crate::laws::lives_follow_the_model;
 use crate::lives::change_keys;
 use crate::saving::load;
 use log::Log;
@@ -44,6 +45,7 @@ pub fn read_behind_two_closes<R: Threads + Log + Sync, F: FileSystem + Sync + Dr
     ensures ok { IfOk result (λ found. ReadsAllChanges F.disk first second last before.now after.now group
         key.now files (option_map (λ bytes. bytes.items) found)) }
 {
+    lives_follow_the_model::<F>();
     let left = change_and_close(rt, alloc, first, files, before)?;
     let again = change_and_close(rt, alloc, second, left, after)?;
     load(rt, alloc, last, again, group, key)

@@ -5,6 +5,7 @@ ghost use Rattle.raft_log_engine.specs.raft_log_engine_core.specs.Reads.{shows_o
 ghost use Rattle.raft_crash_examples.specs.Unsynced.{LoadsAndEnds, PutsUnsynced, StaysAsRead};
 
 use crate::ending::{Crash, Ending, end, lose_power};
+use crate::laws::lives_follow_the_model;
 use crate::lives::{Life, live_on};
 use crate::opening::open;
 use crate::saving::{load, put};
@@ -72,6 +73,7 @@ pub fn read_unsynced<R: Threads + Log + Sync, F: FileSystem + Sync + Drop, C: Cr
         ending.now lives.now last files (option_map (λ bytes. bytes.items) read.0)
         (option_map (λ bytes. bytes.items) read.1)) }
 {
+    lives_follow_the_model::<F>();
     let engine = put_unsynced(rt, alloc, config, files, group, key, value)?;
     let left = lose_power(engine, what)?;
     let (first, seen) = load_and_end(rt, alloc, look, left, group, key, ending)?;

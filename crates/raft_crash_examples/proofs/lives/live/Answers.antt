@@ -1,5 +1,5 @@
 use Rattle.std.proofs.lemmas.Result.{IfOk-weaker}
-use Rattle.raft_crash_examples.proofs.Folded.{lives_once}
+use Rattle.raft_crash_examples.proofs.Lived.{lives_once}
 use Rattle.raft_crash_examples.proofs.lives.live.Goals as goal
 
 pub returns : goal.returns

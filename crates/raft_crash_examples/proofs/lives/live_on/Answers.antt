@@ -1,6 +1,7 @@
 use Rattle.std.proofs.Common.{refl, subst, sym}
+use Rattle.std.proofs.lemmas.List.{drop_all}
 use Rattle.raft_crash_examples.specs.Lives.{LivesOn}
-use Rattle.raft_crash_examples.proofs.Written.{first_left, none_left}
+use Rattle.raft_crash_examples.proofs.Said.{first_left}
 use Rattle.raft_crash_examples.proofs.lives.live_on.Goals as goal
 
 pub loop-life-preserved : goal.loop-life-preserved
@@ -16,5 +17,5 @@ returns g c =
     let i = c.loop-life.life-index in
     let lives = c.args.lives.now in
     record {
-      ok = c.loop-life.invariant c.loop-life.current (subst (λ l. LivesOn g.F.FileSystem.disk g.F.FileSystem.tells_space l c.loop-life.current c.loop-life.current) (sym (none_left lives i c.loop-life-test.false)) refl);
+      ok = c.loop-life.invariant c.loop-life.current (subst (λ l. LivesOn g.F.FileSystem.disk g.F.FileSystem.tells_space l c.loop-life.current c.loop-life.current) (sym (drop_all i lives c.loop-life-test.false)) refl);
     }

@@ -4,9 +4,8 @@ use Rattle.raft_crash_examples.proofs.purging.read_behind_purges.Goals as goal
 
 pub returns : goal.returns
 returns g c =
-    let sound = (g.met.F.FileSystem g.world.𝓛 g.world.𝓜 g.world.𝓡 ((λ s x. x), (λ x. x), (λ x. x), λ x. x)).sound in
     record {
-      ok = IfOk-weaker _ _ _ (λ found loads. reads_behind_purges g.F.FileSystem.disk g.F.FileSystem.tells_space sound c.args.config c.args.changes.now c.args.again c.args.group c.args.key.now c.args.files c.in_ok-left.left _ _ _
+      ok = IfOk-weaker _ _ _ (λ found loads. reads_behind_purges _ _ c.lives_follow_the_model.ensures c.args.config c.args.changes.now c.args.again c.args.group c.args.key.now c.args.files c.in_ok-left.left _ _ _
           c.in_ok-engine.ensures.ok c.purge_all.ensures c.in_ok-left.ensures loads)
           c.load.ensures.ok;
     }

@@ -1,4 +1,7 @@
-use Rattle.raft_crash_examples.proofs.Reopened.{closes_well}
+use Rattle.std.proofs.Common.{ap}
+use Rattle.std.specs.Prelude.{Result, is_ok}
+use Rattle.raft_log_engine.specs.raft_log_record_base.specs.declared.errors.Error.{Error}
+use Rattle.raft_crash_examples.proofs.Steps.{proper}
 use Rattle.raft_crash_examples.proofs.reopening.change_and_close.Goals as goal
 
 pub returns : goal.returns
@@ -9,6 +12,6 @@ returns g c =
         engine = _;
         sound = sound _;
         changed = c.in_ok-engine.ensures.ok;
-        closes = closes_well _ c.close-closed.result.result c.in_ok-closed.field-0 _ c.in_ok-closed.was c.close-closed.ensures.fails c.close-closed.ensures.value;
+        closes = proper _ c.close-closed.result.result _ c.close-closed.ensures.value (λ fails. (c.close-closed.ensures.model.fails fails).0) (ap (λ (r : Result (Unit {0}) Error). is_ok r) c.in_ok-closed.was);
       };
     }

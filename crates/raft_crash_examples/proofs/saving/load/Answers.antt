@@ -1,5 +1,5 @@
 use Rattle.std.proofs.lemmas.Result.{IfOk-weaker}
-use Rattle.raft_crash_examples.proofs.Saved.{loads_of}
+use Rattle.raft_crash_examples.proofs.Lived.{loads_of}
 use Rattle.raft_crash_examples.proofs.saving.load.Goals as goal
 
 pub returns : goal.returns

@@ -1,8 +1,7 @@
-use Rattle.raft_crash_examples.proofs.Saved.{puts_in}
 use Rattle.raft_crash_examples.proofs.unsynced.put_unsynced.Goals as goal
 
 pub returns : goal.returns
 returns g c =
     record {
-      ok = puts_in g.F.FileSystem.disk g.F.FileSystem.tells_space c.args.config c.args.group c.args.key.now c.args.files c.args.value.now _ _ c.in_ok-engine.ensures.ok c.in_ok-put.ensures.ok;
+      ok = record { opened = _; opens = c.in_ok-engine.ensures.ok; done = c.in_ok-put.ensures.ok };
     }

@@ -20,7 +20,7 @@ BOXES = [
     (454, 48, 256, 86, "#ffffff", "A node", "voters over a real directory", "",
      ["raftnode", "raft_voter_node"], ""),
     (718, 48, 346, 86, "#ffffff", "Proved callers", "short examples, with contracts", "",
-     ["raft_examples", "raft_crash_examples", "raft_log_file_uses", "raft_log_run_laws", "raft_shared_examples"], ""),
+     ["raft_examples", "raft_crash_examples", "raft_log_file_uses", "raft_shared_examples"], ""),
     (16, 142, 694, 86, "#f6e3f0", "World", "events on a store and its disk; threads that share a store", "raft_voter_",
      ["world", "session", "timeline", "log", "shared", "shared_log", "rounds", "history"], "run_world, openings_are_explained"),
     (16, 236, 694, 86, "#fbe4e4", "Store", "the voters of many groups on one log; one sync a round", "raft_voter_",
@@ -28,7 +28,7 @@ BOXES = [
     (718, 142, 346, 180, "#ffffff", "Programs on a log", "over an engine, in memory or in a directory", "raft_log_",
      [("ctl", "dump, check, stat, fork, unpad"), ("operator", "its library"),
       ("examples", "a key, lines, a Raft node's storage"), ("world_engine", "the engine in world's runs"),
-      ("session", "texts of sessions")], ""),
+      ("session", "texts of sessions"), ("run_laws", "a law on quiet runs")], ""),
     (16, 330, 180, 434, "#ece6f8", "Voter", "the receiver of Raft", "raft_",
      ["voter", "voter_outline", "voter_messages", "voter_plain", "voter_group_laws"], "Voter::step, judge, one_vote_per_term,"
      " terms_never_fall, matched_entries_stand, repeat_is_idempotent, group_isolation"),

@@ -56,10 +56,11 @@ pub record LeavesForeignBehind (F : Format LogRecord) (files : PipeFiles) (old n
   pub are : file.content ≡ active_header files ++ (spelled own ++ (foreign.bytes ++ behind))
   pub unhanded : IsHandedIn file.changes (length (active_header files) + length (spelled own)) foreign.bytes → ⊥
 
--- If a close leaves such a record in either queue, as one that fails may over a recycled file, there is a CRC collision.
+-- If a close leaves such a record in either queue, there is a CRC collision. A close that fails may do so, over a
+-- recycled file.
 abbrev pub ForeignRecordsBehindACloseAreChance : Type 0
-ForeignRecordsBehindACloseAreChance = (home : LogDirectories) (e : EngineState) (m : LogMap) (pending : List LogRecordValue)
-    → Represents home e m pending → (d : Disk)
+ForeignRecordsBehindACloseAreChance = (home : LogDirectories) (e : EngineState) (m : LogMap)
+    (pending : List LogRecordValue) → Represents home e m pending → (d : Disk)
     → LeavesForeignBehind (log_in home).append.format e.pipes.append.files e.pipes.disk d
     ⊎ LeavesForeignBehind (log_in home).rewrite.format e.pipes.rewrite.files e.pipes.disk d
     → ClosesWithoutChance home e.pipes d → ⊥

@@ -1,5 +1,4 @@
-//! Writes a batch. Memory for its record and for the tables is reserved first, so nothing fails once the record is
-//! written.
+//! Writes a batch. Memory for its record and the tables is reserved first, so nothing fails once the record is written.
 
 ghost use Rattle.std.specs.Prelude.{◌≡◌, ◌+◌, ◌++◌, ◌≤◌, ◌<◌, ◌^◌, ◌↔◌, ℕ, [], ◌∷◌, length, vec_capacity, vec_len, false, IfErr, IfOk, OnErr, OnOk, IsTrue};
 ghost use Rattle.raft_log_record_frames.specs.declared.marking.Marking.TheVariants.{Broken};
@@ -138,8 +137,7 @@ pub fn append<P: PipeLog, L: Log>(
     }
 }
 
-/// Writes the record of a batch to Append. If the first try fails with `TryAgain`, Append has rotated, and it is tried
-/// once more.
+/// Writes the record of a batch to Append. If that fails with `TryAgain`, Append has rotated, and it tries once more.
 fn append_or_again<P: PipeLog, L: Log>(
     alloc: Global,
     rt: &L,

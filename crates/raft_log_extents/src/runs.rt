@@ -148,9 +148,8 @@ impl Runs {
         shrink(&mut self.starts, count * 8, 32);
     }
 
-    /// Appends the places of these entries, for which there must be room. A single entry is kept with the last run, if
-    /// there is one that can have one more. Otherwise each piece of entries that follow one another in a block is a
-    /// run.
+    /// Appends the places of these entries, for which there must be room. A single entry joins the last run if
+    /// that can have one more. Otherwise each piece of entries that follow one another in a block is a run.
     pub fn push(&mut self, entries: &[EntryIndex])
         requires { HasRoom self.old (length entries.now) }
         ensures items { places self.new ≡ places self.old ++ map place_of entries.now }
@@ -224,7 +223,6 @@ impl Runs {
         self.len -= count;
     }
 
-    /// Drops all entries.
     fn clear(&mut self)
         ensures items { places self.new ≡ [] }
         ensures runs { self.new.runs.items ≡ [] }
@@ -239,8 +237,7 @@ impl Runs {
     }
 }
 
-/// Makes room for `count` more. If there isn't enough, it also makes room for `spare` others. Many small batches then
-/// don't move all of it each time.
+/// Makes room for `count` more. If there isn't enough, makes it for `spare` others too, so not every batch moves all.
 fn make_room<T>(queue: &mut VecDeque<T>, count: usize, spare: usize) -> Result<(), AllocError>
     ensures items { queue.new.items ≡ queue.old.items }
     ensures len { deque_len queue.new ≡ deque_len queue.old }
@@ -269,7 +266,6 @@ fn shrink<T>(queue: &mut VecDeque<T>, count: usize, spare: usize)
     }
 }
 
-/// Drops the first `count` items.
 fn drop_first<T: Drop>(queue: &mut VecDeque<T>, count: usize)
     requires { count ≤ deque_len queue.old }
     ensures items { queue.new.items ≡ drop count queue.old.items }

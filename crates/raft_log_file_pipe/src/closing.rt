@@ -14,8 +14,7 @@ use std::alloc::Global;
 use std::collections::VecDeque;
 use std::io::ErrorKind;
 
-/// Finishes the active file: truncates it after its records, and syncs it. If the truncation or the sync fails, returns
-/// its `Io` and logs it.
+/// Finishes the active file: truncates it after its records, and syncs it. If either fails, logs and returns its `Io`.
 pub fn finish<G: PipeFormat, F: FileSystem, L: Log>(
     layout: &G,
     rt: &L,
@@ -106,8 +105,7 @@ fn log_unnamed<L: Log>(rt: &L, from: &str, to: &str, kind: ErrorKind) {
 }
 
 /// Gives files that are kept for recycling reserved names in the main directory, from the newest down until one has
-/// such a name. The numbers begin after the greatest reserved one. If a file doesn't get its name, the next one gets
-/// the number.
+/// such a name. The numbers begin after the greatest reserved one. If a file gets no name, the next gets its number.
 pub fn reserve_files<G: PipeFormat, F: FileSystem, L: Log>(
     alloc: Global,
     layout: &G,

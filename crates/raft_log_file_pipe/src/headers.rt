@@ -9,8 +9,7 @@ use raft_log_file_format::LogFileFormat;
 use raft_log_record_base::{Error, Result};
 use std::alloc::Global;
 
-/// The header of a pipe's file in this format. Fails with `InvalidArgument` if the format has an alignment, or with
-/// `Memory`.
+/// The header of a file in this format. Fails with `InvalidArgument` if the format has an alignment, or with `Memory`.
 pub(crate) fn encode_header(alloc: Global, format: LogFileFormat) -> Result<Vec<u8>>
     ensures ok { IfOk result (λ header. IsUnaligned format × (header.items ≡ header_bytes format)) }
     ensures err { IfErr result (IsAlignmentRefusal format) }

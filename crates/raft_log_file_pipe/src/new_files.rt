@@ -28,8 +28,7 @@ pub struct NewFiles {
 }
 
 impl NewFiles {
-    /// Files of this format, with this target size in bytes. Fails with `InvalidArgument` if the format has an
-    /// alignment, or with `Memory`.
+    /// Files of this format and target size in bytes. Fails with `InvalidArgument` for an alignment, or with `Memory`.
     pub fn new(alloc: Global, format: LogFileFormat, target_size: usize) -> Result<NewFiles>
         ensures format { IfOk result (λ files. files.format ≡ format) }
         ensures size { IfOk result (λ files. files.target_size ≡ target_size) }
@@ -52,8 +51,7 @@ impl NewFiles {
     }
 }
 
-/// Whether a directory has room for `size` bytes. If its free space can't be read, it has none. Fails only with
-/// `Memory`.
+/// Whether a directory has room for `size` bytes: not if its free space can't be read. Fails only with `Memory`.
 fn has_room<F: FileSystem>(file_system: &F, directory: &str, size: usize) -> Result<bool>
     ensures ok { IfOk result (TellsRoom (F.tells_space file_system.now) (F.disk file_system.now) size
         directory.now) }

@@ -59,8 +59,7 @@ fn can_stay(file: &File, room: usize) -> bool
 }
 
 impl Parted {
-    /// Takes one more file, and keeps it if it may be recycled and there is room. Returns for how many files there is
-    /// room then.
+    /// Takes one more file, and keeps it if it may be recycled and there is room. Returns the room that is left.
     fn take<G: PipeFormat>(
         &mut self,
         alloc: Global,
@@ -87,8 +86,7 @@ impl Parted {
     }
 }
 
-/// Splits the first `count` files of the live range: the oldest that may be recycled are kept, as long as there is room
-/// for one more.
+/// Splits the first `count` files of the live range: the oldest that may be recycled are kept, as far as there is room.
 fn part_files<G: PipeFormat>(
     alloc: Global,
     layout: &G,

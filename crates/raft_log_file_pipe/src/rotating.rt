@@ -153,8 +153,7 @@ fn rotate_into_new<G: PipeFormat, F: FileSystem, L: Log>(
     }
 }
 
-/// Rotates: finishes the active file, and continues in the oldest file kept for recycling, or in a new one if there is
-/// none.
+/// Rotates: finishes the active file, and continues in the oldest file kept for recycling, or else in a new one.
 ///
 /// - `Memory`, or `NumberRange` if the next number has more than sixteen digits: nothing was done.
 /// - `Failed`: a file call failed, and the pipe can't be used any more.

@@ -125,8 +125,7 @@ impl<G: PipeFormat> SinglePipe<G> {
             .saturating_mul(self.settings.new_files.target_size)
     }
 
-    /// Appends a record, and returns its location. The pipe rotates first if the active file has reached the target
-    /// size.
+    /// Appends a record, and returns its location. Rotates first if the active file has reached the target size.
     ///
     /// - `Io`: the write failed; its bytes were truncated away, and everything before them is durable. The kind is
     ///   `StorageFull` only if the file system reports no free space in any directory.
@@ -229,8 +228,7 @@ impl<G: PipeFormat> SinglePipe<G> {
 
     /// Rotates into the oldest file kept for recycling, or into a new one if there is none.
     ///
-    /// - `Memory`: nothing was done.
-    /// - `NumberRange`: the next number has more than sixteen digits, and nothing was done.
+    /// - `Memory`, or `NumberRange` if the next number has more than sixteen digits: nothing was done.
     /// - `Failed`: a file call failed, and the pipe has failed; or it had failed before.
     pub fn rotate<F: FileSystem, L: Log>(
         &mut self,
@@ -280,8 +278,7 @@ impl<G: PipeFormat> SinglePipe<G> {
     }
 
     /// Removes the files below a number from the live range, and returns how many. From the oldest on, those with
-    /// signed records are kept for recycling, until live and recycled files together reach the capacity. The others are
-    /// deleted.
+    /// signed records are kept for recycling, until live and recycled files reach the capacity. Deletes the others.
     ///
     /// - `Other`: the number isn't in the live range, and nothing was done.
     /// - `Memory`, or `NumberRange` if no name has the number of one of the files: nothing was done.

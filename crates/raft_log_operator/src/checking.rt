@@ -15,8 +15,7 @@ use std::io::Write;
 /// - a damaged file, as `inspect` says;
 /// - in each queue, the first hole of each group in its entries.
 ///
-/// If it returns `Sound`, the log is intact. Changes nothing. Fails as `inspect` does, or with `Output` if writing the
-/// output fails.
+/// `Sound` means that the log is intact. Changes nothing. Fails as `inspect` does, or with `Output` if a write fails.
 pub fn check<F: FileSystem, W: Write>(
     alloc: Global,
     files: &F,
@@ -37,7 +36,6 @@ pub fn check<F: FileSystem, W: Write>(
     Ok(Outcome::Faulty)
 }
 
-/// Writes a line for each group of a queue that has a hole.
 fn write_holes<W: Write>(faults: &QueueFaults, out: &mut W) -> io::Result<()> {
     for (group, last) in &faults.holes {
         writeln!(out, "group {group}: a hole after entry {last}")?;

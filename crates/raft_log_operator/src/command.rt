@@ -144,7 +144,6 @@ impl Command {
     }
 }
 
-/// Whether a word is this one.
 fn is(word: &String, text: &str) -> bool
     ensures { IsTrue result ↔ (string_bytes word.now ≡ text.now) }
 {

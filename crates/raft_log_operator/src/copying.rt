@@ -60,7 +60,6 @@ fn copy_path<F: FileSystem>(
     copy.sync(to)
 }
 
-/// Copies the bytes of a file.
 fn copy_file<F: FileSystem>(
     files: &F,
     from: Handle,

@@ -13,8 +13,7 @@ use std::alloc::Global;
 use std::io;
 use std::io::Write;
 
-/// Copies a log into a directory, which is created if it is missing, and writes the path of each copy. Changes nothing
-/// of the log.
+/// Copies a log into a directory, which is created if it is missing, and writes each copy's path. Leaves the log as is.
 ///
 /// Fails as `fork` does, with no output; what was copied stays. Fails with `Output` if writing the output fails, after
 /// all files were copied.
@@ -63,7 +62,6 @@ fn copy_log<R: Log, F: FileSystem>(
     }
 }
 
-/// Writes each path.
 fn write_paths<W: Write>(paths: &[String], out: &mut W) -> io::Result<()> {
     for path in paths {
         writeln!(out, "{path}")?;

@@ -18,8 +18,7 @@ pub struct FoundFile {
 /// The log files of a log: Rewrite's first, each queue's by number. If two have one number, that of the main directory
 /// comes first. If the main path is a file's, that file is returned in place of the main directory's.
 ///
-/// Fails with `File` if a directory isn't listed. Fails with `Log` if the one file doesn't have a log file's name, or
-/// if memory runs out.
+/// Fails with `File` if a directory isn't listed, or `Log` if the one file has no log file's name or memory runs out.
 pub fn find_files<F: FileSystem>(
     alloc: Global,
     files: &F,

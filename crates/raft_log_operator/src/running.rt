@@ -17,8 +17,7 @@ use std::alloc::Global;
 use std::io::Write;
 use std::thread::Threads;
 
-/// Runs a task on the log in these directories of a file system, and writes its output to `out`. Only `Fork` and
-/// `Unpad` change the disk.
+/// Runs a task on a log in a file system, and writes its output to `out`. Only `Fork` and `Unpad` change the disk.
 ///
 /// Fails with `Output` if writing to `out` fails, after `Fork` and `Unpad` have done their work. Else it fails with
 /// `File` or `Log`, as `CommandFault` says. Output that was written before stays.

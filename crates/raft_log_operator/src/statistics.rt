@@ -28,7 +28,6 @@ struct Amount {
 }
 
 impl Amount {
-    /// Nothing.
     fn none() -> Amount {
         Amount { count: 0, bytes: 0 }
     }
@@ -43,8 +42,7 @@ impl Amount {
 /// Writes what a log holds:
 /// - the gaps between its files and the damaged ones, as a check does;
 /// - the files of each queue, and the entries and keys of each group;
-/// - of the bytes of all files, how many are live entries, keys and values, and how many are garbage: dead, damaged or
-///   duplicate ones.
+/// - how many bytes of the files are live entries, keys and values, and how many are garbage: dead, damaged, duplicate.
 ///
 /// The groups are those of an engine that is opened, with the default settings and no recycling, over a copy in memory.
 /// If opening it fails, a line says why, and then only the bytes of all files are written. Changes nothing of the log.
@@ -152,7 +150,6 @@ fn tell_queue<W: Write>(
     Ok(size.bytes)
 }
 
-/// The files of a queue.
 fn size_of_queue(
     alloc: Global,
     files: &MemoryFileSystem,
@@ -187,7 +184,6 @@ fn span_in(found: &[FoundFile], queue: LogQueue) -> Option<(u64, u64)> {
     span
 }
 
-/// Writes the line for a queue.
 fn write_queue<W: Write>(
     queue: LogQueue,
     span: Option<(u64, u64)>,
@@ -205,7 +201,6 @@ fn write_queue<W: Write>(
     }
 }
 
-/// How many bytes the file with this path has.
 fn size_of(files: &MemoryFileSystem, path: &str) -> Result<usize, ErrorKind> {
     let handle = files.open(path, Permission::ReadOnly)?;
     files.file_size(handle)
@@ -287,7 +282,6 @@ fn span_of<P: PipeLog>(engine: &LogEngine<P>, group: u64) -> Result<Option<(u64,
     }
 }
 
-/// Writes the line for a group.
 fn write_group<W: Write>(
     group: u64,
     span: Option<(u64, u64)>,

@@ -112,8 +112,7 @@ pub fn queue_word(queue: LogQueue) -> &'static str {
     }
 }
 
-/// The text for a key: in quotes if each byte is a letter, a digit, a blank or a sign of ASCII except a quote or a
-/// backslash; else in hex.
+/// The text for a key: in quotes if each byte is printable ASCII except a quote or a backslash; else in hex.
 #[derive(Clone, Copy)]
 pub struct KeyText<'a>(pub &'a [u8]);
 
@@ -131,7 +130,6 @@ fn is_plain(bytes: &[u8]) -> bool {
     bytes.iter().all(|byte| matches!(byte, b' '..=b'~') && !matches!(byte, b'"' | b'\\'))
 }
 
-/// Writes bytes in hex.
 fn write_hex<W: fmt::Write>(f: &mut fmt::Formatter<W>, bytes: &[u8]) -> fmt::Result {
     write!(f, "0x")?;
     for byte in bytes {

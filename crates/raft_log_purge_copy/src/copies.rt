@@ -23,12 +23,10 @@ use raft_log_record_base::{FileSeq, LogQueue, Result};
 use raft_log_record_batches::LogBatch;
 use std::alloc::Global;
 
-/// Writes a batch of copies to Rewrite as one record: copies of items in Append, in files up to the gate. The tables
-/// locate these items in Rewrite then. Returns the batch, emptied. An empty batch isn't written. Syncs Rewrite first if
-/// 512 KiB or more are unsynced.
+/// Writes copies of items in Append, in files up to the gate, to Rewrite as one record; the tables locate them there.
+/// Returns the batch, emptied. An empty batch isn't written. Syncs Rewrite first if 512 KiB or more are unsynced.
 ///
-/// Fails with `Full` or `Memory` before the write, or as the sync or the write does. If it fails, what the tables
-/// show is unchanged.
+/// Fails with `Full` or `Memory` before the write, or as the sync or the write does. The tables show the same then.
 pub fn write_copies<P: PipeLog, L: Log>(
     alloc: Global,
     rt: &L,

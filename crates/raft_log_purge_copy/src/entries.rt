@@ -17,9 +17,8 @@ use std::alloc::{AllocError, Global};
 /// How many bytes of entries are copied at once, unless a single entry has more.
 const MAX_COPIED_LEN: u64 = 131_072;
 
-/// The entries of a group that are to be copied next: its first ones in Append, in files up to the gate. They have at
-/// most 128 KiB, or there is one. There are none if the group's first entry in Append is in a file after the gate.
-/// Fails only with `Memory`.
+/// The next entries of a group to copy: its first in Append, in files up to the gate, at most 128 KiB or one entry.
+/// There are none if the group's first entry in Append is in a file after the gate. Fails only with `Memory`.
 pub fn next_entries(
     alloc: Global,
     tables: &MemTables,
@@ -64,8 +63,7 @@ fn is_up_to(entry: &EntryIndex, gate: FileSeq) -> bool
 
 /// A batch of one run: a group's entries with these indexes and bytes.
 ///
-/// Fails with `Full` if the entries have too many bytes, with `Memory`, or with `InvalidArgument` if these indexes
-/// are no run.
+/// Fails with `Full` if the entries have too many bytes, with `InvalidArgument` if they are no run, or with `Memory`.
 pub fn run_batch(
     alloc: Global,
     group: u64,
@@ -82,7 +80,6 @@ pub fn run_batch(
     Ok(batch)
 }
 
-/// The bytes of each entry.
 fn slices_of<'a>(alloc: Global, read: &'a [RawMessage]) -> Result<Vec<&'a [u8]>, AllocError>
     ensures { IfOk result (λ slices. slices_bytes slices.items ≡ map (λ e. e.bytes) read.now) }
 {

@@ -50,8 +50,7 @@ pub fn rewrite_groups<P: PipeLog, L: Log>(
     Ok(())
 }
 
-/// Rewrites a group. Copies its entries in Append in files up to the gate to Rewrite, in as many records as they
-/// need. Then copies its values in these files, as one record.
+/// Rewrites a group: copies its entries in Append, in files up to the gate, to Rewrite, then its values in these files.
 ///
 /// Fails as `copy_entries` and `copy_keys` do. The tables locate what was copied before in Rewrite then.
 pub fn rewrite_group<P: PipeLog, L: Log>(

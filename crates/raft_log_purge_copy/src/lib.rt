@@ -1,5 +1,4 @@
-//! The parts of a purge: they copy what is live in Append, or in Rewrite itself (`restating`), to new records of
-//! Rewrite, and delete files.
+//! The parts of a purge: they copy what is live in Append or Rewrite (`restating`) to Rewrite, and delete files.
 //!
 //! A part works on a log's pipes and the tables of its groups. Its contract holds for any contents that the log had
 //! with no batch pending (`Represents`):

@@ -46,8 +46,7 @@ pub fn rewrite_marks<P: PipeLog, L: Log>(
 
 /// Writes these tombstones to Rewrite, as `rewrite_marks` does. They must be all that the tables owe.
 ///
-/// Fails with `Memory` or `Full` before the write, or as the write or the sync does. If it fails, the tables still
-/// owe them. After `Failed` the engine has failed.
+/// Fails as `rewrite_marks` does.
 pub fn write_tombstones<P: PipeLog, L: Log>(
     alloc: Global,
     rt: &L,
@@ -101,7 +100,6 @@ fn marks_batch(alloc: Global, marks: &[LogItem]) -> Result<LogBatch>
     Ok(batch)
 }
 
-/// Adds tombstones to an empty batch.
 fn add_marks(alloc: Global, batch: &mut LogBatch, items: &[LogItem]) -> Result<()>
     requires state { batch.old.state ≡ Filling }
     requires none { batch.old.items ≡ [] }

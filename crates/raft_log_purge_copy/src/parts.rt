@@ -32,8 +32,7 @@ pub struct RestatedPart {
 
 /// Begins an atomic group: its first part has the first `count` of the entries that a group has in Rewrite.
 ///
-/// Fails if an entry can't be read, with `Full` or `Memory`, or as a write to Rewrite does. If it fails, nothing of the
-/// atomic group counts.
+/// Fails as a read does, with `Full` or `Memory`, or as a write to Rewrite does. Then nothing of the group counts.
 pub fn begin_parts<P: PipeLog, L: Log>(
     alloc: Global,
     rt: &L,
@@ -73,8 +72,7 @@ pub fn begin_parts<P: PipeLog, L: Log>(
 /// Continues an atomic group with parts that have the entries from `begin` on, except the last ones, which fit in one
 /// record. Returns the position of the first of these. Adds the written parts to `parts`.
 ///
-/// Fails if an entry can't be read, with `Full` or `Memory`, or as a write to Rewrite does. Then the atomic group is
-/// given up.
+/// Fails as a read does, with `Full` or `Memory`, or as a write to Rewrite does. Then the atomic group is given up.
 pub fn write_middles<P: PipeLog, L: Log>(
     alloc: Global,
     rt: &L,
@@ -112,10 +110,7 @@ pub fn write_middles<P: PipeLog, L: Log>(
     Ok(done)
 }
 
-/// Continues an atomic group with a part that has `count` entries from `done` on.
-///
-/// Fails if an entry can't be read, with `Full` or `Memory`, or as a write to Rewrite does. Then the atomic group is
-/// given up.
+/// Continues an atomic group with a part that has `count` entries from `done` on. Fails as `write_middles` does.
 fn write_middle<P: PipeLog, L: Log>(
     alloc: Global,
     rt: &L,

@@ -50,8 +50,7 @@ pub fn rewritten_keys(
     Ok(pairs)
 }
 
-/// How many of the entries, from the first on, are written as one record: as many as have at most 128 KiB together, but
-/// at least one. Returns 0 if there are none.
+/// How many of the first entries make one record: as many as have at most 128 KiB, or else one; 0 if there are none.
 pub fn piece_len(entries: &[EntryIndex]) -> usize
     ensures few { result ≤ length entries.now }
     ensures piece { MakeOnePiece (take result entries.now) }
@@ -71,8 +70,7 @@ pub fn piece_len(entries: &[EntryIndex]) -> usize
 
 /// A batch of the entries at these places, which it reads, and of keys of their group with their values.
 ///
-/// Fails if an entry can't be read, with `Full` or `Memory`, or with `InvalidArgument` if a value would be a mark of an
-/// atomic group.
+/// Fails as a read does, with `Full` or `Memory`, or with `InvalidArgument` if a value would be an atomic group's mark.
 pub fn piece_of<P: PipeLog>(
     alloc: Global,
     pipes: &P,

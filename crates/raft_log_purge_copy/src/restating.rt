@@ -1,5 +1,4 @@
-//! Restates groups: writes what each has in Rewrite there again. It becomes one record, or an atomic group if its
-//! entries have more than 128 KiB and aren't a single one.
+//! Restates groups: writes what each has in Rewrite there again, as one record or as an atomic group.
 
 ghost use Rattle.std.specs.Prelude.{◌≡◌, ◌≤◌, ◌<◌, IfErr, IfOk, None, OnOk, length, take};
 ghost use Rattle.raft_log_engine_laws.specs.EngineState.{shows};
@@ -125,8 +124,7 @@ pub fn restate_group<P: PipeLog, L: Log>(
     )
 }
 
-/// Restates a group with these entries and keys in Rewrite by one record, if there are any. The entries must fit in one
-/// record.
+/// Restates a group with these entries and keys in Rewrite by one record, if there are any. The entries must fit in it.
 fn restate_at_once<P: PipeLog, L: Log>(
     alloc: Global,
     rt: &L,
@@ -207,9 +205,8 @@ fn restate_in_parts<P: PipeLog, L: Log>(
     )
 }
 
-/// Ends an atomic group by its last record: the tables take its parts, one after another, and note its files.
-///
-/// Fails as `write_last` does; then the atomic group is given up.
+/// Ends an atomic group by its last record: the tables take its parts, one after another, and note its files. Fails as
+/// `write_last` does; then the atomic group is given up.
 fn end_parts<P: PipeLog, L: Log>(
     alloc: Global,
     rt: &L,

@@ -16,8 +16,7 @@ use raft_log_record_base::{LogQueue, Result};
 use std::alloc::Global;
 
 /// Syncs Append and writes the owed tombstones. Then rotates each queue, Rewrite first, and removes its files below the
-/// first in use from its live range. The batches that were pending are part of the contents then, and nothing is
-/// pending.
+/// first in use from its live range. Pending batches are part of the contents then, and nothing is pending.
 ///
 /// Fails as a sync, `rewrite_marks`, a rotation or `delete_stale_files` does. The log keeps its contents then; after
 /// `Failed`, the pending batches are all durable or all still pending.

@@ -1,5 +1,4 @@
-//! Writes the last record that restates a group, and updates the tables with all of its records. Room is made before
-//! the write, so that nothing can fail after it.
+//! Writes the last record that restates a group, and then updates the tables. Nothing can fail after the write.
 
 ghost use Rattle.std.specs.Prelude.{◌≡◌, ◌-◌, ◌++◌, ℕ, IfErr, IfOk, OnErr, OnOk};
 ghost use Rattle.raft_log_record_batches.specs.declared.log_batch.BatchState.TheVariants.{Filling};
@@ -33,8 +32,7 @@ use std::alloc::{AllocError, Global};
 /// Writes the last record that restates a group to Rewrite. The tables then locate what all of its records have there,
 /// part after part. Returns the place of the last record.
 ///
-/// Fails with `Full` or `Memory` before the write, or as the sync or the write does. If it fails, what the tables
-/// show is unchanged.
+/// Fails with `Full` or `Memory` before the write, or as the sync or the write does. The tables show the same then.
 pub fn write_last<P: PipeLog, L: Log>(
     alloc: Global,
     rt: &L,
@@ -109,8 +107,7 @@ fn make_room(
     tables.prepare_rewrite(items)
 }
 
-/// Makes the tables locate what the parts have where they were written, part after part, and then the items of the
-/// batch at this place.
+/// Makes the tables locate what the parts have, part after part, and then the items of the batch at this place.
 fn take_items(
     tables: &mut MemTables,
     parts: &[RestatedPart],

@@ -134,9 +134,7 @@ impl DualPipesBuilder {
     }
 
     /// Recovers the log as `recover` does, but reads it by scoped threads: one for each chunk of both queues, however
-    /// many processors there are.
-    ///
-    /// Fails as `recover` does.
+    /// many processors there are. Fails as `recover` does.
     pub fn recover_scoped<
         R: Threads + Log + Sync,
         F: FileSystem + Sync,
@@ -152,9 +150,7 @@ impl DualPipesBuilder {
         self.recover_by(rt, alloc, ReplayThreads::Scoped, file_system, factory)
     }
 
-    /// Recovers the log as `recover` does, by these threads.
-    ///
-    /// Fails as `recover` does.
+    /// Recovers the log as `recover` does, by these threads. Fails as `recover` does.
     pub fn recover_by<
         R: Threads + Log + Sync,
         F: FileSystem + Sync,

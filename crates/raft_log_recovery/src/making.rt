@@ -16,8 +16,7 @@ use std::alloc::Global;
 /// Makes a file under the reserved name of a number, in the first directory with room for it, else in the main one.
 /// Fills it with zeros, as far as writes succeed. Returns it, and whether there was no space.
 ///
-/// Fails with `Memory`, or with `NumberRange` if there is no such name: then nothing is done. Fails with `Io` if its
-/// creation fails.
+/// Fails with `Io` if its creation fails; before that with `Memory`, or with `NumberRange` if there is no such name.
 fn make_file<G: PipeFormat, F: FileSystem, L: Log>(
     alloc: Global,
     layout: &G,
@@ -79,7 +78,6 @@ pub(crate) fn make_files<G: PipeFormat, F: FileSystem, L: Log>(
     Ok(full)
 }
 
-/// Whether one of both is true.
 fn either(one: bool, other: bool) -> bool
     ensures { result ≡ (one || other) }
 {

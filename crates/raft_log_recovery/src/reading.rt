@@ -93,8 +93,7 @@ pub(crate) fn recover_files_in_turn<F: FileSystem + Sync, M: ReplayMachine, FA: 
     answer
 }
 
-/// Reads both queues at once, each by its own workers, as `recover_files` does. No worker of one queue waits for those
-/// of the other.
+/// Reads both queues at once, each by its own workers, as `recover_files` does. Neither queue waits for the other.
 pub(crate) fn recover_both<
     R: Threads + Sync,
     F: FileSystem + Sync,

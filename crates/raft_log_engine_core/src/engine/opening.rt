@@ -104,9 +104,7 @@ impl<F: FileSystem + Sync, E: EventListener> LogEngine<
     }
 
     /// Opens the log as `open_with` does, but reads it with scoped threads: one for each chunk of both queues, however
-    /// many processors there are.
-    ///
-    /// Fails as `open_with` does.
+    /// many processors there are. Fails as `open_with` does.
     pub fn open_scoped<R: Threads + Log + Sync>(
         rt: &R,
         alloc: Global,
@@ -135,9 +133,7 @@ impl<F: FileSystem + Sync, E: EventListener> LogEngine<
         )
     }
 
-    /// Opens the log as `open_with` does, and reads it with these threads.
-    ///
-    /// Fails as `open_with` does.
+    /// Opens the log as `open_with` does, and reads it with these threads. Fails as `open_with` does.
     pub fn open_by<R: Threads + Log + Sync>(
         rt: &R,
         alloc: Global,
@@ -175,9 +171,7 @@ impl<F: FileSystem + Sync, E: EventListener> LogEngine<
     }
 
     /// Opens the log as `open_with` does, but reads it on the caller's thread. It needs no threads, so a library that a
-    /// C program calls can open a log.
-    ///
-    /// Fails as `open_with` does.
+    /// C program calls can open a log. Fails as `open_with` does.
     pub fn open_in_turn<R: Log>(
         rt: &R,
         alloc: Global,

@@ -53,8 +53,7 @@ fn next_hint(run: &Run, at: usize) -> usize
     if run.alone == 0 { at + 1 } else { at }
 }
 
-/// The block of an entry that is alone in it, whose place is in the starts at this position, and where it starts and
-/// ends.
+/// The block of an entry alone in it, whose place is in the starts at this position, and where it starts and ends.
 fn alone_bounds<'a>(starts: &VecDeque<u32>, at: usize) -> (Place, Bounds<'a>)
     requires { at + 8 ≤ length starts.now.items }
     ensures places { between result.0 (bounds_of result.1) ≡ place_from (drop at starts.now.items) ∷ [] }
@@ -115,8 +114,7 @@ fn uneven_bounds<'a>(
     Bounds::Uneven { starts: part, end }
 }
 
-/// The first of `count` starts from this position on that are adjacent in memory: up to where the deque wraps to the
-/// front of its buffer.
+/// The first of `count` starts from this position on: up to where the deque wraps to the front of its buffer.
 pub(super) fn starts_from<'a>(starts: &'a VecDeque<u32>, from: usize, count: usize) -> &'a [u32]
     requires there { from + count ≤ length starts.now.items }
     requires some { 0 < count }

@@ -116,9 +116,8 @@ impl Runs {
         count
     }
 
-    /// Adds the first of `count` entries that are alone in their blocks, and returns how many: at least one. Their
-    /// places are in the starts from this position on. It adds those up to where the deque wraps to the front of its
-    /// buffer.
+    /// Adds the first of `count` entries that are alone in their blocks; their places are in the starts from `from` on.
+    /// Returns how many: at least one, up to where the deque wraps to the front of its buffer.
     fn copy_alone(
         &self,
         from: usize,

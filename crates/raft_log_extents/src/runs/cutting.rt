@@ -97,8 +97,7 @@ impl Runs {
         self.len += len;
     }
 
-    /// Cuts the run in two if the entry at this position isn't its first one. Returns how many runs end at or before
-    /// the position.
+    /// Cuts the run in two if the entry at this position isn't its first one. Returns how many runs are before it.
     fn cut(&mut self, position: usize) -> usize
         requires within { position ≤ length (places self.old) }
         requires room { deque_len self.old.runs < deque_capacity self.old.runs }

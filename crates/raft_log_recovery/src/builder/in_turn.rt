@@ -43,9 +43,7 @@ impl DualPipesBuilder {
         Ok((append.machine, rewrite.machine))
     }
 
-    /// Reads both queues on the caller's thread, Append first. Changes nothing.
-    ///
-    /// Fails with Append's error if Append isn't read, else with Rewrite's.
+    /// Reads both queues on the caller's thread, Append first. Changes nothing. Fails with the first error.
     fn read_both_in_turn<F: FileSystem + Sync, M: ReplayMachine, FA: Factory<M>>(
         &self,
         alloc: Global,

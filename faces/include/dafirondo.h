@@ -201,10 +201,8 @@ int32_t dafirondo_fork(const uint8_t *settings, size_t settings_len, int32_t log
 /* Checks the log of these settings for holes in its entries. `room` gets 16 bytes for each group that has a hole, in
 ** ascending order: the group (8), and the index before its first hole (8). `*needed` is 0 if there is none.
 **
-** Reads the records that an open would read. If the settings tolerate damage, truncates damaged files after their last good
-** record, as an open does; with `recovery-mode = "absolute-consistency"` it truncates none. Fails with
-** DAFIRONDO_CORRUPTION or DAFIRONDO_CODEC on damage that the settings don't tolerate, and with DAFIRONDO_INVALID if a file
-** has padding between its records, as another program may write it: open the log once, which takes the padding out.
+** Reads the records that an open would read, and changes no file. Damage that the settings tolerate ends the reading of its
+** file. Fails with DAFIRONDO_CORRUPTION or DAFIRONDO_CODEC on damage that they don't tolerate.
 */
 int32_t dafirondo_check(const uint8_t *settings, size_t settings_len, int32_t log_descriptor, uint8_t *room,
                         size_t room_len, size_t *needed);

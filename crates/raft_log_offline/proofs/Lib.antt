@@ -4,7 +4,7 @@ mod Keeping
 mod Groups
 mod Telling
 mod Whole
-mod Strict
+mod Unchanged
 pub mod Adds
 pub mod Making
 pub mod CopyingLemmas

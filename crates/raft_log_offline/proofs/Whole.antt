@@ -63,30 +63,26 @@ hold_all queue mode files d workers c endings whole read =
     record { segments = read.batches; held = read.held; all = omega (arith, all, whole); joined = refl }
 
 -- both queues were read, and all files of each
-pub reads_runs : (config : Config) (append rewrite : ConsistencyChecker) (found : DualPipesBuilder) (old scanned new : Disk) → FindsLog config found old scanned
-    → ReadsLog KeepsRuns append rewrite found scanned new → ReadsRuns config append rewrite old new
-reads_runs config append rewrite found old scanned new finds log =
+pub reads_runs : (config : Config) (append rewrite : ConsistencyChecker) (found : DualPipesBuilder) (old new : Disk) → FindsLog config found old new
+    → ReadsLog KeepsRuns append rewrite found new → ReadsRuns config append rewrite old new
+reads_runs config append rewrite found old new finds log =
     let threads = (settings_of found.config).recovery_threads in
     let a = length (append_files found) in
     let r = length (rewrite_files found) in
-    let threads_are : 1 ≤ threads = some_threads config found old scanned finds in
+    let threads_are : 1 ≤ threads = some_threads config found old new finds in
     let some : 1 ≤ a + r → 1 ≤ min threads (a + r) = λ le. omega (arith, le, threads_are) in
     record {
       append_batches = all_batches log.read.append_read.batches;
       rewrite_batches = all_batches log.read.rewrite_read.batches;
       reads = record {
         found = found;
-        scanned = scanned;
         finds = finds;
         append_endings = log.append_endings;
         rewrite_endings = log.rewrite_endings;
-        of_append = hold_all _ _ (append_files found) scanned (append_share (min threads (a + r)) a r) append log.append_endings (append_whole (min threads (a + r)) a r some)
+        of_append = hold_all _ _ (append_files found) new (append_share (min threads (a + r)) a r) append log.append_endings (append_whole (min threads (a + r)) a r some)
             log.read.append_read;
-        of_rewrite = hold_all _ _ (rewrite_files found) scanned (rewrite_share (min threads (a + r)) a r) rewrite log.rewrite_endings (rewrite_whole (min threads (a + r)) a r some)
+        of_rewrite = hold_all _ _ (rewrite_files found) new (rewrite_share (min threads (a + r)) a r) rewrite log.rewrite_endings (rewrite_whole (min threads (a + r)) a r some)
             log.read.rewrite_read;
-        between = log.cut.between;
-        append_cut = log.cut.append_cut;
-        rewrite_cut = log.cut.rewrite_cut;
       };
       append_kept = log.read.append_read.read;
       rewrite_kept = log.read.rewrite_read.read;

@@ -16,8 +16,7 @@ use Rattle.raft_log_replay.specs.Segments.{all_batches}
 use Rattle.raft_log_replay.specs.Sources.{HoldEach}
 use Rattle.raft_log_recovery_read.specs.Segments.{HoldsFile}
 use Rattle.raft_log_recovery_read.specs.declared.file_ending.FileEnding.{FileEnding}
-use Rattle.raft_log_recovery.specs.Cutting.{CutsEach}
-use Rattle.raft_log_recovery.specs.ForReading.{FailsToReadLog}
+use Rattle.raft_log_recovery.specs.ForReading.{QueuesAreUnread}
 use Rattle.raft_log_recovery.specs.Recovering.{append_files, rewrite_files}
 use Rattle.raft_log_recovery.specs.Scanning.{FailsToScanLog}
 use Rattle.raft_log_recovery.specs.declared.builder.DualPipesBuilder.{DualPipesBuilder}
@@ -35,20 +34,19 @@ pub record HoldAll (queue : LogQueue) (mode : RecoveryMode) (files : List File) 
   pub all : length segments ≡ length files
   pub joined : batches ≡ all_batches segments
 
--- The log's files were found, and have the batches `append` and `rewrite`. Then the damaged files were truncated, those
--- of Append first. `old` is the disk before this, `new` the disk after it.
+-- The log's files were found, and have the batches `append` and `rewrite`. `old` is the disk before this, `new` the disk
+-- after it.
 pub record ReadsLogFiles (config : Config) (append rewrite : List Batch) (old new : Disk) : Type 0 where
   pub found : DualPipesBuilder
-  pub scanned : Disk
-  pub finds : FindsLog config found old scanned
+  pub finds : FindsLog config found old new
   pub append_endings : List FileEnding
   pub rewrite_endings : List FileEnding
-  pub of_append : HoldAll Append found.config.recovery_mode (append_files found) scanned append append_endings
-  pub of_rewrite : HoldAll Rewrite found.config.recovery_mode (rewrite_files found) scanned rewrite
-      rewrite_endings
-  pub between : Disk
-  pub append_cut : CutsEach (append_files found) append_endings scanned between
-  pub rewrite_cut : CutsEach (rewrite_files found) rewrite_endings between new
+  pub of_append : HoldAll Append found.config.recovery_mode (append_files found) new append append_endings
+  pub of_rewrite : HoldAll Rewrite found.config.recovery_mode (rewrite_files found) new rewrite rewrite_endings
+
+-- both disks have the same files under the same names
+abbrev pub HaveSameFiles : Disk → Disk → Type 0
+HaveSameFiles old new = (new.files ≡ old.files) × (new.names ≡ old.names)
 
 -- The log's files were read, and `findings` has exactly the findings for their records. A finding is a group, and the
 -- last index before its first hole.
@@ -71,14 +69,14 @@ pub record ReadsRuns (config : Config) (append rewrite : ConsistencyChecker) (ol
 -- - `ended`: the file system had stopped.
 -- - `unsound`: the settings have a fault.
 -- - `unfound`: finding the log's files failed.
--- - `unread`: reading a queue failed, or truncating its damaged files.
+-- - `unread`: the files were found, and reading a queue failed.
 -- - `unlisted`: the log's files were read, but memory ran out for the list of findings.
 pub data FailsToCheck (config : Config) (error : Error) (old new : Disk) : Type 0 where
   ended : old.stopped ≡ true → error ≡ errors.Io Other → new ≡ old → FailsToCheck config error old new
   unsound : IsRefusedFor (settings_of config) error → new ≡ old → FailsToCheck config error old new
   unfound : (begun : DualPipesBuilder) → IsBegun config begun → FailsToScanLog begun error old new
       → FailsToCheck config error old new
-  unread : (found : DualPipesBuilder) (scanned : Disk) → FindsLog config found old scanned
-      → FailsToReadLog KeepsRuns IsOutOfMemory found error scanned new → FailsToCheck config error old new
+  unread : (found : DualPipesBuilder) → FindsLog config found old new
+      → QueuesAreUnread KeepsRuns IsOutOfMemory found new error → FailsToCheck config error old new
   unlisted : (append rewrite : List Batch) → ReadsLogFiles config append rewrite old new
       → error ≡ errors.Memory → FailsToCheck config error old new

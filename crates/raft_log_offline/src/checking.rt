@@ -31,8 +31,8 @@ struct CheckedQueues {
 /// The records are those that an open would read. What is missing before the first run or after the last one isn't
 /// seen. Files with an alignment are read too.
 ///
-/// Opens no engine. As an open does, makes missing directories, and if the settings tolerate damage, truncates damaged
-/// files after their last good record and syncs them. If a queue can't be read, nothing is truncated.
+/// Opens no engine, and changes no file. As an open does, makes missing directories. Damage that the settings tolerate
+/// ends the reading of its file.
 ///
 /// A file system that has stopped is reported first, as `Io(Other)`, so that no stop is reported as lack of memory.
 /// Then fails:
@@ -40,7 +40,6 @@ struct CheckedQueues {
 /// - as a scan does: with `Other`, `Corruption`, or `Io` of the directories
 /// - with `Io` if a file can't be read, or with `Corruption` or `Codec` for damage that isn't tolerated
 /// - with `Corruption` for a foreign record: it is whole, but has a compression that isn't read
-/// - with `Io` if a file isn't truncated or synced; the damaged ones before it are
 /// - with `Memory`
 pub fn check_log<R: Threads + Log + Sync, F: FileSystem + Sync>(
     rt: &R,
@@ -67,7 +66,35 @@ pub fn check_log<R: Threads + Log + Sync, F: FileSystem + Sync>(
     }
 }
 
-/// Reads both queues of the log of these settings, each into a checker of its own; then truncates damaged files.
+/// Checks the log of these settings for holes as `check_log` does, but reads it on the caller's thread: Append's files,
+/// and then Rewrite's. Fails as `check_log` does.
+pub fn check_log_in_turn<L: Log, F: FileSystem + Sync>(
+    rt: &L,
+    alloc: Global,
+    config: Config,
+    file_system: &mut F,
+) -> Result<Vec<Finding>>
+    ensures ok { IfOk result (λ findings. ChecksLog config findings.items
+        (F.disk file_system.old) (F.disk file_system.new)) }
+    ensures err { IfErr result (λ error. FailsToCheck config error
+        (F.disk file_system.old) (F.disk file_system.new)) }
+    ensures memory { IfErr result (λ error. error ≡ Memory → (F.disk file_system.old).stopped ≡ false) }
+{
+    if file_system.has_stopped() {
+        return Err(Error::Io(ErrorKind::Other));
+    }
+    let CheckedQueues { append, rewrite } = match read_runs_in_turn(rt, alloc, config, file_system)
+    {
+        Ok(queues) => queues,
+        Err(error) => return Err(error),
+    };
+    match join_findings(alloc, append, rewrite) {
+        Ok(findings) => Ok(findings),
+        Err(_) => Err(Error::Memory),
+    }
+}
+
+/// Reads both queues of the log of these settings, each into a checker of its own.
 fn read_runs<R: Threads + Log + Sync, F: FileSystem + Sync>(
     rt: &R,
     alloc: Global,
@@ -85,6 +112,29 @@ fn read_runs<R: Threads + Log + Sync, F: FileSystem + Sync>(
     };
     let factory = ConsistencyCheckerFactory::new(alloc);
     match builder.recover_for_reading(rt, alloc, file_system, &factory) {
+        Ok((append, rewrite)) => Ok(CheckedQueues { append, rewrite }),
+        Err(error) => Err(error),
+    }
+}
+
+/// Reads both queues as `read_runs` does, on the caller's thread.
+fn read_runs_in_turn<L: Log, F: FileSystem + Sync>(
+    rt: &L,
+    alloc: Global,
+    config: Config,
+    file_system: &mut F,
+) -> Result<CheckedQueues>
+    ensures ok { IfOk result (λ queues. ReadsRuns config queues.append queues.rewrite
+        (F.disk file_system.old) (F.disk file_system.new)) }
+    ensures err { IfErr result (λ error. FailsToCheck config error
+        (F.disk file_system.old) (F.disk file_system.new)) }
+{
+    let builder = match find(rt, alloc, config, file_system) {
+        Ok(builder) => builder,
+        Err(error) => return Err(error),
+    };
+    let factory = ConsistencyCheckerFactory::new(alloc);
+    match builder.recover_for_reading_in_turn(alloc, file_system, &factory) {
         Ok((append, rewrite)) => Ok(CheckedQueues { append, rewrite }),
         Err(error) => Err(error),
     }

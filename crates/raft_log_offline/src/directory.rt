@@ -17,7 +17,7 @@ use std::io::ErrorKind;
 use std::thread::Threads;
 
 /// Checks the log in a directory for holes, as `check_log` does with the usual settings, under `TolerateAnyCorruption`.
-/// This truncates damaged files.
+/// Changes no file.
 ///
 /// Fails with `InvalidArgument` if neither a directory nor a file has the path, and then nothing is done. Else it fails
 /// as `check_log` does.

@@ -1,12 +1,11 @@
-//! What a finding is, and what a strict check leaves alone: each law is a function without a body.
+//! What a finding is, and that a check changes no file: each law is a function without a body.
 
 ghost use Rattle.std.specs.Prelude.{◌≡◌, ◌↔◌, ℕ, List, Some, None};
 ghost use Rattle.raft_log_fs.specs.Disk.{Disk};
-ghost use Rattle.raft_log_file_settings.specs.Settings.{settings_of};
 ghost use Rattle.raft_log_file_settings.specs.declared.config.Config.{Config};
-ghost use Rattle.raft_log_file_settings.specs.declared.recovery_mode.RecoveryMode.TheVariants.{AbsoluteConsistency};
-ghost use Rattle.raft_log_replay.specs.Machines.{Batch};
-ghost use Rattle.raft_log_offline.specs.Checking.{ReadsLogFiles};
+ghost use Rattle.raft_log_recovery.specs.Finding.{FindsLog};
+ghost use Rattle.raft_log_recovery.specs.declared.builder.DualPipesBuilder.{DualPipesBuilder};
+ghost use Rattle.raft_log_offline.specs.Checking.{ChecksLog, HaveSameFiles};
 ghost use Rattle.raft_log_offline.specs.Runs.{HasNoHole, IsFirstHole, Run, finding};
 
 /// A group's finding is the end of the run before its first hole; without a hole there is none.
@@ -15,9 +14,11 @@ pub fn findings_are_first_holes()
     ensures none { (runs : List Run) → (finding runs ≡ None) ↔ HasNoHole runs }
 {}
 
-/// A check that tolerates no damage truncates nothing: the disk stays as the scan left it.
-pub fn strict_checks_cut_nothing()
-    ensures { (config : Config) (append rewrite : List Batch) (old new : Disk)
-        → (settings_of config).recovery_mode ≡ AbsoluteConsistency
-        → (reads : ReadsLogFiles config append rewrite old new) → new ≡ reads.scanned }
+/// A check changes no file and no name, whatever damage its mode tolerates. This also holds if it found the log's files
+/// and then failed.
+pub fn checks_change_no_file()
+    ensures ok { (config : Config) (findings : List (ℕ × ℕ)) (old new : Disk)
+        → ChecksLog config findings old new → HaveSameFiles old new }
+    ensures found { (config : Config) (found : DualPipesBuilder) (old new : Disk)
+        → FindsLog config found old new → HaveSameFiles old new }
 {}

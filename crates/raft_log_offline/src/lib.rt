@@ -16,7 +16,7 @@ pub mod permission;
 pub mod source_file;
 
 pub use checker::{ConsistencyChecker, ConsistencyCheckerFactory, Finding};
-pub use checking::check_log;
+pub use checking::{check_log, check_log_in_turn};
 pub use copying::copy_file;
 pub use directory::consistency_check_with_file_system;
 pub use dump::dump_with_file_system;

@@ -1,9 +1,8 @@
--- A log is read without being opened, for example to check it. Unlike `recover`, this also reads files that have an
--- alignment, with padding between records.
-use Rattle.std.specs.Prelude.{◌≡◌, List}
+-- A log is read without being opened, for example to check it. Unlike `recover`, this truncates nothing, and also reads
+-- files that have an alignment, with padding between records.
+use Rattle.std.specs.Prelude.{List}
 use Rattle.std.specs.declared.io.ErrorKind.{ErrorKind}
 use Rattle.raft_log_record_base.specs.declared.errors.Error.{Error}
-use Rattle.raft_log_record_base.specs.declared.errors.Error.TheVariants as errors
 use Rattle.raft_log_record_base.specs.declared.pipe_log.LogQueue.{LogQueue}
 use Rattle.raft_log_fs.specs.Disk.{Disk}
 use Rattle.raft_log_replay.specs.Machines.{Batch}
@@ -47,20 +46,9 @@ pub data FailsToCutBoth (b : DualPipesBuilder) (append_endings rewrite_endings :
       → FailsToCutEach (rewrite_files b) rewrite_endings kind between new
       → FailsToCutBoth b append_endings rewrite_endings kind old new
 
--- both queues were read into the replay machines `append` and `rewrite`, and then their damaged files were truncated
+-- both queues were read into the replay machines `append` and `rewrite`; nothing was truncated
 pub record ReadsLog {M : Type 0} (reads : LogQueue → List Batch → M → Type 0) (append rewrite : M)
-    (b : DualPipesBuilder) (old new : Disk) : Type 0 where
+    (b : DualPipesBuilder) (d : Disk) : Type 0 where
   pub append_endings : List FileEnding
   pub rewrite_endings : List FileEnding
-  pub read : HasReadQueues reads b old append rewrite append_endings rewrite_endings
-  pub cut : CutsBoth b append_endings rewrite_endings old new
-
--- why reading the log fails: reading a queue failed, and nothing was truncated; or truncating a damaged file failed
-pub data FailsToReadLog {M : Type 0} (reads : LogQueue → List Batch → M → Type 0)
-    (declines : LogQueue → List Batch → Error → Type 0) (b : DualPipesBuilder) (error : Error)
-    (old new : Disk) : Type 0 where
-  unread : new ≡ old → QueuesAreUnread reads declines b old error
-      → FailsToReadLog reads declines b error old new
-  uncut : (append rewrite : M) (es fs : List FileEnding) (kind : ErrorKind)
-      → HasReadQueues reads b old append rewrite es fs → error ≡ errors.Io kind
-      → FailsToCutBoth b es fs kind old new → FailsToReadLog reads declines b error old new
+  pub read : HasReadQueues reads b d append rewrite append_endings rewrite_endings

@@ -41,7 +41,7 @@ pub struct DualPipesBuilder {
 impl DualPipesBuilder {
     ghost use Rattle.raft_log_record_base.specs.declared.pipe_log.LogQueue.TheVariants.{Append, Rewrite};
     ghost use Rattle.raft_log_recovery.specs.Finishing.{FailsToOpenRecovered, FailsToSyncLog, IsAllRead, IsUnready, IsWantedAs, OpensRecovered, SyncsLog};
-    ghost use Rattle.raft_log_recovery.specs.ForReading.{CutsBoth, FailsToCutBoth, FailsToReadLog, HasReadQueues, QueuesAreUnread, ReadsLog};
+    ghost use Rattle.raft_log_recovery.specs.ForReading.{CutsBoth, FailsToCutBoth, HasReadQueues, QueuesAreUnread, ReadsLog};
     ghost use Rattle.raft_log_recovery.specs.Recovering.{FailsToRecoverLog, RecoversLog, append_files, rewrite_files};
     ghost use Rattle.raft_log_recovery.specs.RecoveringQueue.{FailsToRecoverFiles, OtherQueueIsKept, RecoversFiles, queue_files};
     ghost use Rattle.raft_log_recovery.specs.Reserving.{FailsToReadyLog, LeavesReserved, ReadiesLog};
@@ -180,24 +180,22 @@ impl DualPipesBuilder {
         Ok((append.machine, rewrite.machine))
     }
 
-    /// Reads both queues and truncates the damaged files, as `recover` does; takes files with an alignment too. It is
-    /// for callers that read the log and open no pipe over it: the builder keeps no result.
+    /// Reads both queues as `recover` does, and changes nothing: no damaged file is truncated. Takes files with an
+    /// alignment too. It is for callers that read the log and open no pipe over it: the builder keeps no result.
     ///
-    /// Fails as `recover` does, except for an alignment.
+    /// Fails as `recover` does if a file isn't read.
     pub fn recover_for_reading<
-        R: Threads + Log + Sync,
+        R: Threads + Sync,
         F: FileSystem + Sync,
         M: ReplayMachine + Send,
         FA: Factory<M>,
-    >(&self, rt: &R, alloc: Global, file_system: &mut F, factory: &FA) -> Result<(M, M)>
-        ensures ok { IfOk result (λ both. ReadsLog M.reads both.0 both.1 self.now
-            (F.disk file_system.old) (F.disk file_system.new)) }
-        ensures err { IfErr result (λ error. FailsToReadLog M.reads M.declines self.now error
-            (F.disk file_system.old) (F.disk file_system.new)) }
+    >(&self, rt: &R, alloc: Global, file_system: &F, factory: &FA) -> Result<(M, M)>
+        ensures ok { IfOk result (λ both. ReadsLog M.reads both.0 both.1 self.now (F.disk file_system.now)) }
+        ensures err { IfErr result
+            (QueuesAreUnread M.reads M.declines self.now (F.disk file_system.now)) }
     {
         let threads = ReplayThreads::Rayon;
         let (append, rewrite) = self.read_both(rt, alloc, threads, file_system, factory)?;
-        self.cut_both(rt, alloc, file_system, &append.endings, &rewrite.endings)?;
         Ok((append.machine, rewrite.machine))
     }
 

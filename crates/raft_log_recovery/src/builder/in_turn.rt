@@ -14,7 +14,7 @@ use raft_log_replay::{Factory, ReadSegments, ReplayMachine};
 use std::alloc::Global;
 
 impl DualPipesBuilder {
-    ghost use Rattle.raft_log_recovery.specs.ForReading.{HasReadQueues, QueuesAreUnread};
+    ghost use Rattle.raft_log_recovery.specs.ForReading.{HasReadQueues, QueuesAreUnread, ReadsLog};
     ghost use Rattle.raft_log_recovery.specs.Recovering.{FailsToRecoverLog, RecoversLog};
 
     /// Recovers the log as `recover` does, but reads it on the caller's thread: Append's files, and then Rewrite's.
@@ -40,6 +40,24 @@ impl DualPipesBuilder {
         self.cut_both(rt, alloc, file_system, &append.endings, &rewrite.endings)?;
         self.append.endings = append.endings;
         self.rewrite.endings = rewrite.endings;
+        Ok((append.machine, rewrite.machine))
+    }
+
+    /// Reads both queues as `recover_for_reading` does, but on the caller's thread: Append's files, and then Rewrite's.
+    /// Changes nothing.
+    ///
+    /// Fails as `recover` does if a file isn't read.
+    pub fn recover_for_reading_in_turn<F: FileSystem + Sync, M: ReplayMachine, FA: Factory<M>>(
+        &self,
+        alloc: Global,
+        file_system: &F,
+        factory: &FA,
+    ) -> Result<(M, M)>
+        ensures ok { IfOk result (λ both. ReadsLog M.reads both.0 both.1 self.now (F.disk file_system.now)) }
+        ensures err { IfErr result
+            (QueuesAreUnread M.reads M.declines self.now (F.disk file_system.now)) }
+    {
+        let (append, rewrite) = self.read_both_in_turn(alloc, file_system, factory)?;
         Ok((append.machine, rewrite.machine))
     }
 

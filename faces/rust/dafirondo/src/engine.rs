@@ -120,8 +120,8 @@ impl Engine {
     }
 
     /// Checks the log in a directory, which nobody has open, for holes in its entries. Returns each group that has one, and
-    /// the index before its first hole. Truncates damaged files after their last good record, as an open under
-    /// `TolerateAnyCorruption` does. Fails with `InvalidArgument` if there is no such directory.
+    /// the index before its first hole. Reads what an open under `TolerateAnyCorruption` would read, and changes no file.
+    /// Fails with `InvalidArgument` if there is no such directory.
     pub fn consistency_check(path: &Path) -> Result<Vec<(u64, u64)>> {
         if !path.exists() {
             return Err(Error::InvalidArgument(format!("No such directory: {}", path.display())));

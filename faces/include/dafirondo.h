@@ -202,7 +202,7 @@ int32_t dafirondo_fork(const uint8_t *settings, size_t settings_len, int32_t log
 ** ascending order: the group (8), and the index before its first hole (8). `*needed` is 0 if there is none.
 **
 ** Reads the records that an open would read, and changes no file. Damage that the settings tolerate ends the reading of its
-** file. Fails with DAFIRONDO_CORRUPTION or DAFIRONDO_CODEC on damage that they don't tolerate.
+** file. Fails with DAFIRONDO_CORRUPTION on damage that they don't tolerate.
 */
 int32_t dafirondo_check(const uint8_t *settings, size_t settings_len, int32_t log_descriptor, uint8_t *room,
                         size_t room_len, size_t *needed);

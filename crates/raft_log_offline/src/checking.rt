@@ -38,7 +38,7 @@ struct CheckedQueues {
 /// Then fails:
 /// - with `Other` if the settings have a fault
 /// - as a scan does: with `Other`, `Corruption`, or `Io` of the directories
-/// - with `Io` if a file can't be read, or with `Corruption` or `Codec` for damage that isn't tolerated
+/// - with `Io` if a file can't be read, or with `Corruption` for damage that isn't tolerated
 /// - with `Corruption` for a foreign record: it is whole, but has a compression that isn't read
 /// - with `Memory`
 pub fn check_log<R: Threads + Log + Sync, F: FileSystem + Sync>(

@@ -1,9 +1,8 @@
 -- A recovery that tells an alignment has read all files, and cut none.
-use Rattle.std.proofs.Common.{◌≡◌, ℕ, Bool, Option, Some, List, Result, Ok, Err, inl, inr, sym, subst}
+use Rattle.std.proofs.Common.{◌≡◌, ℕ, Bool, List, Result, Ok, Err, inl, inr, sym, subst}
 use Rattle.std.specs.Prelude.{IfErr, IfOk}
 use Rattle.std.specs.declared.alloc.Global.{Global}
 use Rattle.std.specs.declared.string.String.{String}
-use Rattle.raft_log_record_base.specs.Fault.{Fault}
 use Rattle.raft_log_record_base.specs.declared.errors.Error.{Error}
 use Rattle.raft_log_record_base.specs.declared.errors.Error.TheVariants as errors
 use Rattle.raft_log_record_base.specs.declared.pipe_log.FileId.{FileId}
@@ -17,9 +16,6 @@ use Rattle.raft_log_recovery_scan.specs.declared.recovery_config.RecoveryConfig.
 use Rattle.raft_log_replay.specs.Segments.IsRefusedIn.{memory as no_memory, unread as unread_one, declined, apart}
 use Rattle.raft_log_replay_context.specs.Batches.{Declines, HasReadBatches}
 use Rattle.raft_log_replay_context.specs.declared.context.MemTableRecoverContext.{MemTableRecoverContext}
-use Rattle.raft_log_recovery_read.specs.Faults.{TellsIfAny}
-use Rattle.raft_log_recovery_read.specs.Reading.{FileReading, ReadsBytes}
-use Rattle.raft_log_recovery_read.specs.Reading.ReadsBytes.{headless, torn, headed}
 use Rattle.raft_log_recovery_read.specs.Tolerance.{FailsToReadFound}
 use Rattle.raft_log_recovery.specs.Finding.{FindsLog}
 use Rattle.raft_log_recovery.specs.Reading.{FilesAreUnread}
@@ -37,19 +33,11 @@ use Rattle.raft_log_open.specs.Reading.{ReadsQueues}
 use Rattle.raft_log_open.specs.declared.reading.ReadQueues.{ReadQueues}
 use Rattle.raft_log_open.proofs.Whole.{reads_queues}
 
--- what is wrong with a file's bytes isn't told as an alignment
-untold : (text : String Global) (told : Option Error) (fault : Option Fault) → told ≡ Some (errors.InvalidArgument text) → TellsIfAny told fault → ⊥
-untold text told fault is tells = (let (f, same, never) = subst (λ (o : Option Error). TellsIfAny o fault) is tells in never)
-
-no_damage : (text : String Global) (last : Bool) (id : FileId) (content : List ℕ) (read : FileReading) → read.fault ≡ Some (errors.InvalidArgument text) → ReadsBytes last id content read → ⊥
-no_damage text last id content read is (headless fault at tells none no_end first) = untold text read.fault _ is tells
-no_damage text last id content read is (torn file start end fault same says behind header tells no_end first) = untold text read.fault _ is tells
-no_damage text last id content read is (headed file start end fault same says behind header tells at format) = untold text read.fault _ is tells
-
+-- why a file isn't read isn't told as an alignment
 not_refused : (text : String Global) (mode : RecoveryMode) (last : Bool) (id : FileId) (handle : Handle) (d : Disk) → FailsToReadFound mode last id handle d (errors.InvalidArgument text) → ⊥
 not_refused text mode last id handle d (inl (inl never)) = never
 not_refused text mode last id handle d (inl (inr foreign)) = foreign.told
-not_refused text mode last id handle d (inr damaged) = no_damage text last id _ damaged.read damaged.told damaged.reads
+not_refused text mode last id handle d (inr damaged) = damaged.names
 
 not_unread : (text : String Global) (config : RecoveryConfig) (files : List File) (d : Disk) → FilesAreUnread Declines config files d (errors.InvalidArgument text) → ⊥
 not_unread text config files d (no_memory is) = (let never : ⊥ = cc is in never)

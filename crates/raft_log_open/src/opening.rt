@@ -48,7 +48,7 @@ pub struct OpenedLog<F> {
 /// - `Io(Other)` if the file system has stopped. This is checked first, so `Memory` is never returned then.
 /// - `Other` if the settings have a fault.
 /// - The errors of scanning with `DualPipesBuilder`: `Other`, `Corruption`, `Io` for a directory.
-/// - `Io` if a file can't be read; `Corruption` or `Codec` for damage that isn't tolerated.
+/// - `Io` if a file can't be read; `Corruption` for damage that isn't tolerated.
 /// - `Corruption` for a foreign record, in every mode: it is whole, but has a compression that isn't read.
 /// - `Hole` or `Corruption` for a record that the replay rejects.
 /// - `Io` if a call fails that truncates, writes, creates, renames, deletes or syncs a file.

@@ -23,7 +23,7 @@ use std::thread::{Threads, join};
 ///
 /// Fails with `Memory`, or with the error of the first part of the files that isn't read or joined:
 /// - `Io` if a read fails
-/// - `Corruption` or `Codec` for damage that isn't tolerated
+/// - `Corruption` for damage that isn't tolerated
 /// - `Corruption` for a foreign record, in every mode: it is whole, but has a compression that isn't read
 /// - the machine's error if it declines batches
 pub fn recover_files<F: FileSystem + Sync, M: ReplayMachine + Send, FA: Factory<M>>(

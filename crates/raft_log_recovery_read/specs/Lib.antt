@@ -7,5 +7,6 @@ pub mod Reading
 pub mod Foreign
 pub mod ForeignSteps
 pub mod Handed
+pub mod Naming
 pub mod Tolerance
 pub mod Segments

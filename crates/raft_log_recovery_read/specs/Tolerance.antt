@@ -9,6 +9,7 @@ use Rattle.raft_log_file_settings.specs.declared.recovery_mode.RecoveryMode.{Rec
 use Rattle.raft_log_file_settings.specs.declared.recovery_mode.RecoveryMode.TheVariants.{AbsoluteConsistency, TolerateTailCorruption, TolerateAnyCorruption}
 use Rattle.raft_log_file_reader.specs.Source.{bytes_in}
 use Rattle.raft_log_recovery_read.specs.Foreign.{FailsToReadRecords, StopsAtNoForeign}
+use Rattle.raft_log_recovery_read.specs.Naming.{NamesDamage}
 use Rattle.raft_log_recovery_read.specs.Reading.{FileReading, ReadsFileAs}
 
 -- whether this recovery mode tolerates damage in a file; `last` says whether it is its queue's last file
@@ -28,14 +29,16 @@ pub record ReadsFound (mode : RecoveryMode) (last : Bool) (id : FileId) (handle 
   pub native : StopsAtNoForeign last id (bytes_in (d.files handle.file))
   pub tolerated : IsTolerated mode last read.fault
 
--- The file is damaged, as `error` says, and this recovery mode doesn't tolerate that. Its reading doesn't stop at a
--- foreign record.
+-- The file is damaged, and this recovery mode doesn't tolerate that. `error` names the file and the offset, and says what
+-- is wrong. The file's reading doesn't stop at a foreign record.
 pub record IsDamaged (mode : RecoveryMode) (last : Bool) (id : FileId) (handle : Handle) (d : Disk)
     (error : Error) : Type 0 where
   pub read : FileReading
   pub reads : ReadsFileAs last id handle d read
   pub native : StopsAtNoForeign last id (bytes_in (d.files handle.file))
-  pub told : read.fault ≡ Some error
+  pub fault : Error
+  pub is : read.fault ≡ Some fault
+  pub names : NamesDamage id read.end fault error
   pub strict : tolerates mode last ≡ false
 
 -- Why a recovery fails to read a file:

@@ -61,7 +61,7 @@ fn told_foreign(alloc: Global, id: FileId, foreign: ForeignRecord) -> Result<Str
 }
 
 /// The name of a queue in an error's text.
-fn queue_name(queue: LogQueue) -> &'static str
+pub(crate) fn queue_name(queue: LogQueue) -> &'static str
     ensures { result.now ≡ queue_name queue }
 {
     match queue {

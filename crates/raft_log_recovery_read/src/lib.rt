@@ -8,6 +8,7 @@ pub mod file_ending;
 mod foreign;
 pub mod found_file;
 pub mod laws;
+mod naming;
 pub mod queue_segments;
 pub mod reading;
 mod steps;

@@ -1,12 +1,15 @@
 //! Which damage of a log file is tolerated.
 
 ghost use Rattle.std.specs.Prelude.{◌≡◌, false, Some, IfOk, IfErr, IsTrue};
+ghost use Rattle.raft_log_record_base.specs.declared.errors.Error.{Error};
 ghost use Rattle.raft_log_file_reader.specs.Reader.{honest_of};
 ghost use Rattle.raft_log_recovery_read.specs.Handed.{WasHanded};
+ghost use Rattle.raft_log_recovery_read.specs.Naming.{NamesDamage};
 ghost use Rattle.raft_log_recovery_read.specs.Reading.{FileReading};
 ghost use Rattle.raft_log_recovery_read.specs.Tolerance.{FailsToReadFound, IsTolerated, ReadsFound, tolerates};
 
 use crate::found_file::{FoundFile, ListedFile};
+use crate::naming::named_damage;
 use crate::reading::read_file;
 use raft_log_file_reader::LogItemBatchFileReader;
 use raft_log_file_settings::RecoveryMode;
@@ -30,7 +33,8 @@ pub fn tolerates(mode: RecoveryMode, is_last: bool) -> bool
 ///
 /// - `Io`: a read failed, which is never reported as damage.
 /// - `Corruption`: a foreign record follows the last good one; no mode tolerates that.
-/// - `Corruption`, `Codec`: the file is damaged, and `mode` doesn't tolerate it (`tolerates`).
+/// - `Corruption`: the file is damaged, and `mode` doesn't tolerate it (`tolerates`). The error names the queue, the
+///   file's number, the offset of the damage, and what is wrong.
 /// - `Memory`: memory ran out.
 ///
 /// If it fails, the machine may have been handed records. An error of the machine is returned in `declined`.
@@ -51,16 +55,22 @@ pub fn read_found<F: FileSystem, M: ReplayMachine>(
     ensures receipts { F.tells_truth → IsTrue (honest_of reader.new) }
 {
     let found = read_file(alloc, file_system, reader, file, machine)?;
-    accept(mode, file.is_last, found)
+    accept(alloc, mode, file, found)
 }
 
-/// Returns what was found of a file, if it isn't damaged or that is tolerated; else fails with its damage.
-fn accept(mode: RecoveryMode, is_last: bool, found: FoundFile) -> Result<FoundFile>
-    ensures ok { IfOk result (λ same. (same ≡ found) × IsTolerated mode is_last found.fault) }
-    ensures err { IfErr result
-        (λ error. (found.fault ≡ Some error) × (tolerates mode is_last ≡ false)) }
+/// Returns what was found of a file, if it isn't damaged or that is tolerated; else fails with the file's name and its
+/// damage, or with `Memory`.
+fn accept(
+    alloc: Global,
+    mode: RecoveryMode,
+    file: ListedFile,
+    found: FoundFile,
+) -> Result<FoundFile>
+    ensures ok { IfOk result (λ same. (same ≡ found) × IsTolerated mode file.is_last found.fault) }
+    ensures err { IfErr result (λ error. (fault : Error) × (found.fault ≡ Some fault)
+        × NamesDamage file.id found.end fault error × (tolerates mode file.is_last ≡ false)) }
 {
-    if tolerates(mode, is_last) {
+    if tolerates(mode, file.is_last) {
         return Ok(found);
     }
     let FoundFile {
@@ -70,7 +80,7 @@ fn accept(mode: RecoveryMode, is_last: bool, found: FoundFile) -> Result<FoundFi
         declined,
     } = found;
     match fault {
-        Some(error) => Err(error),
+        Some(fault) => Err(named_damage(alloc, file.id, end, fault)),
         None => Ok(FoundFile {
             format,
             end,

@@ -39,7 +39,7 @@ impl<F: FileSystem + Sync> LogEngine<ToldPipes<ToldPipes<DualPipes<F>, Nobody>, 
     /// - `Io(Other)` if the file system has stopped. This is checked first, so that a stop never shows as `Memory`.
     /// - `Other` if the settings have a fault, or a file has the path of a directory.
     /// - `Io` if a file can't be read, truncated, created or synced. A failed read never counts as damage.
-    /// - `Corruption` or `Codec` for damage that the recovery mode doesn't tolerate.
+    /// - `Corruption` for damage that the recovery mode doesn't tolerate; it names queue, file and offset.
     /// - `Corruption` for a misnamed file, or for a record that another program wrote.
     /// - `Hole` or `Corruption` for records that can't follow each other.
     /// - `NumberRange` if the file numbers are used up.

@@ -1,8 +1,9 @@
-use Rattle.std.proofs.Common.{◌≡◌, false, IsTrue, Option, Some, inr, inl, sym, subst, ◌∙◌}
+use Rattle.std.proofs.Common.{◌≡◌, ℕ, false, IsTrue, Option, Some, inr, inl, sym, subst, ◌∙◌}
 use Rattle.std.proofs.lemmas.Result.{err_from_is_err_and}
 use Rattle.raft_log_record_base.specs.declared.errors.Error.{Error}
 use Rattle.raft_log_file_reader.specs.Reader.{honest_of}
 use Rattle.raft_log_recovery_read.specs.Handed.{WasHanded}
+use Rattle.raft_log_recovery_read.specs.Naming.{NamesDamage}
 use Rattle.raft_log_recovery_read.specs.Reading.{FileReading}
 use Rattle.raft_log_recovery_read.specs.Tolerance.{FailsToReadFound, IsTolerated, ReadsFound, tolerates}
 use Rattle.raft_log_recovery_read.specs.declared.found_file.FoundFile.{FoundFile}
@@ -28,8 +29,19 @@ returns-clause-ok g c =
 pub returns-clause-err : goal.returns-clause-err
 returns-clause-err g c =
     let file = c.args.file in
-    err_then c.accept.result (λ error. (c.in_ok-found.found.fault ≡ Some error) × (tolerates c.args.mode file.is_last ≡ false))
+    let found = c.in_ok-found.found in
+    err_then c.accept.result
+    (λ error. (fault : Error) × (found.fault ≡ Some fault) × NamesDamage file.id found.end fault error × (tolerates c.args.mode file.is_last ≡ false))
     (λ error. IsTrue (honest_of c.read_file.new.reader) → FailsToReadFound c.args.mode file.is_last file.id file.handle (g.F.FileSystem.disk c.args.file_system.now) error) c.accept.ensures.err
     (λ error told honest.
     let (read, reads, handed) = c.in_ok-found.ensures.ok honest in
-    inr (record { read = read; reads = reads; native = c.in_ok-found.ensures.native honest; told = sym handed.fault ∙ told.0; strict = told.1 }))
+    let (fault, is, names, strict) = told in
+    inr (record {
+      read = read;
+      reads = reads;
+      native = c.in_ok-found.ensures.native honest;
+      fault = fault;
+      is = sym handed.fault ∙ is;
+      names = subst (λ (end : Option ℕ). NamesDamage file.id end fault error) handed.end names;
+      strict = strict;
+    }))

@@ -78,7 +78,7 @@ runs_ask_nothing {S} tells config u shows outlines first events report run is on
     let d : Disk S LogFiles = log_disk tells config shows outlines in
     let ms = moments_of run.turns ++ run.closing in
     let goes = runs_go_by v u d first events report run (bare is refl) in
-    let ends = walk tells config u shows outlines (λ storage cut. EndsWell ms cut) (Closed first) (uncut fresh_world) (bare is refl) tt ms goes (run_happened v u d first events report run) only in (
+    let ends = walk tells config u shows outlines (EndsWell v d ms) (Closed first) (uncut fresh_world) (bare is refl) tt ms goes (run_happened v u d first events report run) only in (
       serve_first v (moments_of run.turns) run.closing ends.0,
       ends.1,
       subst (λ (rounds : List Round). Explains rounds report.cuts) (sym run.rounds) (subst (λ (cuts : List ℕ). Explains (rounds_in ms) cuts) (sym run.cuts) ends.2.2.explained),

@@ -74,12 +74,12 @@ cut_within v old now cut noted round Failed c w s = w
 cut_within v old now cut noted round TooLong c w s = w
 
 goes_by : {S F : Type 0} (v : Service S) (u : Upkeep S) (d : Disk S F) (End : Storage S F → CutRound → Type 0) (Whole : ℕ → World → Type 0)
-    → ((storage : Storage S F) (cut : CutRound) → ((X : World) → MayFollow cut X → (place : ℕ) × Whole place X) → ((X : World) × Whole 0 X) → End storage cut)
+    → ((storage : Storage S F) (cut : CutRound) → Knows v d storage cut → ((X : World) → MayFollow cut X → (place : ℕ) × Whole place X) → ((X : World) × Whole 0 X) → End storage cut)
     → (storage : Storage S F) (cut : CutRound) (known : Knows v d storage cut) (noted : CutRound) (ms : List (Moment S F))
     → Happen v u d storage ms → AreLeast noted ms → Within cut noted → Serving v storage noted
     → ((place : ℕ) (X : World) → LeadsFrom v storage noted ms place X → Whole place X) → GoesBy v d End storage cut known ms
 goes_by v u d End Whole ends storage cut known noted [] h l w s whole =
-    ends storage cut (λ X f. let t = w X f in (t.place, whole t.place X (record { within = λ e. t.within; leads = record { explained = refl; reached = sym t.reached } })))
+    ends storage cut known (λ X f. let t = w X f in (t.place, whole t.place X (record { within = λ e. t.within; leads = record { explained = refl; reached = sym t.reached } })))
     (world_at noted 0, whole 0 (world_at noted 0) (record { within = λ e. omega arith; leads = record { explained = refl; reached = refl } }))
 goes_by v u d End Whole ends (Closed files) cut known noted (opened workers store voters (Some place) now ∷ ms) h l w s whole = λ spared.
     let found = h.0.0.finds cut known spared in
@@ -193,8 +193,8 @@ goes_by v u d End Whole ends (Closed files) cut known noted (cut_off round cause
 
 pub all_go_by : {S F : Type 0} (v : Service S) (u : Upkeep S) (d : Disk S F) → AllGoBy v u d
 all_go_by v u d files ms h l known =
-    goes_by v u d (λ storage cut. EndsWell ms cut) (λ place X. Leads fresh_world (rounds_in ms) (cuts_in place ms) X)
-    (λ storage cut found some. record { explained = some.1.explained; found = found })
+    goes_by v u d (EndsWell v d ms) (λ place X. Leads fresh_world (rounds_in ms) (cuts_in place ms) X)
+    (λ storage cut left found some. record { left = left; explained = some.1.explained; found = found })
     (Closed files) (uncut fresh_world) known (uncut fresh_world) ms h l (λ X f. f) tt (λ place X leads. leads.leads)
 
 pub runs_go_by : {S F : Type 0} (v : Service S) (u : Upkeep S) (d : Disk S F) → RunsGoBy v u d

@@ -72,12 +72,12 @@ cut_within v old now cut noted round Failed c w s = w
 cut_within v old now cut noted round TooLong c w s = w
 
 pub goes : {S F : Type 0} (v : Service S) (u : Upkeep S) (d : Disk S F) (End : Storage S F → CutRound → Type 0) (Whole : ℕ → World → Type 0)
-    → ((storage : Storage S F) (cut : CutRound) → ((X : World) → MayFollow cut X → (place : ℕ) × Whole place X) → ((X : World) × Whole 0 X) → End storage cut)
+    → ((storage : Storage S F) (cut : CutRound) → Knows v d storage cut → ((X : World) → MayFollow cut X → (place : ℕ) × Whole place X) → ((X : World) × Whole 0 X) → End storage cut)
     → (storage : Storage S F) (cut : CutRound) (known : Knows v d storage cut) (noted : CutRound) (ms : List (Moment S F))
     → Happen v u d storage ms → AreLeast noted ms → Within cut noted → Serving v storage noted
     → ((place : ℕ) (X : World) → LeadsFrom v storage noted ms place X → Whole place X) → Goes v d End storage cut known ms
 goes v u d End Whole ends storage cut known noted [] h l w s whole =
-    ends storage cut (λ X f. let t = w X f in (t.place, whole t.place X (record { within = λ e. t.within; leads = record { explained = refl; reached = sym t.reached } })))
+    ends storage cut known (λ X f. let t = w X f in (t.place, whole t.place X (record { within = λ e. t.within; leads = record { explained = refl; reached = sym t.reached } })))
     (world_at noted 0, whole 0 (world_at noted 0) (record { within = λ e. omega arith; leads = record { explained = refl; reached = refl } }))
 goes v u d End Whole ends (Closed files) cut known noted (opened workers store voters (Some place) now ∷ ms) h l w s whole = λ spared.
     let found = h.0.0.finds cut known spared in

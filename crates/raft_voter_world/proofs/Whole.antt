@@ -16,6 +16,6 @@ all_explained v u d files ms h l s n =
 
 pub all_transparent : {S F : Type 0} (v : Service S) (u : Upkeep S) (d : Disk S F) → AllTransparent v u d
 all_transparent v u d files ms h l known =
-    goes v u d (λ storage cut. EndsWell ms cut) (λ place X. Leads fresh_world (rounds_in ms) (cuts_in place ms) X)
-    (λ storage cut found some. record { explained = some.1.explained; found = found })
+    goes v u d (EndsWell v d ms) (λ place X. Leads fresh_world (rounds_in ms) (cuts_in place ms) X)
+    (λ storage cut left found some. record { left = left; explained = some.1.explained; found = found })
     (Closed files) (uncut fresh_world) known (uncut fresh_world) ms h l (λ X f. f) tt (λ place X leads. leads.leads)

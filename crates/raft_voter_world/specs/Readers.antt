@@ -62,11 +62,11 @@ abbrev pub AllGoBy : {S F : Type 0} → Service S → Upkeep S → Disk S F → 
 AllGoBy {S} {F} v u d =
     (files : F) (ms : List (Moment S F)) → Happen v u d (Closed files) ms → AreLeast (uncut fresh_world) ms
     → (known : d.leaves files (uncut fresh_world))
-    → GoesBy v d (λ storage cut. EndsWell ms cut) (Closed files) (uncut fresh_world) known ms
+    → GoesBy v d (EndsWell v d ms) (Closed files) (uncut fresh_world) known ms
 
 -- For each run that starts with files that store no voter, `GoesBy` holds, and the run ends well (`EndsWell`).
 abbrev pub RunsGoBy : {S F : Type 0} → Service S → Upkeep S → Disk S F → Type 0
 RunsGoBy {S} {F} v u d = (files : F) (events : List Event) (report : WorldReport F)
     → (run : IsRun v u d files events report) → (known : d.leaves files (uncut fresh_world))
-    → GoesBy v d (λ storage cut. EndsWell (moments_of run.turns ++ run.closing) cut) (Closed files) (uncut fresh_world)
+    → GoesBy v d (EndsWell v d (moments_of run.turns ++ run.closing)) (Closed files) (uncut fresh_world)
     known (moments_of run.turns ++ run.closing)

@@ -68,9 +68,14 @@ abbrev pub moments_of : {S F : Type 0} → List (List (Moment S F)) → List (Mo
 moments_of [] = []
 moments_of (ms ∷ mss) = ms ++ moments_of mss
 
--- Fresh voters that never fail give exactly the replies in the rounds of `ms`, with their cuts. They can end as any
--- voters that are possible after `cut`. For that, the last cut-off round may need another cut.
-pub record EndsWell {S F : Type 0} (ms : List (Moment S F)) (cut : CutRound) : Type 0 where
+-- How a history of the moments `ms` ends:
+-- - `left`: a later open of what it leaves (`storage`) finds only voters that are possible after `cut`.
+-- - `explained`: fresh voters that never fail give exactly the replies in its rounds, with their cuts.
+-- - `found`: these voters can end as any voters that are possible after `cut`. For that, the last cut-off round may
+--   need another cut.
+pub record EndsWell {S F : Type 0} (v : Service S) (d : Disk S F) (ms : List (Moment S F)) (storage : Storage S F)
+    (cut : CutRound) : Type 0 where
+  pub left : Knows v d storage cut
   pub explained : Explains (rounds_in ms) (cuts_in 0 ms)
   pub found : (X : World) → MayFollow cut X → (place : ℕ) × Leads fresh_world (rounds_in ms) (cuts_in place ms) X
 
@@ -88,13 +93,14 @@ abbrev pub AllTransparent : {S F : Type 0} → Service S → Upkeep S → Disk S
 AllTransparent {S} {F} v u d =
     (files : F) (ms : List (Moment S F)) → Happen v u d (Closed files) ms → AreLeast (uncut fresh_world) ms
     → (known : d.leaves files (uncut fresh_world))
-    → Goes v d (λ storage cut. EndsWell ms cut) (Closed files) (uncut fresh_world) known ms
+    → Goes v d (EndsWell v d ms) (Closed files) (uncut fresh_world) known ms
 
 -- A run of these events that began with these files: what happened, what the report has, and what holds for it.
 -- - Suppose no open lost voters, and each store whose voters were read served some. Then fresh voters that never fail
 --   give exactly the replies of the transcript.
 -- - Suppose the files stored no voter, and there was no CRC collision. Then no open loses voters. Fresh voters that
---   never fail give exactly these replies, and can end as any voters that may be left at the end.
+--   never fail give exactly these replies, and can end as any voters that may be left at the end. A later open of the
+--   report's files finds only such voters.
 pub record IsRun {S F : Type 0} (v : Service S) (u : Upkeep S) (d : Disk S F) (files : F) (events : List Event)
     (report : WorldReport F) : Type 0 where
   pub turns : List (List (Moment S F))
@@ -109,5 +115,5 @@ pub record IsRun {S F : Type 0} (v : Service S) (u : Upkeep S) (d : Disk S F) (f
   pub lost : report.lost ≡ lost_from 0 turns
   pub explained : ServeSome v (moments_of turns) → report.lost ≡ [] → Explains report.transcript.rounds report.cuts
   pub transparent : (known : d.leaves files (uncut fresh_world))
-      → Goes v d (λ storage cut. EndsWell (moments_of turns ++ closing) cut) (Closed files) (uncut fresh_world) known
+      → Goes v d (EndsWell v d (moments_of turns ++ closing)) (Closed files) (uncut fresh_world) known
       (moments_of turns ++ closing)

@@ -30,12 +30,6 @@ pub record Settles {S : Type 0} (v : Service S) (x : Sharing S) : Type 0 where
   pub last : is_last x.session.failure x.session.journal ≡ true
   pub left : (W : World) → IsOpenAt v x.opened W → ∥ v.leaves x.settled (behind W x.session) ∥₁
 
--- Suppose that after a close or a crash of `old`, an open finds only voters that are possible after a cut-off round.
--- Then `new` serves such voters.
-abbrev pub GoesOn : {S : Type 0} → Service S → S → S → Type 0
-GoesOn v old new =
-    (cut : CutRound) → ∥ v.leaves old cut ∥₁ → ∥ ((X : World) × MayFollow cut X × IsOpenAt v new X) ∥₁
-
 -- if the opening `x` began with the voters of a world, the store `next` serves voters that are possible after `x`
 abbrev pub ContinuesFrom : {S : Type 0} → Service S → Sharing S → S → Type 0
 ContinuesFrom v x next = (W : World) → IsOpenAt v x.opened W

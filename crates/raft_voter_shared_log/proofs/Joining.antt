@@ -51,7 +51,5 @@ joined_openings_are_explained v (x ∷ xs) begins joined =
     openings_are_explained led.0 (sessions_of (x ∷ xs)) led.1))
 
 pub disks_go_on : {S F : Type 0} (v : Service S) (d : Disk S F) → DisksGoOn v d
-disks_go_on v d old new closed left closes crashes spares finds chance cut was =
-    ∥∥₁_map was (λ stood.
-    let known = crashes cut (closes cut stood) (spares cut (closes cut stood)) in
-    finds cut known (chance cut known))
+disks_go_on v d old new closed left cut was closes crashes finds spared chance =
+    finds cut (crashes cut (closes cut was) spared) chance

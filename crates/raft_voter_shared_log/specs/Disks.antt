@@ -1,17 +1,17 @@
 -- A store on a disk is closed, and it is opened again, after a crash or without one.
-use Rattle.raft_voter.specs.Service.{CutRound, Service}
+use Rattle.raft_voter.specs.Rounds.{World}
+use Rattle.raft_voter.specs.Service.{CutRound, IsOpenAt, MayFollow, Service}
 use Rattle.raft_voter_world.specs.Stores.{Disk, FindsVoters, LeavesInFiles, LeavesStanding}
-use Rattle.raft_voter_shared_log.specs.Joining.{GoesOn}
-
--- The files `read`, which are read in place of `files`, have no CRC collision. The condition depends on a cut-off round
--- that `files` leave, and on a proof that they leave it. It is required for each such round and each proof.
-abbrev pub Spares : {S F : Type 0} → Disk S F → F → F → Type 0
-Spares d files read = (cut : CutRound) (known : d.leaves files cut) → d.without_chance files cut known read
 
 -- The close of store `old` left the files `closed`. Store `new` was opened from `left`: these files, or what a crash
--- left of them. If there is no CRC collision in what was read, `new` has voters that are possible after what `old`
--- left.
+-- left of them. Suppose that after a close or a crash of `old`, an open finds only voters that are possible after the
+-- round `cut`, and that there is no CRC collision in `left`. Then `new` serves such voters.
+--
+-- CRC collisions depend on a proof that the files leave these voters. For `closed` it is the proof that the close gives,
+-- and for `left` the one that follows from it.
 abbrev pub DisksGoOn : {S F : Type 0} → Service S → Disk S F → Type 0
-DisksGoOn {S} {F} v d = (old new : S) (closed left : F) → LeavesInFiles v d old closed
-    → LeavesStanding v d closed left left → Spares d closed left → FindsVoters v d left new → Spares d left left
-    → GoesOn v old new
+DisksGoOn {S} {F} v d = (old new : S) (closed left : F) (cut : CutRound) → (was : v.leaves old cut)
+    → (closes : LeavesInFiles v d old closed) → (crashes : LeavesStanding v d closed left left)
+    → FindsVoters v d left new → (spared : d.without_chance closed cut (closes cut was) left)
+    → d.without_chance left cut (crashes cut (closes cut was) spared) left
+    → (X : World) × MayFollow cut X × IsOpenAt v new X

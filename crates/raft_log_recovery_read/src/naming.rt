@@ -14,24 +14,23 @@ use std::alloc::{AllocError, Global};
 pub(crate) fn named_damage(alloc: Global, id: FileId, end: Option<usize>, fault: Error) -> Error
     ensures { NamesDamage id end fault result }
 {
-    match damage_text(alloc, id, end.unwrap_or(0), &fault) {
+    match damage_text(alloc, id, end.unwrap_or(0), fault_text(&fault)) {
         Ok(text) => Error::Corruption(text),
         Err(_) => Error::Memory,
     }
 }
 
-/// Returns the text of the error for a damaged file.
+/// Returns the text of the error for a file that is damaged in this way.
 fn damage_text(
     alloc: Global,
     id: FileId,
     offset: usize,
-    fault: &Error,
+    wrong: &str,
 ) -> Result<String, AllocError>
-    ensures { IfOk result (λ text. string_bytes text ≡ told_damage id offset (fault_text fault.now)) }
+    ensures { IfOk result (λ text. string_bytes text ≡ told_damage id offset wrong.now) }
 {
     let queue = queue_name(id.queue);
     let seq = id.seq;
-    let wrong = fault_text(fault);
     format!(in alloc; "{queue} file {seq}: damaged at offset {offset}: {wrong}")
 }
 

@@ -83,8 +83,12 @@ pub fn check_log_in_turn<L: Log, F: FileSystem + Sync>(
     if file_system.has_stopped() {
         return Err(Error::Io(ErrorKind::Other));
     }
-    let CheckedQueues { append, rewrite } = match read_runs_in_turn(rt, alloc, config, file_system)
-    {
+    let CheckedQueues { append, rewrite } = match read_runs_in_turn(
+        rt,
+        alloc,
+        config,
+        file_system,
+    ) {
         Ok(queues) => queues,
         Err(error) => return Err(error),
     };

@@ -21,12 +21,7 @@ pub(crate) fn named_damage(alloc: Global, id: FileId, end: Option<usize>, fault:
 }
 
 /// Returns the text of the error for a file that is damaged in this way.
-fn damage_text(
-    alloc: Global,
-    id: FileId,
-    offset: usize,
-    wrong: &str,
-) -> Result<String, AllocError>
+fn damage_text(alloc: Global, id: FileId, offset: usize, wrong: &str) -> Result<String, AllocError>
     ensures { IfOk result (λ text. string_bytes text ≡ told_damage id offset wrong.now) }
 {
     let queue = queue_name(id.queue);

@@ -20,8 +20,8 @@ pub record StaysPurged {P : Type 0} (old new : LogEngine P) : Type 0 where
   pub thresholds : new.thresholds ≡ old.thresholds
   pub counts : new.counts ≡ old.counts
 
--- Append's pipe tried to append a record and failed with `TryAgain`, for lack of space. It has rotated to a new file,
--- and hasn't failed.
+-- Append's pipe tried to append a record, and the call returned `TryAgain`, for lack of space. The pipe has rotated to
+-- a new file, and still takes calls.
 abbrev pub FindsNoSpace : (LogFileContext → List ℕ) → LogPipes → LogPipes → Type 0
 FindsNoSpace signed v w = (error : Error) × SaysTryAgain error × (is_failed w ≡ false)
     × PipeFailsToAppend InAppend signed error v w

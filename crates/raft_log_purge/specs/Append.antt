@@ -164,7 +164,7 @@ pub record FailsToLoseTo (gate : ℕ) (error : Error) (s t : EngineState) : Type
   pub cause : gate < last_of InAppend s.pipes → (home : LogDirectories) (log : LogMap) → HoldsSettled home s log
       → HasFileReason error s t
 
--- A step after the owed tombstones were written failed.
+-- The owed tombstones were written, and a later step failed.
 -- - `remains`: the contents are kept as `StaysOrIsLeftSettled` says.
 -- - `cause`: if the gate was before Append's active file, no tombstone was owed and nothing pending, `HasReason` gives
 --   the reason.

@@ -103,8 +103,9 @@ abbrev pub replies_in_turn : World → List (ℕ × Request) → List Reply
 replies_in_turn W [] = []
 replies_in_turn W (q ∷ qs) = reply (W q.0) q.1 ∷ replies_in_turn (after_one W q) qs
 
--- These requests were all taken in memory, in order, and `told` are the replies. The synced bytes are the same. If all
--- voters were in range and no unsynced record changed them, the changes were written as records.
+-- These requests were all taken in memory, in order, and `told` are the replies. The synced bytes are the same. Suppose
+-- that before the requests all voters were in range, and the unsynced records changed no voter. Then the unsynced
+-- records now lead from the voters before the requests to those after.
 pub record TakesAll (old : PlainVoters) (asked : List (ℕ × Request)) (told : List Reply) (new : PlainVoters)
     : Type 0 where
   pub told_is : told ≡ replies_in_turn (world_of old) asked

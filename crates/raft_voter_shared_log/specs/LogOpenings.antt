@@ -76,8 +76,9 @@ pub record ComesNext {F : Type 0} (disk : F → Disk) (shows : LogStore F → En
   pub sound : IsSound (disk next.found)
   pub reads : ReadsClosed disk shows x next ⊎ ReadsLeft disk shows x next
 
--- What follows the opening `x`. The next opening opens what `x` left, and finds voters up to the cut of `x`. If there
--- is no next opening, the cut may be any position.
+-- What follows the opening `x`. The next opening opens what `x` left. It finds the voters after the requests of `x`, up
+-- to the position at which the round that failed was cut off (`ShowsPlace`). If there is no next opening, that position
+-- may be any (`HasPlace`).
 abbrev pub IsFollowedInLog : {F : Type 0} → (F → Disk) → (LogStore F → EngineState) → LogSharing F → List (LogSharing F) → Type 0
 IsFollowedInLog disk shows x [] = HasPlace (log_service shows) x.shared
 IsFollowedInLog disk shows x (y ∷ ys) = ComesNext disk shows x y × ShowsPlace (log_service shows) x.shared y.shared.opened

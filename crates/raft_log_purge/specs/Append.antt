@@ -127,8 +127,8 @@ GoesOnBehindMarks exit gate m s t = MatchBool (ends_after 1 exit) (t ≡ s)
 
 -- Append was rewritten. It was synced, rotated if its active file was the gate, and the owed tombstones were written.
 -- Then all groups were rewritten and files left the live range, unless `exit` requested an earlier end. The log has the
--- same contents, nothing is pending, and no tombstone is owed. If no watermark and no last step was requested, Append
--- has one file left.
+-- same contents, nothing is pending, and no tombstone is owed. If neither a watermark nor an earlier end was requested,
+-- Append has one file left.
 pub record RewritesAppend (watermark exit : Option ℕ) (m : MemTables) (s t : EngineState) : Type 0 where
   pub synced : LogPipes
   pub syncs : SyncsQueue InAppend s.pipes synced

@@ -3,8 +3,9 @@ use Rattle.raft_voter.specs.Service.{CutRound, Service}
 use Rattle.raft_voter_world.specs.Stores.{Disk, FindsVoters, LeavesInFiles, LeavesStanding}
 use Rattle.raft_voter_shared_log.specs.Joining.{GoesOn}
 
--- The files `read`, which are read in place of `files`, have no CRC collision. The condition depends on a cut-off round
--- that `files` leave, and on a proof that they leave it. It is required for each such round and each proof.
+-- The files `read`, which are read in place of `files`, have no CRC collision. This depends on the state that `files`
+-- hold: the voters before a round that was cut off and after it (`cut`). It is required for each such state of `files`,
+-- and each proof that they hold it.
 abbrev pub Spares : {S F : Type 0} → Disk S F → F → F → Type 0
 Spares d files read = (cut : CutRound) (known : d.leaves files cut) → d.without_chance files cut known read
 

@@ -21,7 +21,7 @@ abbrev pub are_runs : ℕ → List Run → Bool
 are_runs base [] = nat_lt base (2 ^ 63)
 are_runs base (r ∷ rs) = nat_lt base r.last && are_runs r.last rs
 
--- the entry before, if there is one, has this term
+-- there is an entry before, and its term `before` is this one
 abbrev pub is_behind : Option ℕ → ℕ → Bool
 is_behind before term = option_map_or (λ t. t == term) before false
 

@@ -34,8 +34,8 @@ pub record StandsBehind (bytes : List ℕ) (cut : CutRound) : Type 0 where
   pub alone : (X : World) → StandsFor bytes X → X ≡ world
   pub follows : MayFollow cut world
 
--- the synced bytes of this file store voters that are possible after the cut-off round `cut`, and all its bytes
--- together also do
+-- the synced bytes of this file store voters that are possible after the cut-off round `cut`, and so do all its bytes,
+-- synced or not
 pub record FileStandsBehind (file : PlainContent) (cut : CutRound) : Type 0 where
   pub synced : StandsBehind file.synced cut
   pub read : StandsBehind (whole file) cut

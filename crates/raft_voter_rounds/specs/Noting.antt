@@ -69,8 +69,8 @@ cut_told place cause (n ∷ counts) = Err (faults.Cut place cause) ∷ cut_told 
 -- Steps.
 
 -- The store `old` replied with `told` to the rounds, as one round, and is `new` afterwards. The callers get `replies`,
--- with `Refused` for Reads whose entries couldn't be copied. The records were appended to the journal `rounds`, and
--- each caller gets the answer to its own round.
+-- with `Refused` for Reads whose entries couldn't be copied. These are right (`AnswersRound`). The records were
+-- appended to the journal `rounds`, and each caller gets the answer to its own round.
 pub record NotesAnswered {S : Type 0} (v : Service S) (counts : List ℕ) (requests : List (ℕ × Request))
     (old : S) (rounds : List Round) (new : S) (rounds' : List Round) (answers : List (Result Told SharedFault))
     : Type 0 where

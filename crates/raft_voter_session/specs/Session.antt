@@ -88,7 +88,7 @@ after_line line so_far =
 
 -- Sessions.
 
--- the session after the last line; if something is still open, the number of the missing line
+-- the session after the last line; if the settings or a round are still open, `number`, that of the missing line
 abbrev pub at_end : ℕ → SessionContent → Part → Result SessionContent ℕ
 at_end number told nothing = Ok told
 at_end number told part = Err number

@@ -15,6 +15,6 @@ pub record CameToFail {S : Type 0} (v : Service S) (cut : CutRound) (store : S) 
   pub left : v.leaves after cut
   pub still : (stood : CutRound) → v.leaves after stood → v.leaves store stood
 
--- if a failure is noted, the store failed in this way and left `cut`
+-- if a failure is noted, the store failed as `CameToFail` says, and left `cut`
 abbrev pub CameToFailAs : {S : Type 0} → Service S → Option Failure → CutRound → S → Type 0
 CameToFailAs v failure cut store = is_some failure ≡ true → ∥ CameToFail v cut store ∥₁

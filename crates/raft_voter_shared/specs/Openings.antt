@@ -50,8 +50,8 @@ pub record Session : Type 0 where
   pub place : ℕ
 
 -- These openings lead from world `W` to world `X`. Each journal is legal, starting with the voters that the opening
--- before left. An opening leaves the voters after its journal. Of the rounds in which it failed, they took the requests
--- below its `place`.
+-- before left, and its failure fits it (`is_last`). An opening leaves the voters after its journal. Of the rounds in
+-- which it failed, they took the requests below its `place`, except the refused ones.
 abbrev pub Openings : World → List Session → World → Type 0
 Openings W [] X = W ≡ X
 Openings W (s ∷ ss) X =

@@ -27,8 +27,8 @@ Undisturbed n xs said o (Part (End k) ys ∷ rs) =
     (Undisturbed n xs (said ++ counts o (Part (End k) ys)) (opens o (Part (End k) ys)) rs)
 
 -- Take each atomic group that begins and ends in these records, and the records between its begin and its end. No raft
--- group has items both in the atomic group and in what starts to count of these records. A group that began before
--- isn't considered.
+-- group has items both in the atomic group and in what counts of the records between. Another atomic group that began
+-- before this one isn't considered.
 abbrev pub Tidy : {E V : Type 0} → List (Record E V) → Type 0
 Tidy [] = ⊤
 Tidy (Plain xs ∷ rs) = Tidy rs

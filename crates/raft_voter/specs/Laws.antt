@@ -78,8 +78,8 @@ BaseIsCommitted =
 abbrev pub sent_at : ℕ → List (ℕ × List ℕ) → ℕ → Option (ℕ × List ℕ)
 sent_at prev sent i = if nat_lt prev i then slice_get sent (i - prev - 1) else None
 
--- an Append of the entries `sent` after index `prev` has an entry for index `i`, and voter `v` doesn't have its term
--- there
+-- an Append of the entries `sent` after index `prev` has an entry for index `i`, and voter `v` doesn't have that
+-- entry's term there
 abbrev pub BringsOther : State → ℕ → List (ℕ × List ℕ) → ℕ → Type 0
 BringsOther v prev sent i = IsSomeAnd (sent_at prev sent i) (λ e. term_at v i ≢ Some e.0)
 
@@ -102,7 +102,7 @@ MatchedAppend =
 -- When voter `v` keeps its entry at index `i` while it takes this request:
 -- - Append: if the reply is `Matched`, it brings no term up to `i` that the voter doesn't have at the same index.
 -- - Compact: the base stays below `i`.
--- - Install: the base stays below `i`. If it moves, the voter has the snapshot's last index with the snapshot's term.
+-- - Install: the base stays below `i`. If it moves, the voter has the snapshot's term at the snapshot's last index.
 -- - Retire: never. Every other request: always.
 abbrev pub SparesEntry : State → ℕ → Request → Type 0
 SparesEntry v i (Append term prev prev_term commit sent) =

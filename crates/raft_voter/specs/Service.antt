@@ -122,8 +122,9 @@ AnswersRound v requests told old new =
 
 -- Rounds that are cut off: they end without replies.
 
--- A file system call failed in the round, which changed service `old` into `new`. A later open finds voters that took
--- the requests before some position, without those at the positions `refused`. The service may refuse these positions.
+-- A round changed service `old` into `new`, and the service may refuse the positions `refused`. Suppose `old` serves
+-- the voters of a world. Then a file system call failed in the round. A later open finds these voters after the
+-- requests before some position, without those at the refused positions.
 pub record TookSome {S : Type 0} (v : Service S) (refused : List ℕ) (requests : List (ℕ × Request))
     (old new : S) : Type 0 where
   pub rising : IsTrue (are_rising 0 (length requests) refused)

@@ -1,6 +1,6 @@
 -- The history of a store: the records of all its rounds, in order. It exists in proofs alone. A keeper knows all of it,
--- and a claim its records from some place on. Both are passes, values without bytes, of a cell of `crossbeam_utils`.
--- The view of a pass says what the pass knows.
+-- and a claim some consecutive records of it. Both are passes of a cell of `crossbeam_utils`: values without bytes. The
+-- view of a pass says what the pass knows.
 use Rattle.std.specs.Prelude.{◌≡◌, ℕ, List, [], ◌++◌, length, Bool, true, false}
 use mathlib.Core.Option.{some}
 use lib.ListN.{get_elem?}

@@ -46,9 +46,9 @@ abbrev pub refused_by : Bool → List (ℕ × Request) → List ℕ
 refused_by false requests = out_of_range 0 requests
 refused_by true requests = []
 
--- The plain store as a service. A close or a crash leaves voters that its file stores. It refuses exactly the requests
--- out of range, or none if it has failed by the end of the round. A file system call counts as failed between two
--- states if only the second of them has failed.
+-- The plain store as a service. A close or a crash leaves voters that its file stores. The store refuses exactly the
+-- requests out of range, or none if it has failed by the end of the round. A file system call failed between two states
+-- if the store had failed in the second one, but not in the first.
 abbrev pub plain_voters : Service PlainVoters
 plain_voters = record {
   serves = ServesVoters;

@@ -36,16 +36,16 @@ answered_each [] requests replies = []
 answered_each (n ∷ counts) requests replies =
     answered (take n requests) (take n replies) ∷ answered_each counts (drop n requests) (drop n replies)
 
--- the positions in the list that are in a round of `count` requests whose first one has position `start`; each is
--- counted anew from the round's first request
+-- of these positions, those in the round of `count` requests that begins at position `start`; they count anew from the
+-- round's first request
 abbrev pub places_within : ℕ → ℕ → List ℕ → List ℕ
 places_within start count [] = []
 places_within start count (p ∷ ps) =
     if nat_le start p && nat_lt p (start + count) then (p - start) ∷ places_within start count ps
     else places_within start count ps
 
--- The records of rounds that were cut off together: each has its own requests and refused positions. `refused` has the
--- refused positions of all, and the first of these requests has position `start`.
+-- The records of rounds that were cut off together: each has its own requests and refused positions. The first of these
+-- requests has position `start`, and `refused` has the refused positions of all rounds, counted alike.
 abbrev pub cut_each : ℕ → List ℕ → List (ℕ × Request) → List ℕ → List Round
 cut_each start [] requests refused = []
 cut_each start (n ∷ counts) requests refused =

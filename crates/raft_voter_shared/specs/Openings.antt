@@ -76,9 +76,9 @@ OpeningsLead = (W X : World) (ss : List Session) → Openings W ss X → Leads W
 abbrev pub OpeningsAreExplained : Type 0
 OpeningsAreExplained = (X : World) (ss : List Session) → Openings fresh_world ss X → Explains (all_rounds ss) (all_cuts ss)
 
--- The store `old` was closed, and left `files`; a crash made of these the files `left`, and a store `new` was opened
--- over them. Suppose there is no CRC collision in `left`, neither as an image of `files` nor of `left` itself. Then
--- `new` serves voters that are possible after each cut-off round that `old` left.
+-- The store `old` was closed, and left `files`. A crash made `left` of them, and the store `new` was opened from
+-- `left`. Suppose there is no CRC collision in `left`, neither as an image of `files` nor of `left` itself. Then `new`
+-- serves voters that are possible after each cut-off round that `old` left.
 abbrev pub OpeningsGoOn : {S F : Type 0} → Service S → Files S F → Type 0
 OpeningsGoOn {S} {F} v f =
     (old new : S) (files left : F) (cut : CutRound) → ∥ v.leaves old cut ∥₁ → LeavesInFiles v f old files

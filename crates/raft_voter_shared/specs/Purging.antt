@@ -15,7 +15,7 @@ pub record KeepsServed {S : Type 0} (v : Service S) (old new : S) : Type 0 where
   pub fails : (W : World) → IsOpenAt v old W → v.is_failed new ≡ true → v.fails old new
   pub left : (cut : CutRound) → v.leaves old cut → v.leaves new cut
 
--- A shared store was purged. It served voters of `served` when it was shared.
+-- A shared store was purged. When it was shared, it served the voters of each world with `served`.
 -- - `does`: the purge changed the store `old` into `new`, as `Does` says. `keeps`: no voter changed.
 -- - `history`: the records of its rounds before the purge. `legal`: they are a legal history.
 -- - `serves`: unless it had failed before, it served the voters after the history.

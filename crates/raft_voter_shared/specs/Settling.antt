@@ -26,8 +26,9 @@ abbrev pub SettlesUnless : ℕ → List Round → ℕ → ℕ → List Statement
 SettlesUnless first rounds all parts receipts None = (parts ≡ all) × AllRight first rounds receipts
 SettlesUnless first rounds all parts receipts (Some cause) = IsCause first rounds all parts receipts cause
 
--- There is a history of a store's rounds, which is legal for the voters that the store served when it was shared. From
--- its journal, records were taken as `TakesKept` says: `old` are those taken before the call, and `new` those after it.
+-- There is a history of a store's rounds. It is legal for the voters that the store served when it was shared: those of
+-- each world with `served`. A call took records from its journal as `TakesKept` says. `old` are all records taken
+-- before the call, and `new` all taken after it.
 pub record AreTaken (served : World → Type 0) (old new : List Round) : Type 0 where
   pub history : List Round
   pub legal : (W : World) → served W → IsLegal W history
@@ -35,8 +36,8 @@ pub record AreTaken (served : World → Type 0) (old new : List Round) : Type 0 
   pub left : List Round
   pub takes : TakesKept history kept left old new
 
--- A store was settled. It served voters of `served` when it was shared. The seats counted `turns` records, as many as
--- the history has (`count`). The store was given at most as many rounds, `calls` (`few`).
+-- A store was settled. When it was shared, it served the voters of each world with `served`. The seats counted `turns`
+-- records, as many as the history has (`count`). The store was given at most as many rounds, `calls` (`few`).
 -- - `history`: there is a history of its rounds. `begins`: it begins with the records that were taken from the journal.
 -- - `kept`, `whole`: the journal kept exactly its records from place `first` on (`rounds`).
 -- - `legal`, `last`: the history is legal. If the store failed in rounds, these and all later ones were cut off.

@@ -42,7 +42,7 @@ cut_by cause cut round = cut
 abbrev pub cut_after : CutRound → Round → CutRound
 cut_after cut round = uncut (after cut.before (taken_below round (length round.requests)))
 
--- For each open that shows voters, `place` is the first position in the last cut-off round at which they fit. It is
+-- For each open that shows voters, its `place` is the first position at which they fit the last cut-off round. It is
 -- `None` if they fit at no position. `cut` is the last cut-off round before these moments.
 abbrev pub AreLeast : {S F : Type 0} → CutRound → List (Moment S F) → Type 0
 AreLeast cut [] = Unit {0}

@@ -241,9 +241,10 @@ abbrev pub Opens :
 Opens u d workers gone files ms =
     Either (d.has_stopped files) (Falls u d gone (Closed files) ms) (One u d gone (IsOpening u workers gone) ms)
 
--- This event makes the moments `ms` in this storage. An event that doesn't fit the storage, such as a purge if no store
--- is open, does nothing. If the disk stops in a moment, a crash follows at once. `gone` is what that crash leaves of
--- the unsynced changes, as the last event that armed a stop asks.
+-- This event makes the moments `ms` in this storage. An Open first closes a store that is open. An event that doesn't
+-- fit the storage, such as a purge if no store is open, does nothing; nor does a fault at call 0. If the disk stops in
+-- a moment, a crash follows at once. `gone` is what that crash leaves of the unsynced changes, as the last event that
+-- armed a stop asks.
 abbrev pub Turns :
     {S F : Type 0} → Upkeep S → Disk S F → Left → Storage S F → Event → List (Moment S F) → Type 0
 Turns u d gone storage (RoundEvent requests) ms = One u d gone (IsRoundOf requests) ms

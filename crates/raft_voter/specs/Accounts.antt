@@ -31,8 +31,8 @@ abbrev pub untold : List (ℕ × Request) → List Taken
 untold [] = []
 untold (q ∷ qs) = record { group = q.0; request = q.1; told = None } ∷ untold qs
 
--- The account of round `r`, without its requests at refused positions. If it has replies, these are its requests, each
--- with its reply. If it was cut off, these are its requests before the first of `cuts`, without replies.
+-- The account of round `r`: its requests, except those at refused positions. If the round has replies, each request has
+-- its reply. If the round was cut off, only the requests before the first of `cuts` are there, without replies.
 abbrev pub account_of_round : Outcome → Round → List ℕ → List Taken
 account_of_round (Answered replies) r cuts = told_from 0 r.refused r.requests replies
 account_of_round Cut r cuts = untold (taken_below r (place_reached Cut (length r.requests) cuts))

@@ -96,8 +96,8 @@ place_reached (Answered replies) size cuts = size
 place_reached Cut size [] = 0
 place_reached Cut size (cut ∷ cuts) = cut
 
--- The outcome of round `r` is possible in world `W`. If it has replies, these are what the voters of `W` reply. If it
--- was cut off, the first of `cuts` is at most the number of its requests.
+-- The outcome of round `r` is possible in world `W`. If the round has replies, these are what the voters of `W` reply.
+-- If it was cut off, there is a first of `cuts`, which is at most the number of the round's requests.
 abbrev pub OutcomeHolds : Outcome → World → Round → List ℕ → Type 0
 OutcomeHolds (Answered replies) W r cuts = replies ≡ replies_of W r
 OutcomeHolds Cut W r cuts = HasCut (length r.requests) cuts

@@ -74,8 +74,8 @@ pub record CanChange (t : Terms) (q : Request) (c : Change) : Type 0 where
   pub rests : RestsOn c.write voter c.state.base_index
   pub small : c.state.base_index < 2 ^ 63
 
--- `new` is `old` after change `c` for request `q`: it has the change's base index. Each voter with the terms `old` has
--- a log with the terms `new` once the change's write was made.
+-- `new` is `old` after change `c` for request `q`, and has the change's base index. Once the change's write is made to
+-- a voter with the terms `old`, the voter's log has the terms `new`.
 abbrev pub ChangesTerms : Terms → Request → Change → Terms → Type 0
 ChangesTerms old q c new =
     (new.base ≡ c.state.base_index)

@@ -27,8 +27,8 @@ SettlesUnless first rounds all parts receipts None = (parts ≡ all) × AllRight
 SettlesUnless first rounds all parts receipts (Some cause) = IsCause first rounds all parts receipts cause
 
 -- There is a history of a store's rounds. It is legal for the voters that the store served when it was shared: those of
--- each world with `served`. A call took records from its journal as `TakesKept` says. `old` are all records taken
--- before the call, and `new` all taken after it.
+-- each world with `served`. A call took records from its journal as `TakesKept` says. `old` and `new` are all records
+-- taken so far, before and after the call.
 pub record AreTaken (served : World → Type 0) (old new : List Round) : Type 0 where
   pub history : List Round
   pub legal : (W : World) → served W → IsLegal W history

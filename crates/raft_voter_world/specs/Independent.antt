@@ -77,7 +77,7 @@ pub record IsWhole (round : Round) : Type 0 where
   pub answered : round.outcome ≡ Answered replies
   pub refused : round.refused ≡ out_of_range 0 round.requests
 
--- each of these rounds got replies, and refused exactly its requests out of range
+-- each of these rounds got replies, and exactly its requests out of range were refused
 abbrev pub AreWhole : List Round → Type 0
 AreWhole [] = Unit {0}
 AreWhole (round ∷ rounds) = IsWhole round × AreWhole rounds

@@ -105,7 +105,7 @@ AnswersTakenAsModel {S} {T} model v =
     → IsOpenAt model old W → AreServed model (taken_in rounds heard) told old new
     → TellsTaken model v told heard new last
 
--- Suppose store `model` can only refuse the requests out of range. Then `model` gives the replies that store `v` gave,
--- if it gets the requests that `v` didn't refuse.
+-- Suppose store `model` can only refuse the requests out of range, and gets the requests that store `v` didn't refuse.
+-- Then the model gives the replies that `v` gave to them.
 abbrev pub StoresAnswerTakenAsModels : {S T : Type 0} → Service S → Service T → Type 0
 StoresAnswerTakenAsModels model v = RefusesOutOfRange model → AnswersTakenAsModel model v

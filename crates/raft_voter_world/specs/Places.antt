@@ -3,7 +3,7 @@ use Rattle.std.specs.Prelude.{◌≡◌, ◌≢◌, ℕ, ◌≤◌, ◌<◌, Opt
 use Rattle.raft_voter.specs.Rounds.{World, after, taken_from}
 use Rattle.raft_voter.specs.Service.{CutRound}
 
--- the voters after the requests of the cut-off round before position `place` were taken
+-- the voters once they took the cut-off round's requests before position `place`, except the refused ones
 abbrev pub world_at : CutRound → ℕ → World
 world_at cut place = after cut.before (taken_from 0 place cut.refused cut.requests)
 

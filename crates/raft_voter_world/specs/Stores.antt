@@ -101,8 +101,8 @@ LeavesStanding v d files read left =
     (cut : CutRound) (known : d.leaves files cut) → d.without_chance files cut known read → d.leaves left cut
 
 -- A crash under the open store `store` left the files `left`. Suppose that after a close or a crash of `store`, only
--- voters that are possible after a cut-off round are found. Then `leaves_under` holds for this round. If, by a proof of
--- that, `left` have no CRC collision, an open of `left` finds only such voters.
+-- voters that are possible after a cut-off round are found. Then `leaves_under` holds for this round. If `left` have no
+-- CRC collision (`spares`), an open of `left` finds only such voters.
 abbrev pub LeavesUnder : {S F : Type 0} → Service S → Disk S F → S → F → Type 0
 LeavesUnder v d store left =
     (cut : CutRound) → v.leaves store cut

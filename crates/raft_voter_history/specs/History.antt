@@ -42,7 +42,7 @@ abbrev pub IsOneHistory : List ℕ → List View → Type 0
 IsOneHistory words views =
     (seat : ℕ) × (log : List Round) × ((by : ℕ) (v : View) → get_elem? views by ≡ some v → IsTrue seat log by v)
 
--- the records `part` were added to the history that the pass with the view `v` knows; its view is `w` then
+-- the records `part` were added to the history that the pass with the view `v` knows; afterwards its view is `w`
 abbrev pub Notes : List Round → View → List ℕ → List ℕ → View → Type 0
 Notes part v before after w = w ≡ knows (v.all ++ part)
 

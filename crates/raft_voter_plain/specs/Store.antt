@@ -125,9 +125,9 @@ pub record WroteSome (W : World) (asked : List (ℕ × Request)) (unsynced : Lis
   pub taken : Stopped W asked world
   pub written : LeadTo W unsynced world
 
--- These requests get no replies. A prefix was taken in memory. The changes of a prefix were written as records, if all
--- voters were in range and no unsynced record changed them before. The two prefixes may differ. The synced bytes are
--- the same.
+-- These requests get no replies. A prefix of them was taken in memory. The synced bytes are the same. Suppose that
+-- before the requests all voters were in range, and the unsynced records changed no voter. Then the changes of a prefix
+-- of the requests were written as records. The two prefixes may differ.
 pub record AnswersNone (old : PlainVoters) (asked : List (ℕ × Request)) (new : PlainVoters) : Type 0 where
   pub taken : Stopped (world_of old) asked (world_of new)
   pub synced : new.file.synced ≡ old.file.synced

@@ -68,9 +68,9 @@ cut_told place cause (n ∷ counts) = Err (faults.Cut place cause) ∷ cut_told 
 
 -- Steps.
 
--- The store `old` replied with `told` to the rounds, as one round, and is `new` afterwards. The callers get `replies`,
--- with `Refused` for Reads whose entries couldn't be copied. These are right (`AnswersRound`). The records were
--- appended to the journal `rounds`, and each caller gets the answer to its own round.
+-- The store `old` replied with `told` to the rounds, as one round, and is `new` afterwards. The callers get `replies`:
+-- those in `told`, but `Refused` for Reads whose entries couldn't be copied. `AnswersRound` holds for `replies`. The
+-- records were appended to the journal `rounds`, and each caller gets the answer to its own round.
 pub record NotesAnswered {S : Type 0} (v : Service S) (counts : List ℕ) (requests : List (ℕ × Request))
     (old : S) (rounds : List Round) (new : S) (rounds' : List Round) (answers : List (Result Told SharedFault))
     : Type 0 where
@@ -136,7 +136,7 @@ may_tell (Err (faults.Cut place cause)) count = may_cut cause count
 may_tell (Err faults.Memory) count = true
 
 -- A round of `count` requests may be served together with `rounds` other rounds, which have `requests` requests in all.
--- It may if there are no others, or if all together have at most 4,096. A round that is too long thus goes to the store
--- alone.
+-- It may if there are no others, or if all together have at most 4,096 requests. So a round that is too long goes to
+-- the store alone.
 abbrev pub may_join : ℕ → ℕ → ℕ → Bool
 may_join rounds requests count = (rounds == 0) || nat_le (requests + count) 4096

@@ -231,8 +231,8 @@ pub record IsReadOfWritten (v : State) (s : VoterState) (es : List Entry) : Type
   pub state : IsState (state_text (state_of v)) s
   pub entries : AreReadAs (v.base_index + 1) (map entry_text (log_entries v)) es
 
--- If voter `v` can be stored, the bytes that are written for it can be read as its entries and its state, with its base
--- in place of the last entry. Whatever is read from these bytes restores `v`.
+-- Suppose voter `v` can be stored. The bytes that are written for it can be read as its entries and its state, with its
+-- base in place of the last entry. Whatever is read from these bytes restores `v`.
 abbrev pub StoredVotersAreRestored : Type 0
 StoredVotersAreRestored =
     (v : State) → IsStorable v

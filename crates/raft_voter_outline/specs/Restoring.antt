@@ -24,8 +24,8 @@ with_log s log = record {
   log = log;
 }
 
--- The voter with state `s` and entries `es`. The fault is `Range` if the state or an entry is out of range, and
--- otherwise `Order` if the entries don't follow the base one by one.
+-- The voter with state `s` and entries `es`. The fault is `Range` if the state or an entry is out of range. Otherwise
+-- it is `Order` if the entries don't follow the base one by one.
 abbrev pub restored : VoterState → List Entry → Result State StoredFault
 restored s es =
     if state_fits s && list_all stored_entry_fits es then

@@ -1,5 +1,6 @@
--- A store that is opened several times. Each time threads share it, it is settled and closed, and it has a journal. A
--- store leaves a cut-off round if an open, after a close or a crash, finds only voters that are possible after it.
+-- A store that is opened several times. Each time, threads share the store, its journal has their rounds, and it is
+-- settled and closed. A store leaves a cut-off round if an open, after a close or a crash, finds only voters that are
+-- possible after that round.
 use Rattle.std.specs.Prelude.{◌≡◌, ℕ, ◌-◌, ◌≤◌, true, List, [], ◌∷◌, ◌++◌, length, min, take, drop, Option, Some}
 use Rattle.std.specs.List.{flat_map}
 use Rattle.raft_voter_messages.specs.declared.round.Outcome.{Outcome}

@@ -66,8 +66,8 @@ EachPurgeHasItsCause {S} {F} v u d = (files : F) (events : List Event) (report :
     → (purge : Purge) (refusal : Option Cause) (at now : Storage S F)
     → IsOfRun v u d files events report run (kept (purges purge refusal) now) at → WasPurged v u purge refusal at now
 
--- Suppose that whenever an open of a run read the voters, the store served those of some world. Then the store that is
--- open before any moment of the run has failed, or serves the voters of some world.
+-- Suppose that whenever an open of a run read the voters, the store served those of some world. Then a store that is
+-- open right before a moment of the run has failed, or serves the voters of some world.
 abbrev pub StoresOfRunsServe : {S F : Type 0} → Service S → Upkeep S → Disk S F → Type 0
 StoresOfRunsServe {S} {F} v u d = (files : F) (events : List Event) (report : WorldReport F)
     → (run : IsRun v u d files events report) → ServeSome v (moments_of run.turns)

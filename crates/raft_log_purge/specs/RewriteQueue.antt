@@ -74,7 +74,7 @@ pub record FailsToRewriteRewrite (error : Error) (s t : EngineState) : Type 0 wh
   pub remains : StaysOrIsLeft error s t
   pub cause : GivesReason error s t
 
--- the counts after Rewrite was rewritten: the garbage is subtracted from the number that was written, and is 0 then
+-- the counts after Rewrite was rewritten: what was counted as garbage no longer counts as written, nor as garbage
 abbrev pub reset_counts : GlobalStats → GlobalStats
 reset_counts s = record s {
   rewrite_entries = s.rewrite_entries - s.deleted_rewrite_entries;

@@ -1,4 +1,4 @@
--- The records that a purge writes: those of what one group has, and that of the owed tombstones. When is one too long?
+-- When a record that a purge writes is too long. It has what one group has, or the owed tombstones.
 use Rattle.std.specs.Prelude.{◌≡◌, ◌⊎◌, ◌<◌, ◌≤◌, ◌^◌, ℕ, List, [], ◌∷◌, ◌++◌, length, map, Some}
 use Rattle.std.specs.Cmp.Lexicographic.{slice_cmp}
 use Rattle.std.specs.List.Sorted.{IsStrictlySortedBy}
@@ -29,7 +29,7 @@ abbrev pub IsOneMark : List LogItem → Type 0
 IsOneMark mark = (mark ≡ [])
     ⊎ ((number : ℕ) × (status : AtomicGroupStatus) × (mark ≡ mark_item number status ∷ []))
 
--- `items` are these of group `g`, in this order, and `entries` are the bytes of all its entries, joined:
+-- `items` are the following items of group `g`, in this order. `entries` are the bytes of their entries, joined.
 -- - entries from index `first` on, one after another, with the bytes `bytes`
 -- - the keys `pairs` with their values
 -- - the mark

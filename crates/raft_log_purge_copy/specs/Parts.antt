@@ -19,9 +19,9 @@ abbrev pub Remains : LogDirectories → LogMap → EngineState → Error → Typ
 Remains home m t errors.Failed = IsRecoverableAs home t.pipes.disk m []
 Remains home m t _ = Represents home t m []
 
--- The part that writes the owed tombstones failed, and `error` says why. If the engine hadn't failed before, it has
--- failed now exactly if the error is `Failed`. If no batch was pending, the log, or an open of its files, has the same
--- contents.
+-- The part of a purge that writes the owed tombstones failed, and `error` says why. If the engine hadn't failed before,
+-- it has failed now exactly if the error is `Failed`. If no batch was pending, the log has the same contents, or an
+-- open of its files finds them (`Remains`).
 pub record PartIsRefused (error : Error) (s t : EngineState) : Type 0 where
   pub tells : has_failed s ≡ false → IsTrue (has_failed t) ↔ (error ≡ errors.Failed)
   pub later : IsLater s.pipes.disk t.pipes.disk

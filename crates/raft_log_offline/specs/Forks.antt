@@ -1,4 +1,4 @@
--- A fork: the files of a log that no engine has open are copied to another directory.
+-- A fork copies the files of a log to another directory. No engine has the log open.
 use Rattle.std.specs.Prelude.{◌≡◌, ℕ, ◌⊎◌, true, false, None, List, [], ◌∷◌, ◌++◌, codes, map, Contains}
 use Rattle.std.specs.String.{string_bytes}
 use Rattle.raft_log_record_base.specs.declared.errors.Error.{Error}

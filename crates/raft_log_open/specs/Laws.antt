@@ -45,8 +45,8 @@ RecordsReadTheSame =
 abbrev pub placed_bytes : FileBlockHandle → List ℕ → List ℕ
 placed_bytes block content = take block.len (drop block.offset content)
 
--- `others` are the same items as `items`, with their entry block at another offset of the same file, and the same
--- bytes in it
+-- `others` are the same items as `items`; their entry block is in the same file, perhaps at another offset, and has the
+-- same bytes
 pub record AreMoved (content new : List ℕ) (items others : List LogItem) : Type 0 where
   pub plain : List LogItem
   pub from : FileBlockHandle

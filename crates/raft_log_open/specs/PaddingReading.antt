@@ -1,4 +1,4 @@
--- Reading a log file for the bytes that it gets if its padding is removed.
+-- Reading a log file, to find the bytes that it will have without its padding.
 use Rattle.std.specs.Prelude.{◌≡◌, ℕ, ◌<◌, ◌++◌, List, Some}
 use Rattle.raft_log_record_base.specs.Fault.{Fault}
 use Rattle.raft_log_record_items.specs.declared.item.LogItem.{LogItem}

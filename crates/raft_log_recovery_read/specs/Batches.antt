@@ -1,6 +1,6 @@
 -- Batches that were read from a file and passed to a replay machine, which applies them one after another. `reads`
--- relates a machine to the batches that it has read, and `declines` batches to errors with which it may reject the
--- last one.
+-- relates batches to a machine that has read them. `declines` relates batches to the errors with which a machine may
+-- reject the last of them.
 use Rattle.std.specs.Prelude.{◌≡◌, Option, Some, None, List, ◌++◌, map}
 use Rattle.raft_log_record_base.specs.declared.errors.Error.{Error}
 use Rattle.raft_log_record_base.specs.declared.pipe_log.FileId.{FileId}

@@ -43,8 +43,8 @@ pub record KeepsFile (d : Disk) (old new : LogItemBatchFileReader) (end : ℕ) :
 abbrev pub HasFileOpen : LogItemBatchFileReader → Type 0
 HasFileOpen reader = (file : OpenFile) × (file_of reader ≡ Some file)
 
--- The reader still has the same file open, and has read on. `Has` holds for what it read, from the offset of `old` to
--- its own.
+-- The reader still has the same file open as `old`, and has read on. `Has` holds for what was read from the offset of
+-- `old` to the offset of `reader`.
 pub record IsAtWork (Has : OpenFile → List ℕ → ℕ → ℕ → Type 0) (d : Disk)
     (old reader : LogItemBatchFileReader) : Type 0 where
   pub reading : IsReading d reader

@@ -38,8 +38,8 @@ TakesNextBatch d file old new nexts.End = IsTrue (honest_of new)
 TakesNextBatch d file old new (nexts.Fault error) = IsTrue (honest_of new) → (f : Fault) × TellsFault error f
     × IsBroken file (bytes_of file.source d) (end_of old) f × (end_of new ≡ end_of old)
 
--- What a check of the record after `offset` returned, whose frame is good: nothing if the record is whole, else an
--- error that describes what is wrong with its entry block.
+-- what a check of the record after `offset` returned: nothing if the record is whole, else an error that describes what
+-- is wrong with it (its frame or its entry block)
 abbrev pub ChecksBlock : OpenFile → List ℕ → ℕ → Option Error → Type 0
 ChecksBlock file content offset None = IsWhole file content offset
 ChecksBlock file content offset (Some error) =

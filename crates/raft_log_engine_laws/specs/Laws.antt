@@ -29,7 +29,7 @@ pub record MayBeWritten (e : EngineState) (b : Batch) : Type 0 where
   pub laid : IsLaidOut b
 
 -- Suppose the batch `b` may be written. After the pipes wrote it and the tables applied it under the number of its
--- file, it is the last batch of the log, and joins the pending ones. Some first ones of these may be durable already.
+-- file, it is the last batch of the log, and joins the pending ones. A prefix of these may be durable already.
 abbrev pub BatchesAreWritten : Type 0
 BatchesAreWritten = (home : LogDirectories) (e t : EngineState) (b : Batch) (block : FileBlockHandle) (m : LogMap)
     (pending : List LogRecordValue) → Represents home e m pending → MayBeWritten e b

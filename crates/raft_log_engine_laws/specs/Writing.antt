@@ -29,8 +29,8 @@ abbrev pub items_at : FileBlockHandle → Batch → List (Tagged Place (List ℕ
 items_at block b = placed_items block b.items b.entries
 
 -- A batch that isn't empty was written at `block`, and the tables applied it under the number of its file. It is the
--- last batch of the log, and joins the pending ones. Some first ones of these may be durable already. If a sync was
--- requested, all of them are.
+-- last batch of the log, and joins the pending ones. A prefix of these may be durable already. If a sync was requested,
+-- all of them are.
 pub record Writes (b : Batch) (sync : Bool) (s t : EngineState) : Type 0 where
   pub block : FileBlockHandle
   pub some : b.items ≡ [] → ⊥
@@ -47,7 +47,7 @@ pub record Writes (b : Batch) (sync : Bool) (s t : EngineState) : Type 0 where
   pub synced : sync ≡ true → (home : LogDirectories) (m : LogMap) (pending : List LogRecordValue) → Represents home s m pending
       → Represents home t (taken m (pending ++ said_of b ∷ [])) []
 
--- The batch is empty, so nothing is written. If a sync was asked for, Append is synced.
+-- The batch is empty, so nothing is written. If a sync was requested, Append is synced.
 abbrev pub WritesNothing : Bool → EngineState → EngineState → Type 0
 WritesNothing true s t = SyncsAppend s t
 WritesNothing false s t = (t ≡ s) × (has_failed s ≡ false)

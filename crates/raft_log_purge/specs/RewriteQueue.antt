@@ -25,8 +25,8 @@ abbrev pub every : ℕ → Bool
 every g = true
 
 -- All groups were restated: what they have live in Rewrite is in new records there. Rewrite was synced at the end. It
--- was also synced before a record whenever 512 KiB or more had been written since the last sync. If no batch was
--- pending, the log has the same contents, and nothing is pending in either queue.
+-- was also synced before a record whenever 512 KiB or more of the new records had been written since the last sync. If
+-- no batch was pending, the log has the same contents, and nothing is pending in either queue.
 pub record RestatesAll (s t : EngineState) : Type 0 where
   pub restated : EngineState
   pub restates : Restates every s restated

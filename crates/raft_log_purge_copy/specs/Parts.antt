@@ -28,8 +28,8 @@ pub record PartIsRefused (error : Error) (s t : EngineState) : Type 0 where
   pub remains : (home : LogDirectories) (m : LogMap) → Represents home s m [] → Remains home m t error
   pub cause : (home : LogDirectories) (m : LogMap) → Represents home s m [] → HasPurgeReason home m error s t
 
--- `made` has the items and entries of batch `b`. Unless `b` is empty, its bytes for any file are read there as one
--- record with its contents.
+-- `made` has the items and entries of batch `b`. Unless `b` is empty, its record, signed for any file, is read in that
+-- file as one record with the contents of `b`.
 pub record IsRecordMade (b made : Batch) : Type 0 where
   pub items : made.items ≡ b.items
   pub entries : made.entries ≡ b.entries

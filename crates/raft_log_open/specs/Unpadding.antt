@@ -1,4 +1,4 @@
--- Writing the files of a log without padding: each file that has some is replaced.
+-- Writing the files of a log without padding: each file that has padding is replaced.
 use Rattle.std.specs.Prelude.{◌≡◌, ℕ, ◌⊎◌, true, Option, None, Some, List, [], ◌∷◌, ◌++◌, Contains}
 use Rattle.std.specs.String.{string_bytes}
 use Rattle.std.specs.declared.io.ErrorKind.{ErrorKind}

@@ -20,8 +20,8 @@ pub record StandsAs (d : Disk) (old new : LogItemBatchFileReader) : Type 0 where
   pub file : file_of new ≡ file_of old
   pub end : end_of new ≡ end_of old
 
--- The reader read a batch, and knows the location of its entry block. If all reads were honest, it is the next batch
--- of the file, and it has these items.
+-- The reader read a batch, and knows the location of its entry block. If all reads were honest, this is the next batch
+-- of the file, and has these items.
 pub record TakesBatchOf (d : Disk) (file : OpenFile) (old new : LogItemBatchFileReader) (items : List LogItem)
     : Type 0 where
   pub batch : IsTrue (honest_of new) → HasBatch file (bytes_of file.source d) (end_of old) items (end_of new)

@@ -31,7 +31,7 @@ TellsNoDirectory path (errors.Other why) = HasMessage (Some (told_no_directory p
 TellsNoDirectory path errors.Memory = Unit {0}
 TellsNoDirectory path _ = ⊥
 
--- A call that makes a directory unless it exists failed: why, and the disk after it.
+-- Why making sure that a directory exists fails, and the disk after it:
 -- - `Other`: a file has the path, which is in the message; nothing changed
 -- - `Io`: the file system failed to make it, or had stopped
 -- - `Memory`: memory ran out; nothing changed

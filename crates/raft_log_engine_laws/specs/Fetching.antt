@@ -39,8 +39,8 @@ abbrev pub AreEntriesOf : {M : Type 0} → (List ℕ → Option M) → LogMap �
 AreEntriesOf reading m g i [] = Unit {0}
 AreEntriesOf reading m g i (x ∷ xs) = IsEntryOf reading m g i x × AreEntriesOf reading m g (i + 1) xs
 
--- A read of index `i` of group `g` returned the message of the entry there, or none if there is no entry. The entry is
--- that of the log's contents after the pending batches. At most the cached block changed.
+-- A read of index `i` of group `g` returned the message of the entry there, or none if there is no entry. It read the
+-- log's contents after the pending batches. At most the cached block changed.
 pub record TellsEntry {M : Type 0} (reading : List ℕ → Option M) (g i : ℕ) (s t : EngineState) (message : Option M)
     : Type 0 where
   pub lived : has_failed s ≡ false

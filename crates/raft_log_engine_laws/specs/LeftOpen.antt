@@ -1,4 +1,4 @@
--- Atomic groups that get no end: none of their items count.
+-- Atomic groups whose last record is never written: none of their items count.
 use Rattle.std.specs.Prelude.{◌≡◌, ℕ, ◌<◌, ◌≤◌, List, [], ◌∷◌, ◌++◌, None}
 use Rattle.raft_log_model_laws.specs.Item.{Record, Tagged}
 use Rattle.raft_log_model_laws.specs.Item.Mark.{Begin, End, Middle}
@@ -35,7 +35,7 @@ AreNumberedFrom n (Part (Middle k) xs ∷ rs) = (n ≤ k) × AreNumberedFrom n r
 AreNumberedFrom n (Part (End k) xs ∷ rs) = (n ≤ k) × AreNumberedFrom n rs
 
 -- The records `new` come after the records `old`, and their atomic groups have higher numbers than all that `old`
--- leaves open. Then `new` counts as if `old` had left no group open, and the groups that `old` leaves open stay so.
+-- leaves open. Then `new` counts as if `old` had left no group open. The groups left open by `old` stay as they are.
 abbrev pub NewGroupsEndNoOldOnes : Type 0 → Type 0 → Type 0
 NewGroupsEndNoOldOnes E V = (old new : List (Record E V)) (n : ℕ) → AreOpenBelow n (opened none_open old)
     → AreNumberedFrom n new

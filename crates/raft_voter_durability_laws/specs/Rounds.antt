@@ -20,7 +20,7 @@ AreTold W [] (a ∷ told) = ⊥
 AreTold W (q ∷ qs) (a ∷ told) =
     MatchBool (is_refused a) (AreTold W qs told) ((a ≡ reply (W q.0) q.1) × AreTold (after_one W q) qs told)
 
--- `X` is the world after the requests that were taken below some position; those below it all have a reply so far
+-- `X` is the world after the requests taken below some position `cut`; each request below `cut` has a reply so far
 abbrev pub IsPassed : World → List (ℕ × Request) → List Reply → World → Type 0
 IsPassed V qs told X = (cut : ℕ) × (cut ≤ length told) × (X ≡ after V (took qs (take cut told)))
 

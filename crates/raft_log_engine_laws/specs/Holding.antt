@@ -22,7 +22,7 @@ use Rattle.raft_log_engine_laws.specs.EngineState.{LogDirectories, LogMap, Engin
 abbrev pub FilesRiseIn : State → (ℕ → Shown) → Type 0
 FilesRiseIn s v = (g : ℕ) → FilesRise s.append.files.last s.rewrite.files.last (v g)
 
--- the files that the tables note for atomic groups end no later than the last file of Rewrite
+-- no file that the tables note for an atomic group is after the last file of Rewrite
 abbrev pub NotesEndIn : State → (ℕ → Shown) → Type 0
 NotesEndIn s v =
     (g : ℕ) (files : GroupFiles) → (v g).noted ≡ Some files → files.to ≤ s.rewrite.files.last

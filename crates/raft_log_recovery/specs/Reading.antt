@@ -10,9 +10,9 @@ use Rattle.raft_log_replay.specs.Segments.{HasReadSegments, IsRefusedIn, read_by
 use Rattle.raft_log_recovery_read.specs.Segments.{BeginsFile, HoldsFile, RefusesFile}
 use Rattle.raft_log_recovery_read.specs.declared.file_ending.FileEnding.{FileEnding}
 
--- The machine has read the batches of all files of a queue, in order. Without a worker no file is read; otherwise their
--- number makes no difference. `reads queue batches machine` says that the machine has read these batches. `endings` has
--- the result for each file that was read.
+-- The machine has read the batches of all files of a queue, in order; without a worker, those of no file. Apart from
+-- that, the number of workers makes no difference. `reads queue batches machine` says that the machine has read these
+-- batches. `endings` has the result for each file that was read.
 abbrev pub HasReadFiles : {M : Type 0} → (LogQueue → List Batch → M → Type 0) → RecoveryConfig → List File
     → Disk → M → List FileEnding → Type 0
 HasReadFiles reads config files d machine endings =

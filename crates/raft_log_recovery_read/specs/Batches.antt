@@ -16,7 +16,7 @@ abbrev pub TakesBatches : {M : Type 0} → (List Batch → M → Type 0) → Lis
 TakesBatches reads batches old new = (before : List Batch) → reads before old → reads (before ++ batches) new
 
 -- The machine rejected the last batch of `first` with `error`, and got none of `rest`. `declines` allows this error for
--- all batches that the machine got, with the rejected one.
+-- all batches that the machine got, the rejected one included.
 pub record DeclinesSome {M : Type 0} (reads : List Batch → M → Type 0) (declines : List Batch → Error → Type 0)
     (batches : List Batch) (machine : M) (error : Error) : Type 0 where
   pub first : List Batch

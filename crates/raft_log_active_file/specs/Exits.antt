@@ -30,7 +30,7 @@ pub record IsOpen {R : Type 0} (F : Format R) (own : List ℕ → Type 0) (base 
   pub stands : Stands F own base q path writer.handle.file (IsActiveTo F writer.capacity q) N d
 
 -- The queue's files are on the disk, and its last file is finished: it has exactly its header and its records, all
--- synced. The writer's offset is at its end.
+-- synced. The writer's offset is at the file's end.
 pub record IsFinished {R : Type 0} (F : Format R) (own : List ℕ → Type 0) (base : Disk)
     (writer : LogFileWriter) (q : LogFiles R)
     (path : List ℕ) (N : Names) (d : Disk) : Type 0 where

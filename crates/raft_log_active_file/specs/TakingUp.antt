@@ -59,7 +59,7 @@ IsTrimmed F own base handle (Some end) q path N old new = (front : List ℕ) × 
 IsTrimmed F own base handle None q path N old new = (recent q ≡ [])
     × Stands F own base q path handle.file (λ file. file ≡ at_rest []) N new
 
--- `stale` are the file's stale bytes, counted from its start: all its bytes on the disk `d`, or allocated zeros
+-- the stale bytes of the handle's file, `stale`, are all bytes that the file has on the disk `d`, or allocated zeros
 abbrev pub IsWhatItHeld : Handle → List ℕ → Disk → Type 0
 IsWhatItHeld handle stale d = HasFile handle.file (λ file. stale ≡ file.content) d
     ⊎ ((room : ℕ) × (stale ≡ grown room []))
@@ -81,7 +81,7 @@ TrimsLeftover {R} F own handle end old new = (base : Disk) (q : LogFiles R) (pat
     → IsTrimmed F own base handle end q path N old new
 
 -- Truncating the queue's last file failed. Suppose the queue was as a stop left it. Then a file call failed, and the
--- queue still has all records that were read. That is so for each header that a last file without one may get.
+-- queue still has all records that were read. If the last file has no header, this is true for each that it may get.
 abbrev pub FailsToTrim : {R : Type 0} → Format R → (List ℕ → Type 0) → Handle → Option ℕ → Disk → Disk
     → Type 0
 FailsToTrim {R} F own handle end old new = (base : Disk) (q : LogFiles R) (path : List ℕ) (N : Names)

@@ -1,5 +1,5 @@
--- After a stop an open finds the files of a log, and opens its pipes. The definitions say which numbered files (how the
--- model sees files) the log then has.
+-- After a stop an open finds the files of a log, and opens the log's pipes. What the log's numbered files are then. (In
+-- the model, a file is its number and its records: a numbered file.)
 use Rattle.std.specs.Prelude.{◌≡◌, ℕ, ◌≤◌, ◌⊎◌, false, Some, None, List, [], ◌∷◌, ◌++◌, length, suc, take}
 use Rattle.raft_log_model_laws.specs.Item.{Record}
 use Rattle.raft_log_model_laws.specs.Groups.{Map, directory_meaning, taken}

@@ -40,8 +40,8 @@ pub record HasLast {R : Type 0} (signed : LogFileContext → List ℕ) (said : R
   pub offset : block.offset ≡ length (q.header ++ spelled front)
   pub len : block.len ≡ length last.bytes
 
--- A record's write failed and was truncated away. `r` is the queue `q` with all its records synced. The queue may have
--- rotated before the write, and once more after the truncation.
+-- A record's write failed, and what it wrote was truncated away. `r` is the queue `q` with all its records synced. The
+-- queue may have rotated before the write, and once more after the truncation.
 abbrev pub IsCutBack : {R : Type 0} → List ℕ → List Listed → Disk → LogFiles R → LogFiles R → Type 0
 IsCutBack {R} header kept d q r = (p : LogFiles R) × IsOrGoesOn header kept d q p
     × (later : List Listed) × (between : Disk) × IsOrGoesOn header later between (settled p) r

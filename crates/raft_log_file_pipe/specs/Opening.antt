@@ -112,7 +112,7 @@ pub record IsListedFirst (format : LogFileFormat) (kept : List Listed) (files : 
   pub format_is : files.active.format ≡ format
   pub spares : files.recycled.items ≡ kept
 
--- A pipe was opened over what was found. If no file was found, its queue has begun; otherwise its last file was
+-- A pipe was opened over what was found. If no file was found, the queue has begun; otherwise the queue's last file was
 -- reopened.
 pub data OpensPipe {R : Type 0} (F : Format R) (own : List ℕ → Type 0) (paths : FilePaths) (begin : NewFiles)
     (found : FoundFiles) (files : PipeFiles) (old new : Disk) : Type 0 where

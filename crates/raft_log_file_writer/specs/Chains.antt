@@ -92,8 +92,8 @@ abbrev pub RestHoldsNothing : {R : Type 0} → (List ℕ → R → Type 0) → T
 RestHoldsNothing IsFrame = (start : ℕ) (content : List ℕ)
     → HoldsNothing IsFrame start content (at_rest content)
 
--- How a chain begins: a file without records gets its header, and is ready for its first record. If writing the header
--- fails, the file is still without records.
+-- How a chain begins: a file without records gets its header, and is ready for its first record. If opening the writer
+-- fails, the file holds the empty chain.
 pub record ChainBegins {R : Type 0} (IsFrame : List ℕ → R → Type 0) (handle : Handle)
     (header stale : List ℕ) (reset : Bool) (old new : Disk) : Type 0 where
   pub begun : (writer : LogFileWriter) → handle.permission ≡ ReadWrite

@@ -8,8 +8,8 @@ use Rattle.raft_log_fs.specs.Image.{IsLeft, Spares}
 use Rattle.raft_log_fs.specs.Calls.{with_change}
 use Rattle.raft_log_file_writer.specs.LawsChains.{IsSelfDelimiting, Written, AreFrames, spelled, BeginsWith, Reads, Meets, LiesIn, HoldsNoFrame}
 
--- An unsynced write was asked to write bytes that contain `bytes`, so that these begin at the offset `at`. It may have
--- written only some of them.
+-- An unsynced write was asked to write `bytes` at the offset `at`, perhaps among other bytes. It may have written only
+-- some of them.
 pub record IsHandedIn (changes : List Change) (at : ℕ) (bytes : List ℕ) : Type 0 where
   pub from : ℕ
   pub all : List ℕ
@@ -111,7 +111,7 @@ StandsBehind from stale bytes = (place : ℕ) → from ≤ place → place < len
 -- Changes of a file through which it still holds its chain. `content` is what the file contains after the change; it
 -- may be anything.
 -- - `written`: a record was written after the chain, whatever part of it is on disk; it is now the last pending one.
--- - `to_be_written`: records that are still to be written count as pending.
+-- - `to_be_written`: nothing changed, and records that are still to be written already count as pending.
 -- - `shortened`: the file was truncated, but not before the end of the durable records.
 -- - `grown`: the file grew.
 -- - `in_front`: bytes were written that end at or before `start`.

@@ -49,7 +49,7 @@ KeepsDurable {R} IsFrame start stale durable file =
 
 -- What holds when a file is truncated at `size` and synced:
 -- - `before`: it holds the chain.
--- - `tried`: it holds the same chain while the truncation may or may not be done.
+-- - `tried`: it holds the same chain after the truncation was tried, whatever it contains then.
 -- - `done`: after the truncation it still does, and from `start` on has exactly the durable records and the first
 --   `count` pending ones.
 -- - `synced`: after the sync it still holds the chain, with at least the durable records synced.

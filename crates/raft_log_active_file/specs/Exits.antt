@@ -98,7 +98,7 @@ pub record BeginsBy (handle : Handle) (header : List ℕ) (writer : LogFileWrite
   pub takes : TakesUp handle header true writer old between
   pub syncs : Syncs writer.handle between new
 
--- if a queue was open to the writer, all its records were synced, and it still is open
+-- if a queue was open to the writer, all its records were synced, and it is still open to the writer
 abbrev pub SyncsAll : {R : Type 0} → Format R → (List ℕ → Type 0) → LogFileWriter → Disk → Disk → Type 0
 SyncsAll {R} F own writer old new = (base : Disk) (q : LogFiles R) (path : List ℕ) (N : Names)
     → IsOpen F own base writer q path N old → IsOpen F own base writer (synced q) path N new

@@ -138,7 +138,7 @@ FailsToPurgeBy paths capacity seq before errors.Failed old new =
     DropsUntil (paths_going paths capacity seq before) old new
 FailsToPurgeBy paths capacity seq before _ old new = ⊥
 
--- The pipe was opened with these lists of files. If no file was found, its file 1 was created and got its header.
+-- The pipe was opened with these lists of files. If no file was found, file 1 was created and got its header.
 -- Otherwise the last file that was found was truncated after its records and synced, and the pipe continues there.
 pub data OpensPipeBy (paths : FilePaths) (format : LogFileFormat) (found : FoundFiles) (files : PipeFiles)
     (old new : Disk) : Type 0 where

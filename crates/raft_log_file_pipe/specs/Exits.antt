@@ -124,7 +124,7 @@ pub record SameLists (before after : PipeFiles) : Type 0 where
   pub active : after.active ≡ before.active
   pub recycled : after.recycled.items ≡ before.recycled.items
 
--- if the pipe ran over a queue, one call synced all its records, and the pipe runs over it
+-- if the pipe ran over a queue, one call synced all the queue's records, and the pipe still runs over the queue
 abbrev pub SyncsPipe : {R : Type 0} → Format R → (List ℕ → Type 0) → FilePaths → PipeFiles → Disk → Disk
     → Type 0
 SyncsPipe {R} F own paths files old new = (base : Disk) (q : LogFiles R) → IsPipe F own paths base files q old

@@ -95,8 +95,8 @@ BeginsPipe {R} F own paths format kept files old new = (base : Disk) (older : �
     × BeginsQueueBy (path_of paths files.active) (header_bytes format) files.active.handle files.writer
     old new
 
--- The queue hasn't begun. If it could, a file call failed. It can still begin, or its file 1 exists without a record.
--- There is no file 0.
+-- Beginning the queue failed. If the queue could begin before, a file call failed. It can still begin, or its file 1
+-- exists without a record. There is no file 0.
 abbrev pub FailsToBeginPipe : {R : Type 0} → Format R → (List ℕ → Type 0) → FilePaths → LogFileFormat
     → List Listed → Disk → Disk → Type 0
 FailsToBeginPipe {R} F own paths format kept old new = (base : Disk) (older : ℕ → Past R)

@@ -106,8 +106,8 @@ Purges {R} F own paths capacity seq before after old new = (base : Disk) (q : Lo
     × (new.names ≡ without (paths_going paths capacity seq before) old.names)
     × DropsBy (paths_going paths capacity seq before) old new
 
--- If the pipe ran over a queue, deleting one of the files to delete failed. The files before it were deleted; if the
--- file system stopped, perhaps it too. The last file holds its records. The files of the live range are at their paths.
+-- If the pipe ran over a queue, deleting one of the files to delete failed. The files before that one were deleted, and
+-- at a stop perhaps that one too. The last file holds its records. The files of the live range are at their paths.
 abbrev pub FailsToPurge : {R : Type 0} → Format R → (List ℕ → Type 0) → FilePaths → ℕ → ℕ → PipeFiles
     → PipeFiles → Disk → Disk → Type 0
 FailsToPurge {R} F own paths capacity seq before after old new = (base : Disk) (q : LogFiles R)

@@ -54,8 +54,8 @@ ReadsFile F n ws bytes = ((ws ≡ []) × ((header : List ℕ) → HasHeader F he
 -- its stale bytes, and `own` the bytes of its records.
 -- - `headers`: the bytes begin with no other header than the file's own. By chance, a torn header could be read as one
 --   of another version and length.
--- - `records`: each record that is read of them was written at that offset under this number.
--- - `plain`: a reader doesn't take them for a file with an alignment.
+-- - `records`: each record that is read of `bytes` was written at that offset under this number.
+-- - `plain`: a reader doesn't take `bytes` for a file with an alignment.
 pub record NoChanceInFile {R : Type 0} (F : Format R) (n : ℕ) (header stale own : List ℕ)
     (file : File) (bytes : List ℕ) : Type 0 where
   pub headers : (other : List ℕ) → HasHeader F other bytes → other ≡ header

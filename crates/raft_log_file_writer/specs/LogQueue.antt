@@ -17,7 +17,7 @@ pub record Past (R : Type 0) : Type 0 where
   pub records : List (Written R)
 
 -- A queue of files.
--- - `older`: by number, the files before the last. Which of them still exist depends on the directory.
+-- - `older`: by number, the files before the last. Which of them still exist depends on the disk.
 -- - `last`: the number of the last file, which is the one that is written to.
 -- - `header`, `durable`, `pending`: the last file's header, its synced records, and those that aren't synced yet.
 -- - `stale`: the bytes that the last file held when it got its number.
@@ -44,7 +44,7 @@ rotated header stale q = record {
   pending = [];
 }
 
--- the queue as a restart finds it after a stop that left the first `count` pending records: all remaining records are
+-- the queue as a restart finds it after a stop that left the first `count` pending records: all records that it has are
 -- durable
 abbrev pub kept_to : {R : Type 0} → ℕ → LogFiles R → LogFiles R
 kept_to count q = record q { stale = []; durable = kept_records q.durable q.pending count; pending = [] }
@@ -92,7 +92,7 @@ abbrev pub IsAbsent : {R : Type 0} → Format R → ℕ → Disk → Type 0
 IsAbsent F n d = (path : List ℕ) → F.IsPath n path → d.names path ≡ None
 
 -- The files of a queue on a disk.
--- - `last`, `alone`: exactly one file has the number of the last one, and `P` holds for it.
+-- - `last`, `alone`: exactly one file has the queue's last number, and `P` holds for it.
 -- - `none`: no file has a higher number.
 -- - `older`: each file at a path of a lower number has exactly the header and records that the queue has for this
 -- number.

@@ -15,8 +15,8 @@ use Rattle.raft_log_file_writer.specs.declared.writer.LogFileWriter.{LogFileWrit
 
 -- The bytes of the writer's file.
 
--- The writer's file exists and may be written. Up to the writer's offset it has exactly `bytes`, and anything may
--- follow. It ends at or before the writer's capacity.
+-- The writer's file exists, and the writer's handle may write it. Up to the writer's offset the file has exactly
+-- `bytes`, and anything may follow. The file is at most as long as the writer's capacity.
 pub record IsWritten (writer : LogFileWriter) (bytes : List ℕ) (d : Disk) : Type 0 where
   pub permitted : writer.handle.permission ≡ ReadWrite
   pub offset : writer.written ≡ length bytes
@@ -26,12 +26,12 @@ pub record IsWritten (writer : LogFileWriter) (bytes : List ℕ) (d : Disk) : Ty
   pub content : file.content ≡ bytes ++ behind
   pub end : length file.content ≤ writer.capacity
 
--- `bytes` are all bytes of the writer's file, and its offset is at their end
+-- `bytes` are all bytes of the writer's file, and the writer's offset is at their end
 abbrev pub AreItsBytes : LogFileWriter → List ℕ → Disk → Type 0
 AreItsBytes writer bytes d = IsWritten writer bytes d
     × HasFile writer.handle.file (λ file. file.content ≡ bytes) d
 
--- `bytes` are all bytes of the writer's file, all synced, and its offset is at their end
+-- `bytes` are all bytes of the writer's file, all synced, and the writer's offset is at their end
 abbrev pub IsClosed : LogFileWriter → List ℕ → Disk → Type 0
 IsClosed writer bytes d = IsWritten writer bytes d × (d.files writer.handle.file ≡ Some (at_rest bytes))
 

@@ -7,8 +7,8 @@ use Rattle.raft_log_file_format.specs.declared.header.LogFileFormat.{LogFileForm
 use Rattle.raft_log_active_file.specs.Standing.{OwnsPaths}
 use Rattle.raft_log_active_file.specs.declared.format.File.{File}
 
--- Whether file names at `place` have a plus sign before the number. Each of the `count` directories has two places: its
--- position in the list, for names without a sign, and its position plus `count`, for names with a sign.
+-- Whether file names at `place` have a plus sign before the number. Each of the `count` directories has two places. The
+-- directory's position in the list is for names without a sign, that position plus `count` for names with a sign.
 abbrev pub has_sign : ℕ → ℕ → Bool
 has_sign count place = nat_le count place
 

@@ -143,8 +143,8 @@ ChainGoesOn {R} IsFrame =
 -- How a chain begins, and when a file holds one:
 -- - `used_again`: a file whose bytes are all synced holds the empty chain, if all its bytes count as stale. It may be
 -- new or recycled.
--- - `read`: after a restart, a file whose bytes are all synced holds the records that are read of it, all durable,
--- whatever bytes count as stale.
+-- - `read`: after a restart, a file whose bytes are all synced holds the records that are read of it. They are all
+-- durable, whatever bytes count as stale.
 -- - `synced`: a file whose bytes are all synced holds the records that it begins with, if only stale bytes follow them.
 -- - `prefilled`: a file without a record in its synced bytes or in its writes, such as one filled with zeros, holds the
 -- empty chain.

@@ -10,8 +10,8 @@ use Rattle.raft_log_file_pipe.specs.Files.{Listed}
 use Rattle.raft_log_file_pipe.specs.Exits.{IsStaleOfNext}
 use Rattle.raft_log_dual_pipes.specs.State.{Spanned}
 
--- `p` is the queue `q` after a rotation. The new last file is the oldest one in `kept`, with the content that it has on
--- the disk `d`, or a new file if `kept` is empty. It has this header, and zeros may be allocated in it.
+-- `p` is the queue `q` after a rotation. Its last file has this header, and zeros may be allocated in it. The file is
+-- the oldest one in `kept`, with its content on the disk `d`, or a new one if `kept` is empty.
 abbrev pub GoesOnInNext : {R : Type 0} → List ℕ → List Listed → Disk → LogFiles R → LogFiles R → Type 0
 GoesOnInNext header kept d q p = (room : ℕ) × (stale : List ℕ) × IsStaleOfNext kept d stale
     × (p ≡ with_room room (rotated header stale q))

@@ -43,8 +43,8 @@ NoChanceMatch {R} IsFrame start stale own file bytes = (at : ℕ) (w : Written R
 -- - `synced`, `others`: its synced bytes begin with the durable records; all other records that are read of these bytes
 -- are stale.
 -- - `spared`: no change since the last sync touches the durable records.
--- - `handed`: each write since the last sync ends before the chain, or is a part of the chain at its offset, or has no
--- record in it. The zeros of a prefilled file contain none.
+-- - `handed`: each write since the last sync ends before the chain, is a part of it at its offset, or contains no
+-- record. The zeros of a prefilled file contain none.
 -- A record whose write failed counts as the last pending one, until the file is truncated before that record and
 -- synced.
 pub record HoldsChain {R : Type 0} (IsFrame : List ℕ → R → Type 0)

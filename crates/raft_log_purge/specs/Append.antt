@@ -57,8 +57,8 @@ abbrev pub AreRewrittenTo : ℕ → EngineState → Type 0
 AreRewrittenTo gate s = (g : ℕ) → IsRewrittenTo gate (s.tables g)
 
 -- Each group that passes the test was rewritten up to the gate. Rewrite was synced at the end. It was also synced
--- before a record whenever 512 KiB or more had been written since the last sync. If no tombstone was owed and no batch
--- pending, the log has the same contents, and nothing is pending in either queue.
+-- before a record whenever this rewrite had written 512 KiB or more since its last sync. If no tombstone was owed and
+-- no batch pending, the log has the same contents, and nothing is pending in either queue.
 pub record RewritesSynced (test : ℕ → Bool) (gate : ℕ) (s t : EngineState) : Type 0 where
   pub copied : EngineState
   pub copies : Rewrites test gate s copied

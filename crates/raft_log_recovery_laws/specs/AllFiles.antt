@@ -16,8 +16,8 @@ use Rattle.raft_log_recovery_scan.specs.Found.{AreDistinct}
 use Rattle.raft_log_recovery_scan.specs.Scanned.{IsQueueIn}
 use Rattle.raft_log_recovery_laws.specs.Scanned.{AreSpanned, kind_of}
 
--- `files` ends with the queue's last file, which has the number `number`. The numbers of `files` have no gap, and each
--- file is at the path of its number. No file has the number before the first of them.
+-- `files` ends with the queue's last file, of number `number`. Their numbers have no gap, and each file is at the path
+-- of its number. The first of them comes after a gap: no file of the queue has the number before it.
 pub record AreAllFound (queue : LogQueue) (directories : List (List ℕ)) (number : ℕ) (d : Disk)
     (files : List Listed) : Type 0 where
   pub earlier : List Listed

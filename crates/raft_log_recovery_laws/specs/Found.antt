@@ -57,8 +57,8 @@ TellsLast endings format =
     (front : List FileEnding) (ending : FileEnding) → endings ≡ front ++ ending ∷ []
     → (end : ℕ) → ending.end ≡ Some end → ending.format ≡ format
 
--- If the files of the queue `was` are at rest, the batches that are read from them are those of the records of `now`.
--- `now` is the queue after recovery.
+-- The queue `was` is at rest, and `now` is the queue after recovery. The batches that are read from the files of `was`
+-- are those of the records of `now`.
 abbrev pub ReadFilesAreTheQueue : Type 0
 ReadFilesAreTheQueue = (queue : LogQueue) (directories : List (List ℕ)) → 0 < length directories
     → (mode : RecoveryMode) (d : Disk) (was : LogFiles LogRecord)

@@ -103,7 +103,7 @@ StandingDirectoriesOpen {F} disk tells = (home : LogDirectories) → 0 < length 
     → RestsAfterSome home (as_it_stands (disk old)) m pending
     (λ now. ForAllNaming home (λ config. OpensStanding disk tells config old m pending now))
 
--- How far an open came that truncated nothing:
+-- How far an open came, if it truncated nothing:
 -- - `undone`: nothing was done.
 -- - `unscanned`: the scan of the directories failed.
 -- - `unread`: the scan succeeded, and nothing was done after it.

@@ -19,8 +19,8 @@ pub record IsNumberWord (word : List ℕ) (n : ℕ) : Type 0 where
 abbrev pub first_word : List ℕ → List ℕ × List ℕ
 first_word text = (before_first parts_words text, drop (length (before_first parts_words text)) text)
 
--- If a text begins with the bytes `front`: the word right after them (the value of an argument), and the text after
--- this word.
+-- the word right after the bytes `front` (the value of an argument), and the text after this word; `None` if the text
+-- doesn't begin with `front`
 unfoldable pub argument_at : List ℕ → List ℕ → Option (List ℕ × List ℕ)
 argument_at front text =
     if bytes_eq (take (length front) text) front then Some (first_word (drop (length front) text)) else None

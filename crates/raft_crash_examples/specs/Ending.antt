@@ -52,12 +52,12 @@ pub record ClosesWithoutChance (home : LogDirectories) (v : LogPipes) (d : Disk)
   pub append : LeavesWritten (log_in home).append.format v.append.files v.disk d
   pub rewrite : LeavesWritten (log_in home).rewrite.format v.rewrite.files v.disk d
 
--- A close left no CRC collision. Of a close that succeeded nothing is asked.
+-- A close that failed left no CRC collision. Nothing is claimed of a close that succeeded.
 abbrev pub CloseLeavesNoChance : Bool → LogDirectories → LogPipes → Disk → Type 0
 CloseLeavesNoChance true home v d = Unit {0}
 CloseLeavesNoChance false home v d = ClosesWithoutChance home v d
 
--- the disk that a crash or a close of engine `e` left has no CRC collision
+-- if engine `e` ended by a crash or by a close that failed, the disk `d` that it left has no CRC collision
 abbrev pub EndsWithoutChance : {C : Type 0} → LogDirectories → (ending : Ending C) → (e : EngineState) → (d : Disk)
     → Ends ending e d → Type 0
 EndsWithoutChance home (Crash what) e d ends = LeavesNoChance home e.pipes d

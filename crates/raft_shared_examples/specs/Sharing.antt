@@ -13,8 +13,8 @@ use Rattle.raft_voter_shared_log.specs.LogOpenings.{log_service}
 use Rattle.raft_voter_shared_log.specs.declared.store.LogStore.{LogStore}
 use Rattle.raft_shared_examples.specs.declared.lives.Shared.{Shared}
 
--- A store was settled, and the journal has the records of all its rounds. It served voters of `served` when it was
--- shared.
+-- A store was settled, and the journal has the records of all its rounds. When the store was shared, it served voters
+-- of a world for which `served` holds.
 -- - `legal`: the journal is legal, starting with these voters.
 -- - `serves`: unless the store has failed, it serves the voters after the journal.
 pub record IsSettledWhole {S : Type 0} (v : Service S) (served : World → Type 0) (store : S) (journal : List Round)

@@ -29,7 +29,7 @@ abbrev pub Ends : {C : Type 0} → Ending C → EngineState → Disk → Type 0
 Ends (Crash what) e d = IsImage e.pipes.disk d
 Ends Close e d = (succeeded : Bool) × Closes succeeded e d
 
--- `file`, which was the pipe's active file, has no CRC collision, as a close left it:
+-- `file`, the pipe's active file as a close left it, has no CRC collision:
 -- - It begins with no header other than its own.
 -- - Each record in it is one that the pipe wrote there, or that was passed to an unsynced write at that offset.
 -- - It doesn't read as a file with an alignment.

@@ -38,8 +38,9 @@ pub record FollowsModel {A : Type 0} (does : Result A Error → Contents → Lis
       → (next : ModelLog) × does result m pending next × IsEngineLog home t next
   pub fails : has_failed s ≡ true → (result ≡ Err errors.Failed) × (t ≡ s)
 
--- A write adds its batch; if a sync was requested, all batches are durable. If it fails with `Failed`, the engine has
--- failed, and the batch may be written or not. With any other error it leaves no trace, and no other batch is lost.
+-- A write adds its batch, or nothing if the batch is empty. If a sync was requested, all batches are durable. If the
+-- write fails with `Failed`, the engine has failed, and the batch may be written or not. With any other error it leaves
+-- no trace, and no other batch is lost.
 abbrev pub ModelWrites : Batch → Bool → Result ℕ Error → Contents → List BatchRecord → ModelLog → Type 0
 ModelWrites b sync (Ok len) m pending next = Adds sync m pending (said_of b) next
 ModelWrites b sync (Err errors.Failed) m pending next = FailsAt m pending (said_of b) next

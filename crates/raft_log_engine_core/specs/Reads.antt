@@ -28,7 +28,7 @@ Lives s = has_failed s ≡ false
 abbrev pub IsFailed : EngineState → Error → Type 0
 IsFailed s error = (error ≡ errors.Failed) × (has_failed s ≡ true)
 
--- why a read that copies what it returns fails: `Failed` if the engine has failed; else `Memory`, as memory ran out
+-- why a read fails, if it copies what it returns: `Failed` if the engine has failed; else `Memory`, as memory ran out
 abbrev pub IsUncopied : EngineState → Error → Type 0
 IsUncopied s error = IsFailed s error ⊎ ((error ≡ errors.Memory) × Lives s)
 

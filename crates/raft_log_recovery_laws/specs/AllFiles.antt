@@ -28,7 +28,7 @@ pub record AreAllFound (queue : LogQueue) (directories : List (List ℕ)) (numbe
   pub begins : (m : ℕ) → suc m ≡ first_number earlier last → IsAbsent (log_format queue directories) m d
 
 -- If the queue `q` is at rest in distinct directories, a scan of them returns its files from the last gap in their
--- numbers on. On disk `d`, whose names are `N`, its last file is at `path` and has the node number `id`.
+-- numbers on. On disk `d`, whose names are `N`, the queue's last file is at `path` and has the node number `id`.
 abbrev pub ScannedFilesAreAll : Type 0
 ScannedFilesAreAll = (queue : LogQueue) (directories : List (List ℕ)) → AreDistinct directories
     → (mode : RecoveryMode) (d : Disk) → IsSound d

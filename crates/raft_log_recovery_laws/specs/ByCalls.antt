@@ -1,5 +1,5 @@
--- Opening a log that is at rest on a disk (no engine has it open, and all of it is synced). These are the steps in
--- which an engine does it: scan, recover, prepare files for recycling, sync, open.
+-- Opening a log that is at rest on a disk (no engine has it open, and all of it is synced). An engine does this in five
+-- steps: scan, recover, prepare files for recycling, sync, open.
 use Rattle.std.specs.Prelude.{◌≡◌, ℕ, List}
 use Rattle.raft_log_record_base.specs.declared.pipe_log.LogQueue.{LogQueue}
 use Rattle.raft_log_record_base.specs.declared.pipe_log.LogQueue.TheVariants.{Append, Rewrite}

@@ -69,8 +69,7 @@ ReadFilesAreTheQueue = (queue : LogQueue) (directories : List (List ℕ)) → 0 
     → (format : LogFileFormat) → TellsLast endings format → (now : Spanned LogRecord)
     → QueueGoesOnWith (first_number earlier last) format was now → AreOfQueue queue now batches
 
--- If a queue has no files, no batch is read. The queue `now`, which begins with one file and no records, has none
--- either.
+-- If a queue has no files, no batch is read. This fits the queue `now`, which begins with one file and no records.
 abbrev pub NoFilesAreTheQueue : Type 0
 NoFilesAreTheQueue = (queue : LogQueue) (mode : RecoveryMode) (d : Disk) (batches : List Batch)
     (endings : List FileEnding) → ReadsQueue mode queue [] d batches endings → (now : Spanned LogRecord)

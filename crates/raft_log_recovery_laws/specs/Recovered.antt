@@ -76,7 +76,7 @@ OpensAs home d m s = (mode : RecoveryMode) (append rewrite : FoundPipe) (v : Log
     → AreFoundAt home s append rewrite d → OpensLog append rewrite d v
     → WereRead mode append rewrite d tables → HoldsFresh home v tables m
 
--- Each crash image of what an engine left is a log at rest. Its open gives the contents `m` after a prefix of the
+-- Each crash image of what an engine left is a log at rest. An open of it gives the contents `m` after a prefix of the
 -- pending batches. This requires that there is no CRC collision.
 abbrev pub CrashedLogsOpen : Type 0
 CrashedLogsOpen = (home : LogDirectories) → 0 < length home.append → 0 < length home.rewrite → (d image : Disk)

@@ -4,7 +4,7 @@ use Rattle.std.specs.List.{before_first}
 use Rattle.std.specs.Str.{IsUtf8}
 use Rattle.std.specs.Str.Parse.{IsNumeral, digits_value, without_leading_plus}
 
--- the byte separates two words of a line: it is a space
+-- whether the byte separates two words of a line: only a space does
 abbrev pub parts_words : ℕ → Bool
 parts_words b = b == 32
 

@@ -36,8 +36,8 @@ ClosesWell s d = (has_failed s ≡ false) × ClosesProperly s.pipes d
 -- Store `old` was shared, and `shared` is what was left after it was settled and closed.
 -- - `legal`: the journal is legal, starting with voters that `old` served.
 -- - `settled`, `serves`: the settled store served the voters after the journal.
--- - `named`: its settings name the same directories as those in `shared`.
--- - `closes`: its log was closed properly.
+-- - `named`: the settings of the settled store name the same directories as those in `shared`.
+-- - `closes`: the log of the settled store was closed properly.
 pub record SharesAndCloses {F : Type 0} (disk : F → Disk) (shows : LogStore F → EngineState) (old : LogStore F)
     (shared : Shared F) : Type 0 where
   pub legal : (W : World) → IsOpenAt (log_service shows) old W → IsLegal W shared.journal.items

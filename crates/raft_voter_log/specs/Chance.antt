@@ -111,8 +111,8 @@ pub record LeavesForeign (F : Format LogRecord) (files : PipeFiles) (d image : D
   pub left : image.files files.writer.handle.file ≡ Some after
   pub has : HasForeign F files file after.content
 
--- If a crash image of a running engine has another record after those of either queue's active file, as `LeavesForeign`
--- says, it has a CRC collision.
+-- Suppose that in a crash image of a running engine, another record follows those of the pipe in either queue's active
+-- file (`LeavesForeign`). Then the image has a CRC collision.
 abbrev pub ForeignRecordsAreChance : Type 0
 ForeignRecordsAreChance = (home : LogDirectories) (e : EngineState) (m : LogMap) (pending : List LogRecordValue) → Represents home e m pending
     → (image : Disk)

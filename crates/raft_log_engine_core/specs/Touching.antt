@@ -66,14 +66,14 @@ abbrev pub SyncsIf : Bool → LogPipes → LogPipes → Type 0
 SyncsIf true v w = SyncsQueue InAppend v w
 SyncsIf false v w = w ≡ v
 
--- What a write of batch `b` that succeeds does to the files. It appends the batch's record once, or nothing for an
--- empty batch. Then it syncs Append, if `sync` is true.
+-- What a successful write of batch `b` does to the files. It appends the batch's record once, or nothing for an empty
+-- batch. Then it syncs Append, if `sync` is true.
 abbrev pub WritesFiles : Batch → Bool → LogPipes → LogPipes → Type 0
 WritesFiles b sync v w = ((b.items ≡ []) × SyncsIf sync v w)
     ⊎ ((mid : LogPipes) × WritesRecord b v mid × SyncsIf sync mid w)
 
--- What a write of batch `b` that fails does to the files. Either the record wasn't appended. Or a sync was requested
--- and failed; before it, the record was appended, or nothing for an empty batch.
+-- What a failed write of batch `b` does to the files. Either the record wasn't appended. Or a sync was requested and
+-- failed; before it, the record was appended, or nothing for an empty batch.
 abbrev pub LeavesFiles : Batch → Bool → Error → LogPipes → LogPipes → Type 0
 LeavesFiles b sync error v w = LeavesRecord b error v w
     ⊎ ((sync ≡ true) × ((mid : LogPipes) × (((b.items ≡ []) × (mid ≡ v)) ⊎ WritesRecord b v mid)

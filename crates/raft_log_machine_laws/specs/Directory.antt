@@ -96,8 +96,8 @@ pub record CanBeOpened {E V : Type 0} (d : Directory E V) (r_kept r_lost a_kept 
   pub rewrite : span opened.rewrite [] ≡ r_files
   pub append : span opened.append [] ≡ a_files
 
--- After every crash of directory `d`, each choice of files that a recovery may read can be opened, for every prefix of
--- the pending records. The recovery reads Rewrite from number `s` on, and Append from number `t` on.
+-- A crash of directory `d` may keep any prefix of each queue's pending records. An open can then read each choice of
+-- files that a recovery may read: Rewrite's from number `s` on, and Append's from number `t` on.
 abbrev pub OpensInFiles : {E V : Type 0} → Directory E V → Type 0
 OpensInFiles {E} {V} d =
     (r_kept r_lost a_kept a_lost : List (Record E V)) → r_kept ++ r_lost ≡ d.rewrite.pending

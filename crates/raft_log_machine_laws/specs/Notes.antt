@@ -1,6 +1,6 @@
 -- For each slot, an engine notes a file of the queue that stores the slot's content. In Append, a record of this file
--- touches the slot. In Rewrite, an item that touches the slot counts if only the files from this one on are read. The
--- queue's live range may begin at the lowest noted file, or before it.
+-- touches the slot. In Rewrite, an item that touches the slot still counts when only the files from this one on are
+-- read. The queue's live range may begin at the lowest noted file, or before it.
 use Rattle.std.specs.Prelude.{◌≡◌, ℕ, ◌<◌, ◌≤◌, ◌⊎◌, true, false, List, [], ◌∷◌, ◌++◌, None}
 use Rattle.raft_log_model_laws.specs.Item.{Record, Tagged, items_of}
 use Rattle.raft_log_model_laws.specs.Meaning.{Slot, says}

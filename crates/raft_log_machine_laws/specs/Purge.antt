@@ -17,7 +17,7 @@ abbrev pub AllOwn : {E V : Type 0} → List (Event E V) → Type 0
 AllOwn [] = Unit {0}
 AllOwn (e ∷ es) = IsOwn e × AllOwn es
 
--- a reading of all records of the files, pending ones too, from some start in each queue
+-- a reading of both queues, each from some start to its end; the pending records are read too
 pub record Reading {E V : Type 0} (q : Store E V) : Type 0 where
   pub r_cut : List (Record E V)
   pub r_back : List (Record E V)

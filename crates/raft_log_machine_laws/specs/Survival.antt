@@ -27,7 +27,7 @@ Survives {E} {V} q m batches =
     → directory_meaning (r_back ++ (q.rewrite.live ++ r_kept)) (a_back ++ (q.append.live ++ a_kept)) g s
     ≡ taken m (take count batches) g s)
 
--- the slot is touched, even if it is only emptied
+-- the records that do `word` to a slot touch it, even if they only empty it
 abbrev pub IsSpoken : {C : Type 0} → Option (Option C) → Type 0
 IsSpoken {C} word = (value : Option C) × (word ≡ Some value)
 

@@ -1,5 +1,5 @@
--- Places: each says where the bytes of an entry are. It has the file, the offset and length of a block, and the offset
--- and length in the block. A piece is a list of places that are adjacent in one block.
+-- Places: each says where the bytes of an entry are. It has the file, the offset and length of a block, and the entry's
+-- offset and length in the block. A piece is a list of places that are adjacent in one block.
 use Rattle.std.specs.Prelude.{◌≡◌, ℕ, zero, suc, ◌+◌, ◌-◌, Bool, true, ◌&&◌, List, [], ◌∷◌, if◌then◌else◌, ◌==◌}
 use Rattle.raft_log_extents.specs.declared.place.Place.{Place}
 

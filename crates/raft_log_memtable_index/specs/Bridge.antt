@@ -1,4 +1,4 @@
--- Which contents of a group a table represents if the bytes at each place are known. Also how a table changes if its
+-- Which contents a group's table represents, if the bytes at each place are known. Also how a table changes if its
 -- entries or values are copied into Rewrite.
 use Rattle.std.specs.Prelude.{◌≡◌, ℕ, zero, suc, ◌+◌, ◌-◌, ◌≤◌, ◌⊎◌, Bool, true, false, List, [], ◌∷◌, ◌++◌, map, length, take, drop, Option, Some, None, option_map, if◌then◌else◌, nat_lt, bytes_eq}
 use Rattle.raft_log_model_laws.specs.Item.{Item}

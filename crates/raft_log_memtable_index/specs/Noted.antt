@@ -1,5 +1,5 @@
--- In which files a memtable's entries and values are. Those in Rewrite have also a first file that must be kept so that
--- they can be recovered. An atomic group may have records in several files.
+-- In which files a memtable's entries and values are. What is in Rewrite also has a first file that must be kept so
+-- that it can be recovered. That may be an earlier file, since an atomic group may have records in several.
 use Rattle.std.specs.Prelude.{◌≡◌, ℕ, ◌+◌, ◌-◌, ◌<◌, ◌≤◌, ◌⊎◌, min, max, false, List, [], ◌∷◌, length, Option, Some, None, if◌then◌else◌, nat_le, slice_get}
 use Rattle.raft_log_model_laws.specs.Item.{Item}
 use Rattle.raft_log_model_laws.specs.Item.Item.{Run}
@@ -44,8 +44,8 @@ IsLeastInRewrite v least =
     ((i : ℕ) → v.first ≤ i → i < v.first + v.rewritten → least ≤ file_at v (Index i))
     × ((k : List ℕ) (h : KeyValue) → v.held k ≡ Some h → h.appended ≡ false → least ≤ h.file)
 
--- The files to note after an atomic group in the files `new` ended. The files that were noted before stay noted, unless
--- the last one is below `least`, so that nothing of Rewrite is in them.
+-- The files to note after the end of an atomic group whose records are in the files `new`. The files noted before stay
+-- noted, unless the last of them is below `least`, a file below which the table has nothing in Rewrite.
 abbrev pub noting : ℕ → Option GroupFiles → GroupFiles → GroupFiles
 noting least None new = new
 noting least (Some old) new =

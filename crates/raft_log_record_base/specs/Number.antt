@@ -82,8 +82,8 @@ IsI32Le = Mapped (cast_signed w32) IsU32Le
 
 -- Numbers of variable length.
 
--- Base 128: seven bits of the number a byte, the lowest first. Each byte but the last is 128 or more; the last is
--- below 128.
+-- Base 128: each byte has seven bits of the number, the lowest first. Each byte but the last is 128 or more; the last
+-- is below 128.
 abbrev pub IsBase128 : List ℕ → ℕ → Type 0
 IsBase128 [] n = ⊥
 IsBase128 (b ∷ []) n = (b < 128) × (n ≡ b)

@@ -112,7 +112,7 @@ AddsItem old new item = Becomes (with_item old item) new
 abbrev pub Puts : Batch → Batch → ℕ → List ℕ → List ℕ → Type 0
 Puts old new group key value = AddsItem old new (put_item group key value)
 
--- the bytes of a batch with these items and entries in a file with this signature: its record, or nothing without
+-- the bytes of a batch with these items and entries in a file with this signature: its record, or nothing if it has no
 -- items
 abbrev pub batch_bytes : Option ℕ → List LogItem → List ℕ → List ℕ
 batch_bytes signature [] entries = []

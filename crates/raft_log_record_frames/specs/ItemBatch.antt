@@ -75,7 +75,7 @@ AreRead bytes items =
     (block : FileBlockHandle) → AddsUp items block.len
     → placed_footer_of None block bytes ≡ Ok (placed block (map plain_item items))
 
--- the items; from item number `first` on, their entries get offsets one after another, the first one `offset`
+-- the items, in which the entries from item number `first` on get offsets one after another, beginning at `offset`
 abbrev pub laid_from : ℕ → ℕ → List LogItem → List LogItem
 laid_from first offset items = take first items ++ laid_out offset (drop first items)
 
@@ -119,7 +119,7 @@ OnlyPlaced result signature handle bytes =
     (items : List LogItem) → IsFooterOf signature handle.len bytes items
     → MatchResult result (λ batch. batch.items ≡ placed handle items) (λ e. e ≡ errors.Memory)
 
--- the call returned what `reading` does, with the same error if it fails, or failed with `Memory`
+-- the call returned the items of `reading`, or failed with its error, or failed with `Memory`
 abbrev pub GivesPlaced : Result ItemBatch Error → Result (List LogItem) Fault → Type 0
 GivesPlaced (Ok batch) reading = reading ≡ Ok batch.items
 GivesPlaced (Err e) reading = FailsOrMemory e reading

@@ -42,9 +42,11 @@ abbrev pub UnlessResting : ModelLog → Type 0 → Type 0
 UnlessResting (resting m) P = Unit {0}
 UnlessResting log P = P
 
--- The premise under which the model explains an event that leads to `now`. An open or a copy: no CRC collision in the
--- files, if a close or a failed open left them. A crash: none in the files that it leaves, unless a crash or a copy had
--- left the log before. A copy also: its target is clear. Any other event has no premise.
+-- The premise under which the model explains an event that leads to `now`:
+-- - an open or a copy: no CRC collision in the files, if a close or a failed open left them;
+-- - a copy also: its target is clear;
+-- - a crash: no CRC collision in the files that it leaves, unless the log was already as a crash or a copy leaves it;
+-- - any other event: no premise.
 abbrev pub Asks :
     {S F B C : Type 0}
     → (l : LogOf S F B C) (at : Storage S F) (log : ModelLog) → l.is at log → Event B C → Storage S F → Type 0

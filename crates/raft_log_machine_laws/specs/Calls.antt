@@ -1,6 +1,6 @@
--- What a call of a pipe does to the numbered files of its queue; `s` is the pipe's state before it, and `t` after it.
--- `ties s f`: a running pipe in state `s` may have the files `f`. `allows s f`: `f` allow each image that a crash may
--- leave. Quiet events are syncs, rotations, and losses of files below the live range.
+-- What a call of a pipe does to the numbered files of its queue; `s` is the pipe's state before the call, and `t` after
+-- it. `ties s f`: a running pipe in state `s` may have the files `f`. `allows s f`: `f` allow each image that a crash
+-- may leave. Quiet events are syncs, rotations, and losses of files below the live range.
 use Rattle.std.specs.Prelude.{◌≡◌, ℕ, ◌⊎◌, List, [], ◌++◌}
 use Rattle.raft_log_model_laws.specs.Item.{Record, Tagged}
 use Rattle.raft_log_model_laws.specs.Groups.{Map, appended, directory_meaning}
@@ -73,7 +73,7 @@ Settles {S} {E} {V} ties which s t =
     (f : Files E V) → ties s f
     → (a : MovedIn which f) × (a.queue.pending ≡ []) × ties t (put which f a.from a.queue)
 
--- the pipe fails, and the files that it had before allow each image that a crash may leave then
+-- the pipe fails; after that, the files that it had before still allow each image that a crash may leave
 abbrev pub FailsWhole : {S E V : Type 0} → (S → Files E V → Type 0) → (S → Files E V → Type 0) → S → S
     → Type 0
 FailsWhole {S} {E} {V} ties allows s t = (f : Files E V) → ties s f → allows t f

@@ -1,4 +1,4 @@
--- The numbered files of a queue, at which of them a recovery may start, and what may happen to them.
+-- The numbered files of a queue: at which of them a recovery may start, and what may happen to them.
 use Rattle.std.specs.Prelude.{◌≡◌, ℕ, ◌+◌, ◌<◌, ◌≤◌, List, [], ◌∷◌, ◌++◌, length, take}
 use Rattle.raft_log_model_laws.specs.Item.{Record}
 use Rattle.raft_log_model_laws.specs.Meaning.{Slot}

@@ -35,7 +35,7 @@ pub record Machine (E V : Type 0) : Type 0 where
   pub store : Store E V
   -- the map of Append's synced batches
   pub map : Map E V
-  -- where each entry and value of a raft group is stored, also of pending batches
+  -- where each entry and value of a raft group is stored, those of pending batches included
   pub whereabouts : ℕ → Whereabouts
   -- the engine has failed: the whereabouts may be wrong until the directory is opened again
   pub failed : Bool
@@ -44,8 +44,8 @@ pub record Machine (E V : Type 0) : Type 0 where
 pub data Event (E V : Type 0) : Type 0 where
   -- a batch is appended to Append
   Take : Record E V → Event E V
-  -- all pending records of a queue are synced: by a sync, by a rotation, or after a failed write was truncated and
-  -- synced
+  -- all pending records of a queue are synced: by a sync, by a rotation, or by the sync after a failed write was
+  -- truncated
   SyncAppend : Event E V
   SyncRewrite : Event E V
   -- a plain record is appended to Rewrite: tombstones, copies of Append's entries and keys, or copies of what Rewrite

@@ -67,8 +67,8 @@ abbrev pub IsInRewrite : Whereabouts → Slot → Type 0
 IsInRewrite t (Index i) = (t.first ≤ i) × (i < t.split)
 IsInRewrite t (Key k) = t.appended k ≡ false
 
--- for each slot that isn't empty and whose content is stored in Rewrite, the files from the noted one on touch it, as
--- `SpeaksFrom` says
+-- The noted files of Rewrite are right: an item touches the slot even if only files from the noted one on are read
+-- (`SpeaksFrom`). Slots that are empty, or whose content is stored in Append, are left out.
 abbrev pub AreNotedInRewrite : {E V : Type 0} → Map E V → (ℕ → Whereabouts) → Notes → FileQueue E V → Type 0
 AreNotedInRewrite m whereabouts notes q =
     (g : ℕ) (s : Slot) → IsInRewrite (whereabouts g) s → (m g s ≡ None) ⊎ SpeaksFrom q g (notes g s) s

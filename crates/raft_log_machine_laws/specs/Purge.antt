@@ -1,4 +1,4 @@
--- What a purge may do, and what may be read of the files after it.
+-- The events that a purge may consist of, and what may be read of both queues after it.
 use Rattle.std.specs.Prelude.{◌≡◌, List, [], ◌∷◌, ◌++◌}
 use Rattle.raft_log_model_laws.specs.Item.{Record}
 use Rattle.raft_log_model_laws.specs.Groups.{Map, directory_meaning}

@@ -1,4 +1,4 @@
--- The whereabouts of a raft group that an open makes from the files that it read.
+-- The whereabouts that an open makes for each raft group from the files that it read.
 use Rattle.std.specs.Prelude.{◌≡◌, ℕ, ◌+◌, ◌<◌, ◌≤◌, ◌⊎◌, nat_lt, Bool, true, false, ◌||◌, if◌then◌else◌, bytes_eq, List, [], ◌∷◌, length, Option, Some, None, is_some}
 use Rattle.raft_log_model_laws.specs.Item.{Item}
 use Rattle.raft_log_model_laws.specs.Item.Item.{Compact, Del}
@@ -31,8 +31,8 @@ pub record HasMarks {E V : Type 0} (append : List (Item E V)) (t : Whereabouts) 
   pub was_deleted : (k : List ℕ) → t.deleted k ≡ true → has_del k append ≡ true
 
 -- Whereabouts `t` are right for a raft group with content `m` if an open read the items `append` from Append. They
--- place in Append what these items leave there, and all else in Rewrite. The tombstones for Append's deletions are
--- owed, as `HasMarks` says.
+-- place in Append what these items leave, and all else in Rewrite. The tombstones for Append's deletions are owed, as
+-- `HasMarks` says.
 pub record IsRecovered {E V : Type 0} (m : Slot → Option (Content E V)) (append : List (Item E V))
     (t : Whereabouts) : Type 0 where
   pub in_order : (t.first ≤ t.split) × (t.split ≤ t.end) × (t.end ≤ top)

@@ -27,8 +27,8 @@ pub record ListsMarked (marked : List ℕ → Bool) (ks : List (List ℕ)) : Typ
   pub owed : AllOwed marked ks
   pub all : (k : List ℕ) → without marked ks k ≡ false
 
--- Whether a value is to be listed. With a gate (a file number), these are the values of Append in files up to the gate.
--- Without one, these are the values of Rewrite.
+-- Whether a value is to be listed. With a gate (a file number), it must be in Append, in a file up to the gate. Without
+-- one, it must be in Rewrite.
 abbrev pub is_asked : Option ℕ → KeyValue → Bool
 is_asked None h = not h.appended
 is_asked (Some gate) h = h.appended && nat_le h.file gate

@@ -13,23 +13,23 @@ use Rattle.raft_log_memtable_index.specs.Shown.{KeyValue, Shown, whereabouts}
 use Rattle.raft_log_memtable_index.specs.Bridge.{Move}
 use Rattle.raft_log_memtable_index.specs.Bridge.Move.{MoveRun, MoveKey}
 
--- the file number of a place, or 0
+-- the file number of a place, or 0 if there is no place
 abbrev pub place_file : Option Place → ℕ
 place_file None = 0
 place_file (Some p) = p.file
 
--- the file number of a value, or 0
+-- the file number of a value, or 0 if there is no value
 abbrev pub held_file : Option KeyValue → ℕ
 held_file None = 0
 held_file (Some h) = h.file
 
--- the file number of the entry or value in slot `s`, or 0
+-- the file number of the entry or value in slot `s`, if there is one; otherwise this number means nothing
 abbrev pub file_at : Shown → Slot → ℕ
 file_at v (Index i) = place_file (slice_get v.places (i - v.first))
 file_at v (Key k) = held_file (v.held k)
 
--- The first file that must be kept so that what is in file `n` of Rewrite can be recovered. If the last file of the
--- noted atomic groups is `n` or later, it is their first file, but at most `n`. Otherwise it is `n`.
+-- The first file that must be kept so that what is in file `n` of Rewrite can be recovered. If the noted atomic groups
+-- reach file `n` or a later one, it is their first file or `n`, whichever is lower. Otherwise it is `n`.
 abbrev pub start_of : ℕ → Option GroupFiles → ℕ
 start_of n None = n
 start_of n (Some files) = if nat_le n files.to then min files.from n else n

@@ -42,7 +42,7 @@ OneRecordAtAPlace =
     → IsRecord s a items entries → IsRecord t b others more
     → a ++ x ≡ b ++ y → (a ≡ b) × (items ≡ others) × (entries ≡ more)
 
--- Bytes are a record if and only if they are a frame whose block is a valid entry block with these entries.
+-- Bytes are a record with `entries` if and only if they are a frame whose block is a valid entry block with `entries`.
 abbrev pub RecordIsFrameAndBlock : Type 0
 RecordIsFrameAndBlock =
     (signature : Option ℕ) (bytes entries : List ℕ) (items : List LogItem)

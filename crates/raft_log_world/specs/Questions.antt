@@ -35,7 +35,8 @@ Syncs Close = Unit {0}
 Syncs event = ⊥
 
 -- Let a write with a sync, a sync, a purge or a close succeed. After any later events, the contents begin with those
--- before this event, and its batch if it wrote one. Then come some of the batches that later events asked to write.
+-- before this event and the batch that it wrote, if any. Then come some of the batches that later events asked to
+-- write.
 abbrev pub SyncedBatchesAreKept : Type 0 → Type 0 → Type 0
 SyncedBatchesAreKept B C =
     (says : B → BatchRecord) (log next last : ModelLog) (event : Event B C)

@@ -26,8 +26,8 @@ abbrev pub with_stored : Batch → ℕ → ℕ → List (ℕ × List ℕ) → Ba
 with_stored b group index entries =
     with_entries b group (indexes_at index (entry_texts index entries)) (entry_texts index entries)
 
--- The batch with the change of a group's log added, for a request that brought the entries `sent`. It adds those of the
--- entries that are new, a `Compact`, or a `Clean`. If only the state changes, it adds nothing.
+-- The batch with the change of a group's log added, for a request that brought the entries `sent`. Added are the new
+-- ones of these entries, a `Compact`, or a `Clean`. If only the state changes, nothing is added.
 abbrev pub with_write : Batch → ℕ → Write → List (ℕ × List ℕ) → Batch
 with_write b group StateAlone sent = b
 with_write b group (Entries skipped index) sent = with_stored b group index (drop skipped sent)

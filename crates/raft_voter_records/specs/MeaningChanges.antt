@@ -57,7 +57,7 @@ abbrev pub state_items : State → List Words
 state_items w = Put voter_key (state_text (stored_state w)) ∷ []
 
 -- The items that are written when voter `v` takes request `q`: those for its log, then its new state. If the request
--- retires the voter, it is only a `Clean`.
+-- retires the voter, there is only a `Clean`.
 abbrev pub change_items : State → Request → List Words
 change_items v q =
     if is_retire q then Clean ∷ [] else log_items v (next v q) ++ state_items (next v q)

@@ -51,14 +51,14 @@ IsMeant at v m = (s : Slot) → option_map (renamed_content at) (content (table_
 abbrev pub read : {E : Type 0} → (Located → E) → Shown → ℕ → ℕ → List E
 read at v f count = map at (take count (drop (f - v.first) (located v.rewritten v.places)))
 
--- One copy into Rewrite. `MoveRun` copies entries from an index on to new places, and `MoveKey` the value of a key
--- into a file.
+-- One copy into Rewrite. `MoveRun` copies entries to new places, the first one at this index. `MoveKey` copies the
+-- value of a key into a file.
 pub data Move : Type 0 where
   MoveRun : ℕ → List Place → Move
   MoveKey : List ℕ → ℕ → Move
 
--- The table after entries were copied to Rewrite: from index `f` on, one to each place in `ps`. All entries before
--- these are in Rewrite too.
+-- The table after entries were copied to Rewrite, one to each place in `ps`; the first has the index `f`. All entries
+-- before these are in Rewrite too.
 abbrev pub moved_run : Shown → ℕ → List Place → Shown
 moved_run v f ps = record v {
   places = take (f - v.first) v.places ++ (ps ++ drop ((f - v.first) + length ps) v.places);

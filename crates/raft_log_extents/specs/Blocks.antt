@@ -9,7 +9,7 @@ follows p q =
     (((p.file == q.file) && (p.offset == q.offset)) && (p.len == q.len))
     && (p.entry_offset + p.entry_len == q.entry_offset)
 
--- how many of the places `ps` don't follow the place before them (`follows`); the place before the first is `p`
+-- how many of the places `ps` don't follow the one before (`follows`); before the first comes `p`
 abbrev pub gaps : Place → List Place → ℕ
 gaps p [] = 0
 gaps p (q ∷ ps) = if follows p q then gaps q ps else suc (gaps q ps)

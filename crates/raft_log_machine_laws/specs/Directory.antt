@@ -58,9 +58,9 @@ IsRising [] = Unit {0}
 IsRising (f ∷ []) = Unit {0}
 IsRising (f ∷ g ∷ fs) = (f.number < g.number) × IsRising (g ∷ fs)
 
--- A recovery can read both queues, from every file at which it may start, and for every prefix of the pending records.
--- File numbers rise, no run leaves a hole, and no record comes between those of an atomic group of Rewrite. The files
--- after the last gap are numbered from `n` on in Rewrite's files `r`, and from `k` on in Append's `a`.
+-- A recovery can read both queues from every file at which it may start, whatever prefix of the pending records a crash
+-- kept. File numbers rise, no run leaves a hole, and no record comes between those of an atomic group of Rewrite. The
+-- files after the last gap are numbered from `n` on in Rewrite's files `r`, and from `k` on in Append's `a`.
 pub record ReplaysInFiles {E V : Type 0} (n : ℕ) (r : FileQueue E V) (k : ℕ) (a : FileQueue E V)
     : Type 0 where
   pub append : (kept lost : List (Record E V)) → kept ++ lost ≡ a.pending

@@ -7,7 +7,7 @@ use Rattle.raft_log_model_laws.specs.Meaning.{Slot, Content, says}
 use Rattle.raft_log_model_laws.specs.Meaning.Slot.{Index, Key}
 use Rattle.raft_log_model_laws.specs.Meaning.Content.{Entry, Value}
 
--- above every index of an entry: a Compact with it removes all entries
+-- a number above every index of an entry, so that a Compact with this index removes all entries
 unfoldable pub top : ℕ
 top = 2 ^ 64 - 1
 

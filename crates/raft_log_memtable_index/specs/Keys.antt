@@ -1,5 +1,5 @@
--- The keys of a group in its table: their values, the Dels that the table owes, and for which keys it has a slot
--- (`KeySlot`), that is, memory for a value and a Del.
+-- The keys of a group in its table: their values, and the Dels that the table owes. A key may have a slot (`KeySlot`),
+-- which is memory for a value and a Del.
 use Rattle.std.specs.Prelude.{◌≡◌, ℕ, Bool, true, false, ◌||◌, List, [], ◌∷◌, Option, Some, None, if◌then◌else◌, is_some, bytes_eq}
 use Rattle.std.specs.Option.{option_or}
 use Rattle.std.specs.Map.{lookup}

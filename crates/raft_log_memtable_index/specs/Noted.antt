@@ -94,7 +94,7 @@ pub record FilesRise (a r : ℕ) (v : Shown) : Type 0 where
       → file_at v (Index i) ≤ a
   pub in_rewrite : (i : ℕ) → v.first ≤ i → i < v.first + v.rewritten → file_at v (Index i) ≤ r
 
--- After items from file `n` changed the table `v` into `u`, each slot in Append has one of two origins. It was in
+-- Items from file `n` changed the table `v` into `u`. Each slot that is now in Append has one of two origins. It was in
 -- Append before, in the same file, or it is in file `n` and an item touches it.
 abbrev pub AppendedGrow : {E : Type 0} → List (Item E (List ℕ)) → ℕ → Shown → Shown → Type 0
 AppendedGrow xs n v u =
@@ -111,9 +111,9 @@ AppendedShrink v u =
 abbrev pub RewrittenStay : Shown → Shown → Type 0
 RewrittenStay v u = (s : Slot) → IsInRewrite (whereabouts u) s → noted_at u s ≤ noted_at v s
 
--- After items that count from file `n` on changed the table `v` into `u`, each slot in Rewrite has one of two
--- origins. It was in Rewrite before, and its first file to keep is not later. Or its first file to keep is at most
--- `n`, and an item touches it.
+-- Items that count from file `n` on changed the table `v` into `u`. Each slot that is now in Rewrite has one of two
+-- origins. It was in Rewrite before, and its first file to keep is not later. Or its first file to keep is at most `n`,
+-- and an item touches it.
 abbrev pub RewrittenCarry : {E : Type 0} → List (Item E (List ℕ)) → ℕ → Shown → Shown → Type 0
 RewrittenCarry xs n v u =
     (s : Slot) → IsInRewrite (whereabouts u) s

@@ -55,8 +55,8 @@ Asks l at log is (Fork target) now = l.is_clear at (string_bytes target) × IfLe
 Asks l at log is (Crash what) (Closed files) = UnlessResting log (l.crash_spared at log is what files)
 Asks l at log is event now = Unit {0}
 
--- The model explains that the event had this answer and led from `at` to `now`. For each log of the model that `at`
--- represents and that meets `Asks`, the model may give this answer, and `now` represents the log that it becomes.
+-- The model explains that the event had this answer and led from `at` to `now`. Take a log of the model that `at`
+-- represents and that meets `Asks`. The model may give this answer, and `now` represents the log that it becomes.
 abbrev pub Follows :
     {S F B C : Type 0} → LogOf S F B C → Storage S F → Event B C → Answer → Storage S F → Type 0
 Follows l at event answer now =

@@ -49,8 +49,8 @@ run_item group entries = record { raft_group_id = group; content = contents.Entr
 abbrev pub command_item : ℕ → Command → LogItem
 command_item group command = record { raft_group_id = group; content = contents.Command command }
 
--- the approximate size of a content in bytes: a run has 16 and eight for each entry, a command eight, and a key 16 and
--- the bytes of the key and its value
+-- the approximate size of a content in bytes: a run counts 16, plus eight for each entry; a command eight; a key 16,
+-- plus the bytes of the key and its value
 abbrev pub content_size : LogItemContent → ℕ
 content_size (contents.EntryIndexes es) = 16 + 8 * length es
 content_size (contents.Command c) = 8

@@ -1,5 +1,5 @@
--- The batch that is written when a request changes a voter. If the log changes, it has the new entries, or a command
--- that deletes old ones. Then comes the new state, unless the command deletes the whole group.
+-- The batch that is written when a request changes a voter. If the voter's log changes, the batch has the new entries,
+-- or a command that deletes old ones. Then comes the new state, unless the command deletes the whole group.
 use Rattle.std.specs.Prelude.{◌≡◌, ℕ, ◌+◌, ◌≤◌, codes, List, drop}
 use Rattle.raft_log_record_items.specs.declared.command.Command.TheVariants as commands
 use Rattle.raft_log_record_items.specs.Items.{put_item}

@@ -1,5 +1,5 @@
--- The record that is written when a request changes a voter. If the log changes, it has the voter's new entries, or the
--- command that deletes old ones. Then comes the new state, unless the command deletes the whole group.
+-- The record that is written when a request changes a voter. If the voter's log changes, the record has the new
+-- entries, or the command that deletes old ones. Then comes the new state, unless the command deletes the whole group.
 use Rattle.std.specs.Prelude.{ℕ, ◌+◌, ◌==◌, ◌&&◌, Bool, bytes_eq, if◌then◌else◌, List, [], ◌∷◌, ◌++◌, length, drop, map}
 use Rattle.std.specs.List.{common_prefix_len}
 use Rattle.raft_log_model_laws.specs.Item.{Item, Record, Tagged}

@@ -52,7 +52,7 @@ IsAfterStop d error = (d.stopped ≡ true) × (error ≡ Other)
 
 -- Why a call that changes nothing failed with this error:
 -- - `stopped`: the file system has stopped, and the error is `Other`.
--- - `wrong_argument`: an argument is wrong, and `wrong` says which, and that the error fits.
+-- - `wrong_argument`: an argument is wrong, and the error fits (`wrong`).
 -- - `no_memory`: memory ran out, and the error is `OutOfMemory`.
 pub data IsDeclined (wrong : Type 0) (d : Disk) (error : ErrorKind) : Type 0 where
   stopped : d.stopped ≡ true → error ≡ Other → IsDeclined wrong d error

@@ -19,8 +19,8 @@ pub record Held : Type 0 where
   pub synced : List ℕ
   pub changes : List Made
 
--- The content before these changes, computed from `content`, the one after them. The changes are listed oldest first,
--- and undone from the last one back.
+-- The content before these changes, if `content` is the content after them. The changes are listed oldest first, and
+-- undone from the last one back.
 abbrev pub before : List Stamped → List ℕ → List ℕ
 before [] content = content
 before (u ∷ us) content = restored u.former (before us content)

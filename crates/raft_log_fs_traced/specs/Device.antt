@@ -85,8 +85,8 @@ changed_by (Undone file change) d = with_next (d.files file) (undone_change chan
 changed_by (WroteBack file at bytes) d = d
 changed_by (Synced file) d = with_next (d.files file) flushed file d
 
--- The device after a call that changes names. Later calls see the change at once. The directories `homes` have to be
--- synced now; a crash keeps the change only once no directory has to be synced any more.
+-- The device after a call that changes names. Later calls see the change at once. Now the directories `homes` have to
+-- be synced, too. A crash keeps the change only once no directory has to be synced any more.
 abbrev pub with_names : DeviceCall → List (List ℕ) → Held → Held
 with_names call homes held =
     record { seen = changed_by call held.seen; kept = held.kept; owed = homes ++ held.owed }

@@ -38,9 +38,9 @@ IsFileImage None (Some after) = ⊥
 IsFileImage (Some before) None = ⊥
 IsFileImage (Some before) (Some after) = (bytes : List ℕ) × (after ≡ at_rest bytes) × IsLeft before bytes
 
--- `image` is a crash image of `d`: what a crash at this moment may leave. Directories and paths are unchanged, and
--- each file has some content that the crash may leave. No offset is unreadable, and no failures are counted or
--- recorded.
+-- `image` is a crash image of `d`: what a crash at this moment may leave. Directories and paths are unchanged, and each
+-- file has some content that the crash may leave. The file system runs, no offset is unreadable, and no failures are
+-- counted or recorded.
 pub record IsImage (d image : Disk) : Type 0 where
   pub directories : image.directories ≡ d.directories
   pub names : image.names ≡ d.names

@@ -149,7 +149,7 @@ after_failure error k = record k { disk = failed_once error k.disk }
 abbrev pub after_stop : Kept → Kept
 after_stop k = record k { disk = at_stop k.disk }
 
--- Why a changing call failed, and what it left. In the last three cases a failure is counted as in `failed_once`:
+-- Why a changing call failed, and what it left. All cases but the first two are counted as in `failed_once`:
 -- - `uncounted`: the file system had stopped, and the error is `Other`; or an argument is wrong. Nothing changed.
 -- - `stop_fell`: a stop was due. `left_at_stop` says what it left.
 -- - `refusal_fell`, `part_fell`: an armed failure was due. A partial one left what `left_in_part` says.

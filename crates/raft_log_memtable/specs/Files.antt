@@ -27,7 +27,7 @@ least_rewritten t = lesser (first_place Rewrite t) (least_value false t.keys)
 
 -- The lowest file of `queue` that the table needs: the file of its first entry there, or the lowest file of a value
 -- there, whichever is lower. If Rewrite's recorded atomic groups reach from an earlier file into this one, it is their
--- first file.
+-- first file instead.
 abbrev pub min_file : LogQueue → Raw → Option ℕ
 min_file Append t = lesser (first_place Append t) (least_value true t.keys)
 min_file Rewrite t = option_map (λ n. start_of n t.noted) (least_rewritten t)
@@ -39,7 +39,7 @@ IsLeastRewritten v least =
 
 -- `file` is the lowest file of the queue that the table needs: the file of its first entry there, or the lowest file of
 -- a value there, whichever is lower. If Rewrite's recorded atomic groups reach from an earlier file into this one,
--- `file` is their first file.
+-- `file` is their first file instead.
 abbrev pub IsMinFile : LogQueue → Shown → Option ℕ → Type 0
 IsMinFile Append v file =
     (value : Option ℕ) × IsLeastValue true v.held value × (file ≡ lesser (first_file Append v) value)

@@ -9,8 +9,8 @@ use Rattle.raft_log_extents.specs.Counts.{passing}
 use Rattle.raft_log_memtable_index.specs.Shown.{KeyValue, Shown, with_held}
 use Rattle.raft_log_memtable_index.specs.Bridge.{moved_run}
 
--- The table has all entries of the run. The run starts at an entry in Rewrite or right after the last of these, and
--- doesn't end before the last of these. An empty run and other items qualify too.
+-- The table has all entries of the run. The run starts at an entry in Rewrite or right after Rewrite's last entry, and
+-- doesn't end before Rewrite's last entry. An empty run and other items qualify too.
 abbrev pub RunStandsIn : Shown → Item Place (List ℕ) → Type 0
 RunStandsIn v (Run f []) = Unit {0}
 RunStandsIn v (Run f (p ∷ ps)) =

@@ -27,7 +27,7 @@ with_moves q n = record q { moves = q.moves + n }
 abbrev pub without_moves : Promise → ℕ → Promise
 without_moves q n = record q { moves = q.moves - n }
 
--- the reservation in which only keys with a value have a slot
+-- the reservation in which exactly the keys with a value have a slot
 abbrev pub with_room_of : Promise → Shown → Promise
 with_room_of q v = record q { has = λ k. is_some (v.held k) }
 

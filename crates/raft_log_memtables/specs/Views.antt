@@ -72,8 +72,8 @@ MarksCarryTheView E = (at : Located → E) (n : ℕ) (v : ℕ → Shown) (m : Ma
     → ((g : ℕ) → of_group g xs ≡ marks (v g) (keys g)) → ViewCarries at n v (λ g. unmarked (v g)) m xs
 
 -- How the end of an atomic group of Rewrite changes the tables. `files` are those of the atomic group, and `about` is
--- true for the raft groups that it changes. Each of these makes its `moves`, and then has nothing of Rewrite in a file
--- below its `least`.
+-- true for the raft groups that it changes. `moves` has the copies in each of these. After the copies, the raft group
+-- has nothing of Rewrite in a file below `least`.
 pub record GroupEnd : Type 0 where
   pub files : GroupFiles
   pub about : ℕ → Bool

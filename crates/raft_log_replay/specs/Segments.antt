@@ -27,8 +27,8 @@ pub record HasReadSegments {M E : Type 0} (holds : ℕ → List Batch → E → 
 -- the failure could be read.
 -- - `memory`: memory ran out.
 -- - `unread`: a segment can't be read (`refuses`).
--- - `declined`: a machine fails (`declines`) at the first batches of a segment (`begins`), after it read the batches
---   just before.
+-- - `declined`: a machine fails (`declines`) at batches with which a segment begins (`begins`), after it read some
+--   batches just before these.
 -- - `apart`: two machines aren't merged, because of the batches that they have read (`declines`).
 pub data IsRefusedIn {E : Type 0} (holds : ℕ → List Batch → E → Type 0) (begins : ℕ → List Batch → Type 0)
     (refuses : ℕ → Error → Type 0) (declines : List Batch → Error → Type 0) (first last : ℕ) (error : Error)

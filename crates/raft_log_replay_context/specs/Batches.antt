@@ -32,7 +32,7 @@ IsDisorder rs None = ⊥
 IsDisorder rs (Some r) = AreOrderly (rs ++ r ∷ []) → ⊥
 
 -- Why a batch of Rewrite isn't read. `r` is the record that the batch decodes to, or `None` if it has a broken mark or
--- two marks: then the error is `Corruption` with the text `invalid_mark`. It may be `Memory` in any case.
+-- two marks: then the error is `Corruption` with the text `invalid_mark`. The error may be `Memory` in any case.
 abbrev pub RewriteIsUnread : Option ReadRecord → Error → Type 0
 RewriteIsUnread r (errors.Corruption text) = (r ≡ None) × (string_bytes text ≡ invalid_mark)
 RewriteIsUnread r errors.Memory = Unit {0}

@@ -131,8 +131,8 @@ pub record CountsFrom (rs : List ReadRecord) (g n : ℕ) (s : Slot) : Type 0 whe
   pub from : n ≤ first.file
   pub spoken : IsSpoken (says s (counted g (first ∷ back)))
 
--- Each slot of raft group `g` that has content counts (`CountsFrom`) from the content's file on. If the recorded atomic
--- groups reach from an earlier file into the content's file, the slot counts from their first file on (`start_of`).
+-- Each slot of raft group `g` that has content counts (`CountsFrom`) from a certain file on (`start_of`). This is the
+-- first file of the recorded atomic groups if these reach from there into the content's file, else the content's file.
 abbrev pub NotesCover : List ReadRecord → ℕ → Option GroupFiles → Type 0
 NotesCover rs g noted =
     (s : Slot) (c : Content Located KeyValue) → says s (counted g rs) ≡ Some (Some c)

@@ -47,7 +47,7 @@ IsMinFile Rewrite v file =
     (least : Option ℕ) × IsLeastRewritten v least × (file ≡ option_map (λ n. start_of n v.noted) least)
 
 -- Which files of atomic groups are recorded once a group in the files `new` has ended. `old` were recorded before. The
--- first argument is the lowest file of Rewrite with an entry or value of the table.
+-- first argument is the lowest file of Rewrite with an entry or value of the table, if there is one.
 abbrev pub noted_after : Option ℕ → Option GroupFiles → GroupFiles → GroupFiles
 noted_after None old new = new
 noted_after (Some least) old new = noting least old new

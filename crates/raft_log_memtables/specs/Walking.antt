@@ -1,4 +1,4 @@
--- Lists of groups, and numbers that are summed over all groups.
+-- Lists of groups, a sum over all groups, and the lowest file that any group needs.
 use Rattle.std.specs.Prelude.{◌≡◌, ◌⊎◌, ◌≤◌, ◌-◌, ◌^◌, ℕ, ◌==◌, min, Bool, false, ◌||◌, List, [], ◌∷◌, Option, Some, None, sum_by}
 use Rattle.std.specs.BTreeMap.{get}
 use Rattle.std.specs.List.{list_any}

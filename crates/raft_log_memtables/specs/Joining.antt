@@ -89,7 +89,7 @@ read_noted_in files None = nothing_replayed
 read_noted_in files (Some t) = with_read_group (replay_of t) files
 
 -- The result of a raft group's replay after an atomic group in these files ended. Files that were noted before stay
--- noted only if the raft group's lowest file of Rewrite isn't past them. Without a table, the result is that of no
+-- noted only if they reach up to the raft group's lowest file of Rewrite. Without a table, the result is that of no
 -- items.
 abbrev pub noted_in : GroupFiles → Option Raw → Replayed
 noted_in files None = nothing_replayed

@@ -57,8 +57,8 @@ rewritten_by gate v (Run f ps) =
     (take (movable v gate (f - v.first) (length (drop (v.first - f) ps))) (drop (v.first - f) ps))
 rewritten_by gate v x = v
 
--- whether a value may move to a new file of Rewrite: it is in Rewrite already, or there is a gate and it is in a file
--- up to the gate
+-- Whether a value may move to a new file of Rewrite. A value in Rewrite always may. A value in Append may if there is a
+-- gate, and its file isn't past the gate.
 abbrev pub may_move : Option ℕ → KeyValue → Bool
 may_move None h = not h.appended
 may_move (Some gate) h = not h.appended || nat_le h.file gate

@@ -39,8 +39,8 @@ entries_from v n (p ∷ ps) =
 abbrev pub places_between : Shown → ℕ → ℕ → List Place
 places_between v begin end = take (end - begin) (drop (begin - v.first) v.places)
 
--- the entries from index `begin` on, below `end`: always the first one, and further ones as long as the total length is
--- at most `max`, if there is such a limit
+-- The entries from index `begin` on, below `end`: always the first one, and further ones as long as the total length is
+-- at most `max`. Without a limit (`None`), these are all of them.
 abbrev pub fetched : Shown → ℕ → ℕ → Option ℕ → List EntryIndex
 fetched v begin end max =
     entries_from v (begin - v.first)

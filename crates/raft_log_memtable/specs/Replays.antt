@@ -1,4 +1,4 @@
--- The table of a group in a replay: a run of entries is applied to it, or the table of a later segment is joined to it.
+-- The table of a group in a replay. A run of entries is applied to it, or the table of a later segment is joined to it.
 -- A segment is one file or several consecutive files that one worker reads.
 use Rattle.std.specs.Prelude.{◌≡◌, ℕ, ◌-◌, ◌≤◌, ◌⊎◌, min, Bool, true, false, not, ◌&&◌, [], length, take, if◌then◌else◌, nat_lt}
 use Rattle.raft_log_record_base.specs.declared.errors.Error.{Error}

@@ -16,8 +16,8 @@ use Rattle.raft_log_memtable.specs.Room.{Promise, kept, promised, IsForgotten, I
 use Rattle.raft_log_memtables.specs.declared.mem_tables.MemTables.{MemTables}
 use Rattle.raft_log_memtables.specs.Tables.{counts, shown_of, promise_of, has_table}
 
--- in each group `g`, the group's items of `xs` can be applied to the table `v g`, one after another: they leave no hole
--- and no index too high
+-- In each group `g`, the group's items of `xs` can be applied to the table `v g`, one after another. They leave no hole
+-- and no index too high.
 abbrev pub MayFollowAll : {E V : Type 0} → (ℕ → Shown) → List (Tagged E V) → Type 0
 MayFollowAll v xs = (g : ℕ) → MayAllFollow (span (v g)) (of_group g xs)
 

@@ -15,8 +15,8 @@ use Rattle.raft_log_memtables.specs.declared.mem_tables.MemTables.{MemTables}
 use Rattle.raft_log_memtables.specs.Tables.{counts, replayed_of, shown_of}
 use Rattle.raft_log_memtables.specs.Replaying.{StaysAt}
 
--- Whether a group counts after two segments: it counts in the later one, or it counted in the earlier one and has no
--- Clean in the later one.
+-- Whether a group counts after two segments. It does if it counts in the later one, or if it counted in the earlier one
+-- and has no Clean in the later one.
 abbrev pub counts_with : MemTables → MemTables → ℕ → Bool
 counts_with old newer g = counts newer g || (counts old g && not (shown_of newer g).cleaned)
 

@@ -35,8 +35,8 @@ abbrev pub JoinsLater : {M : Type 0} → (List Batch → M → Type 0) → M →
 JoinsLater reads old later new =
     (xs ys : List Batch) → reads xs old → reads ys later → reads (xs ++ ys) new
 
--- `old` and `later` fail to merge, with `error`: if `old` has read some batches, and `later` those that follow them,
--- `declines` allows this error for all of them
+-- `old` and `later` fail to merge, with `error`. If `old` has read some batches, and `later` those that follow them,
+-- `declines` allows this error for all of them.
 abbrev pub DeclinesLater : {M : Type 0} → (List Batch → M → Type 0) → (List Batch → Error → Type 0) → M → M
     → Error → Type 0
 DeclinesLater reads declines old later error =

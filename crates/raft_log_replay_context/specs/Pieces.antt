@@ -73,8 +73,8 @@ whole_seen φ (Some ps) = parts_seen φ ps.items
 abbrev pub part_read : Mark → GroupPart → ReadRecord
 part_read m p = in_file p.file (Part m (part_items p))
 
--- what a segment does with an atomic group that may be open before the segment: it continues the group, ends it, or
--- begins a new group with the same number
+-- What a segment does with an atomic group that may be open before the segment. It continues the group, ends it, or
+-- begins a new group with the same number.
 abbrev pub head_of : Reading → GroupHead → Head Located KeyValue
 head_of φ (code.GoesOn ps) = GoesOn (parts_seen φ ps.items)
 head_of φ (code.Ends ps) = Ends (parts_seen φ ps.items)

@@ -1,7 +1,7 @@
 -- What an atomic group of records changes in the tables. Its parts are records of Rewrite. When the last is written,
 -- the table of each raft group notes the items of all parts in their new files. A run of entries may be split over
--- several parts, each piece in the file of its part's record. The gate is the last file of Append from which a purge copies;
--- without a gate, it copies only what is in Rewrite already.
+-- several parts, each piece in the file of its part's record. The gate is the last file of Append from which a purge
+-- copies; without a gate, it copies only what is in Rewrite already.
 use Rattle.std.specs.Prelude.{◌≡◌, ℕ, ◌+◌, false, List, [], ◌∷◌, ◌++◌, length, map, Option}
 use Rattle.raft_log_model_laws.specs.Item.{Item}
 use Rattle.raft_log_model_laws.specs.Item.Item.{Run}

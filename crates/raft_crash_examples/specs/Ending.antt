@@ -29,7 +29,7 @@ abbrev pub Ends : {C : Type 0} → Ending C → EngineState → Disk → Type 0
 Ends (Crash what) e d = IsImage e.pipes.disk d
 Ends Close e d = (succeeded : Bool) × Closes succeeded e d
 
--- `file`, which was the pipe's active file, has no CRC collision, as a close left it:
+-- `file`, the pipe's active file as a close left it, has no CRC collision:
 -- - It begins with no header other than its own.
 -- - Each record in it is one that the pipe wrote there, or that was passed to an unsynced write at that offset.
 -- - It doesn't read as a file with an alignment.
@@ -52,12 +52,12 @@ pub record ClosesWithoutChance (home : LogDirectories) (v : LogPipes) (d : Disk)
   pub append : LeavesWritten (log_in home).append.format v.append.files v.disk d
   pub rewrite : LeavesWritten (log_in home).rewrite.format v.rewrite.files v.disk d
 
--- A close left no CRC collision. Of a close that succeeded nothing is asked.
+-- A close that failed left no CRC collision. Nothing is claimed of a close that succeeded.
 abbrev pub CloseLeavesNoChance : Bool → LogDirectories → LogPipes → Disk → Type 0
 CloseLeavesNoChance true home v d = Unit {0}
 CloseLeavesNoChance false home v d = ClosesWithoutChance home v d
 
--- the disk that a crash or a close of engine `e` left has no CRC collision
+-- if engine `e` ended by a crash or by a close that failed, the disk `d` that it left has no CRC collision
 abbrev pub EndsWithoutChance : {C : Type 0} → LogDirectories → (ending : Ending C) → (e : EngineState) → (d : Disk)
     → Ends ending e d → Type 0
 EndsWithoutChance home (Crash what) e d ends = LeavesNoChance home e.pipes d

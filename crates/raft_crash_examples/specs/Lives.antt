@@ -39,7 +39,7 @@ abbrev pub AllLiveIn : {C : Type 0} → LogDirectories → List (Life C) → Typ
 AllLiveIn home [] = Unit {0}
 AllLiveIn home (life ∷ lives) = (home_of life.config ≡ home) × AllLiveIn home lives
 
--- no end of these lives left a CRC collision
+-- no end of these lives left a CRC collision, as `EndsWithoutChance` says
 abbrev pub LivesWithoutChance : {F C : Type 0} → (disk : F → Disk) → (tells : F → List ℕ → ℕ → Type 0) → LogDirectories
     → (lives : List (Life C)) → (old new : F) → LivesOn disk tells lives old new → Type 0
 LivesWithoutChance disk tells home [] old new on = Unit {0}

@@ -8,7 +8,7 @@ use Rattle.raft_log_engine.specs.raft_log_dual_pipes.specs.Pipes.{LogPipes}
 use Rattle.raft_log_engine.specs.raft_log_engine_laws.specs.EngineState.{EngineState, shows}
 use Rattle.raft_log_engine.specs.raft_log_open.specs.Opening.{OpensDirectory}
 
--- The log of these settings was opened. The engine has these pipes and tables, and no block is cached.
+-- The log of these settings was opened as the engine `engine`, with no cached block.
 pub record Opens {F : Type 0} (disk : F → Disk) (tells : F → List ℕ → ℕ → Type 0) (config : Config) (old : F)
     (engine : EngineState) : Type 0 where
   pub pipes : LogPipes

@@ -1,4 +1,4 @@
--- A log that is opened, changed and closed properly, and then opened again. Nothing is asked of chance.
+-- A log that is opened, changed and closed properly, and then opened again. This needs no premise on CRC collisions.
 use Rattle.std.specs.Prelude.{◌≡◌, ◌⊎◌, ℕ, ◌+◌, Some, None, List, ◌++◌, length, Option}
 use Rattle.raft_log_file_writer.specs.LawsChains.{AreFrames, Written, spelled}
 use Rattle.raft_log_file_writer.specs.KeepsSynced.{IsHandedIn}
@@ -36,8 +36,8 @@ ReadsAllChanges disk first second last before after group key old found = IsBare
     → home_of second ≡ home_of first → home_of last ≡ home_of first
     → found ≡ value_behind group key (before ++ after) None
 
--- What a close left of the pipe's active file has all that the pipe wrote to it, which are whole records, and then
--- another record of the file. No unsynced write was asked to write that record there.
+-- A close left the pipe's active file. It begins with all that the pipe wrote to it, which are whole records, and then
+-- has another record of the file. That record wasn't passed to an unsynced write at its offset.
 pub record LeavesForeignBehind (F : Format LogRecord) (files : PipeFiles) (old new : Disk) : Type 0 where
   pub before : File
   pub was : old.files files.writer.handle.file ≡ Some before
@@ -56,8 +56,8 @@ pub record LeavesForeignBehind (F : Format LogRecord) (files : PipeFiles) (old n
   pub are : file.content ≡ active_header files ++ (spelled own ++ (foreign.bytes ++ behind))
   pub unhanded : IsHandedIn file.changes (length (active_header files) + length (spelled own)) foreign.bytes → ⊥
 
--- If a close leaves such a record in either queue, there is a CRC collision. A close that fails may do so, over a
--- recycled file.
+-- If a close leaves such a record in either queue (`LeavesForeignBehind`), there is a CRC collision. A close that fails
+-- may leave one, in a recycled file.
 abbrev pub ForeignRecordsBehindACloseAreChance : Type 0
 ForeignRecordsBehindACloseAreChance = (home : LogDirectories) (e : EngineState) (m : LogMap)
     (pending : List LogRecordValue) → Represents home e m pending → (d : Disk)

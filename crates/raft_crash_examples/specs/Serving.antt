@@ -6,10 +6,9 @@ use Rattle.raft_voter.specs.Rounds.{World, fresh_world}
 use Rattle.raft_voter.specs.Service.{Answers, Service, uncut}
 use Rattle.raft_voter_world.specs.Stores.{Disk}
 
--- A store was opened from files in which all voters are fresh, and it served the round `before`. Then there was a
--- crash, and a store that was opened from the crash image served the round `behind`. `first` are the replies of fresh
--- voters, `second` those of the voters after the first round. This requires that there is no CRC collision in the files
--- that were opened, nor in the crash image.
+-- `first` and `second` are the replies to the rounds `before` and `behind`, one before a crash and one after it. If all
+-- voters are fresh in `files`, `first` are the replies of fresh voters, and `second` those of the voters after the
+-- first round. This requires that there is no CRC collision in `files`, nor in what the crash left of `store` (`left`).
 pub record ServesAcrossACrash {S F : Type 0} (v : Service S) (d : Disk S F) (files : F)
     (before behind : List (ℕ × Request)) (first second : List Reply) : Type 0 where
   pub store : S

@@ -11,9 +11,9 @@ abbrev pub IsVotedOnce : List Reply → List Reply → Type 0
 IsVotedOnce first second =
     first ≡ Granted 5 ∷ [] → (second ≡ Denied 5 ∷ []) ⊎ (second ≡ Refused ∷ [])
 
--- One candidate asked for the vote in term 5 before a crash (replies `first`), another one after it (`second`). All
--- voters were fresh at first. If the first candidate got the vote, the second didn't. This requires that there is no
--- CRC collision in the files that were opened, nor in the crash image.
+-- One candidate requested the vote in term 5 before a crash (replies `first`), another one after it (`second`). If all
+-- voters are fresh in `files`, and the first candidate got the vote, the second didn't. This requires that there is no
+-- CRC collision in `files`, nor in what the crash left of `store` (`left`).
 pub record VotesAcrossACrash {S F : Type 0} (v : Service S) (d : Disk S F) (files : F) (first second : List Reply)
     : Type 0 where
   pub store : S

@@ -1,4 +1,4 @@
--- The log's model sees a queue as numbered files with records (`FileQueue`). The definitions say which numbered files
+-- The log's model sees a queue as numbered files with records (`FileQueue`). These definitions say which numbered files
 -- correspond to the files on a disk, and what is read of them after a stop.
 use Rattle.std.specs.Prelude.{◌≡◌, ℕ, ◌+◌, ◌<◌, ◌≤◌, List, [], ◌∷◌, ◌++◌, map, suc, zero}
 use Rattle.raft_log_model_laws.specs.Item.{Record}

@@ -30,7 +30,7 @@ pub record IsOpen {R : Type 0} (F : Format R) (own : List ℕ → Type 0) (base 
   pub stands : Stands F own base q path writer.handle.file (IsActiveTo F writer.capacity q) N d
 
 -- The queue's files are on the disk, and its last file is finished: it has exactly its header and its records, all
--- synced. The writer's offset is at its end.
+-- synced. The writer's offset is at the file's end.
 pub record IsFinished {R : Type 0} (F : Format R) (own : List ℕ → Type 0) (base : Disk)
     (writer : LogFileWriter) (q : LogFiles R)
     (path : List ℕ) (N : Names) (d : Disk) : Type 0 where
@@ -98,7 +98,7 @@ pub record BeginsBy (handle : Handle) (header : List ℕ) (writer : LogFileWrite
   pub takes : TakesUp handle header true writer old between
   pub syncs : Syncs writer.handle between new
 
--- if a queue was open to the writer, all its records were synced, and it still is open
+-- if a queue was open to the writer, all its records were synced, and it is still open to the writer
 abbrev pub SyncsAll : {R : Type 0} → Format R → (List ℕ → Type 0) → LogFileWriter → Disk → Disk → Type 0
 SyncsAll {R} F own writer old new = (base : Disk) (q : LogFiles R) (path : List ℕ) (N : Names)
     → IsOpen F own base writer q path N old → IsOpen F own base writer (synced q) path N new

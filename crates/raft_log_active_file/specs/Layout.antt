@@ -1,4 +1,4 @@
--- Where the files of a queue are.
+-- Where the files of a queue are: their directories, and the path of each file by its number and its place.
 use Rattle.std.specs.Prelude.{◌≡◌, ℕ, ◌<◌, ◌+◌, ◌-◌, ◌^◌, Bool, cond, nat_le, List, [], length, slice_index_or}
 use Rattle.raft_log_fs.specs.Disk.{IsPathIn}
 use Rattle.raft_log_file_writer.specs.LogFormat.{Format, IsFormat}
@@ -7,8 +7,8 @@ use Rattle.raft_log_file_format.specs.declared.header.LogFileFormat.{LogFileForm
 use Rattle.raft_log_active_file.specs.Standing.{OwnsPaths}
 use Rattle.raft_log_active_file.specs.declared.format.File.{File}
 
--- Whether file names at `place` have a plus sign before the number. Each of the `count` directories has two places. Its
--- position is the one for names without a sign; its position plus `count` is the one for names with a sign.
+-- Whether file names at `place` have a plus sign before the number. Each of the `count` directories has two places. The
+-- directory's position in the list is for names without a sign, that position plus `count` for names with a sign.
 abbrev pub has_sign : ℕ → ℕ → Bool
 has_sign count place = nat_le count place
 
@@ -40,7 +40,8 @@ IsUnaligned format = format.alignment ≡ 0
 
 -- The paths fit the format of a queue's files.
 -- - `owns`: the queue owns all paths of numbers below the limit.
--- - `numbered`, `lies`: the ordinary path of a number is a path of this number, in the directory of its place.
+-- - `numbered`, `lies`: the ordinary path of a number is a path of this number. At a place for names without a sign, it
+--   is in the directory of the place.
 -- - `kept`, `apart`: the queue owns the paths of reserved names, and none of them is a path of a number.
 -- - `headed`: the header of each format without an alignment is a header of the queue's files.
 pub record IsLayout {R : Type 0} (F : Format R) (own : List ℕ → Type 0) (paths : FilePaths) : Type 0 where

@@ -25,13 +25,12 @@ QueuesAreApart = (append rewrite : List (List ℕ)) (path : List ℕ) → IsOwnP
 abbrev pub ZerosHoldNoRecord : Type 0
 ZerosHoldNoRecord = (n size : ℕ) (header : List ℕ) → HoldsNoFrame (IsRecordIn n header) (zeros size)
 
--- the suffix of the names of files that Append keeps for recycling is `reserved_suffix`, which the code expects in such
--- names
+-- the suffix of the reserved names of Append's files is `reserved_suffix`, which the code expects in such names
 abbrev pub ReservedNamesAreTheLogs : Type 0
 ReservedNamesAreTheLogs = reserved_suffix_of Append ≡ reserved_suffix
 
--- A queue may begin if its directories exist, and no file and no directory is at a path of one of its numbers. Since
--- `base`, only the queue's own paths may have changed.
+-- A queue may begin if its directories exist, and no file and no directory is at a path of one of its numbers. Another
+-- premise: since `base`, only the queue's own paths have changed.
 abbrev pub PlacesAreFresh : Type 0
 PlacesAreFresh = (queue : LogQueue) (directories : List (List ℕ)) (base d : Disk)
     → ((directory : List ℕ) → Contains directories directory → d.directories directory ≡ true)

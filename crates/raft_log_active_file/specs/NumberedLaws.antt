@@ -13,8 +13,8 @@ use Rattle.raft_log_active_file.specs.Queue.{with_more, synced}
 use Rattle.raft_log_active_file.specs.Standing.{Names, Stands}
 use Rattle.raft_log_active_file.specs.Bridge.{said, filed, IsFileQueue, ReadsAsFiles, StepsTo, GapsStay}
 
--- On a sound disk, a read of a queue after a stop without a CRC collision gives what its numbered files allow
--- (`ReadsAsFiles`). Its last file must hold its records, or be as a stop left it.
+-- On a sound disk, a read of a queue after a stop without a CRC collision gives what the queue's numbered files allow
+-- (`ReadsAsFiles`). The queue's last file must hold its records, or be as a stop left it.
 abbrev pub ReadsAsNumbered : {R E V : Type 0} → (R → Record E V) → Format R → (List ℕ → Type 0) → Type 0
 ReadsAsNumbered {R} {E} {V} says F own = CanTellFormat F → (base : Disk) (q : LogFiles R) (path : List ℕ)
     (id : ℕ) (N : Names) (d : Disk)
@@ -26,7 +26,7 @@ ReadsAsNumbered {R} {E} {V} says F own = CanTellFormat F → (base : Disk) (q : 
 -- Each change of the queue is a step of its numbered files.
 -- - `elsewhere`: on another disk, if no gap was filled, the numbered files are the same.
 -- - `grows`, `syncs`, `rotates`: records are written, or synced, or the queue rotates.
--- - `raises`: the live range begins at `to`, and the files before it leave it.
+-- - `raises`: the live range begins at `to` now, and the files before `to` leave it.
 -- - `reads_again`: an open reads the files from `to` on, and the live range begins at `to` again. The first `count`
 -- pending records are kept.
 pub record NumberedSteps {R E V : Type 0} (says : R → Record E V) (F : Format R) (q : LogFiles R)

@@ -14,11 +14,11 @@ pub record IsPathWith (suffix : List ℕ) (directories : List (List ℕ)) (n : �
   pub plain : IsPlain name
   pub joined : path ≡ directory ++ 47 ∷ name
 
--- the suffix of the names of a queue's files that are kept for recycling
+-- the suffix of the reserved names, under which a queue keeps files for recycling
 abbrev pub reserved_suffix_of : LogQueue → List ℕ
 reserved_suffix_of queue = suffix_of queue ++ codes ".reserved"
 
--- a queue's own paths: those of its files, and of the files that it keeps for recycling
+-- a queue's own paths: those of its numbers, and those of reserved names
 abbrev pub IsOwnPath : LogQueue → List (List ℕ) → List ℕ → Type 0
 IsOwnPath queue directories path = (n : ℕ) × (IsPathWith (suffix_of queue) directories n path
     ⊎ IsPathWith (reserved_suffix_of queue) directories n path)

@@ -11,8 +11,8 @@ use Rattle.raft_log_active_file.specs.Layout.{FilePaths, IsUnaligned}
 use Rattle.raft_log_active_file.specs.Paths.{IsPathWith, numbered_path, reserved_path}
 use Rattle.raft_log_active_file.specs.declared.record.LogRecord.{LogRecord}
 
--- `bytes` are the record `said`, in the file with number `n` and this header. Its entry block is whole. In version 2 it
--- is signed with the low 32 bits of `n` (`signature`).
+-- `bytes` are the record `said`, in the file with number `n` and this header. The record's entry block is whole. In
+-- version 2 the record is signed with the low 32 bits of `n` (`signature`).
 pub record IsRecordIn (n : ℕ) (header bytes : List ℕ) (said : LogRecord) : Type 0 where
   pub format : LogFileFormat
   pub says : IsFileHeader header format

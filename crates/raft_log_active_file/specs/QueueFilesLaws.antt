@@ -31,7 +31,7 @@ use Rattle.raft_log_active_file.specs.PathLaws.{one_name, one_number, numbered_i
 drop_front : (a b : List ℕ) → drop (length a) (a ++ b) ≡ b
 drop_front a b = drop_at a b (length a) refl
 
--- a prefix of two joined lists that isn't longer than the first list is a prefix of it
+-- if a prefix of two joined lists isn't longer than the first list, it is a prefix of that one
 take_front : (k : ℕ) (a b : List ℕ) → k ≤ length a → take k (a ++ b) ≡ take k a
 take_front k a b fits = take-append-le k a b fits
 

@@ -30,7 +30,7 @@ OwnsPaths F own = (m : ℕ) (path : List ℕ) → m < F.limit → F.IsPath m pat
 
 -- The files of a queue are on the disk `d`, whose names are `N`.
 -- - `at`, `named`, `file`: the last file is at `path`, has the node number `id`, and `P` holds for it.
--- - `alone`, `none`: no other file has its number, and no file has a higher number.
+-- - `alone`, `none`: no other file has the last file's number, and no file has a higher number.
 -- - `older`, `single`: a file with a lower number is as the queue has finished it, and no two files have one number.
 -- - `others`: since `base`, only the queue's own paths and files have changed.
 pub record Stands {R : Type 0} (F : Format R) (own : List ℕ → Type 0) (base : Disk) (q : LogFiles R)

@@ -30,7 +30,7 @@ pub record IsFront {R : Type 0} (F : Format R) (q : LogFiles R) (more : List (Wr
   pub front : take (length (whole q)) file.content ≡ whole q
 
 -- The file was truncated after a failed write: it has exactly its header and its records. The truncation isn't synced
--- yet, so the failed record (in `more`) still counts.
+-- yet, so the record of that write (in `more`) still counts as pending.
 pub record IsCut {R : Type 0} (F : Format R) (q : LogFiles R) (more : List (Written R))
     (file : File) : Type 0 where
   pub chain : HoldsMore F q more file

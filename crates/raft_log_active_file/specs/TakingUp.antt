@@ -59,7 +59,7 @@ IsTrimmed F own base handle (Some end) q path N old new = (front : List ℕ) × 
 IsTrimmed F own base handle None q path N old new = (recent q ≡ [])
     × Stands F own base q path handle.file (λ file. file ≡ at_rest []) N new
 
--- `stale` are the file's stale bytes, counted from its start: all its bytes on the disk `d`, or allocated zeros
+-- the stale bytes of the handle's file, `stale`, are all bytes that the file has on the disk `d`, or allocated zeros
 abbrev pub IsWhatItHeld : Handle → List ℕ → Disk → Type 0
 IsWhatItHeld handle stale d = HasFile handle.file (λ file. stale ≡ file.content) d
     ⊎ ((room : ℕ) × (stale ≡ grown room []))
@@ -81,7 +81,7 @@ TrimsLeftover {R} F own handle end old new = (base : Disk) (q : LogFiles R) (pat
     → IsTrimmed F own base handle end q path N old new
 
 -- Truncating the queue's last file failed. Suppose the queue was as a stop left it. Then a file call failed, and the
--- queue still has all records that were read. That is so for each header that a last file without one may get.
+-- queue still has all records that were read. A last file without a header may get any (`header`).
 abbrev pub FailsToTrim : {R : Type 0} → Format R → (List ℕ → Type 0) → Handle → Option ℕ → Disk → Disk
     → Type 0
 FailsToTrim {R} F own handle end old new = (base : Disk) (q : LogFiles R) (path : List ℕ) (N : Names)
@@ -97,8 +97,8 @@ abbrev pub TakeUpMakes : Handle → Option ℕ → List ℕ → ErrorKind → Di
 TakeUpMakes handle (Some end) header error old new = FailsToTakeUp handle [] false error old new
 TakeUpMakes handle None header error old new = BeginMakes handle header error old new
 
--- How a writer is opened after the truncation. If the file has a header, the writer continues at its end, without a
--- call that changes it. Otherwise the file gets its header.
+-- How a writer is opened after the truncation. If the file has a header, the writer continues at the file's end, and no
+-- call changes the file. Otherwise the file gets its header.
 abbrev pub TakesUpBy : Handle → Option ℕ → List ℕ → LogFileWriter → Disk → Disk → Type 0
 TakesUpBy handle (Some end) header writer old new = TakesUp handle [] false writer old new
 TakesUpBy handle None header writer old new = BeginsBy handle header writer old new
@@ -120,7 +120,7 @@ pub data ReopenMakes (handle : Handle) (end : Option ℕ) (header : List ℕ) (e
       → TakeUpMakes handle end header error trimmed new → ReopenMakes handle end header error old new
 
 -- If the queue was as a stop left it, it can be appended to. All records that were read are durable, and the writer has
--- its last file open. Zeros may be allocated after the records.
+-- the queue's last file open. Zeros may be allocated after the records.
 abbrev pub Reopens : {R : Type 0} → Format R → (List ℕ → Type 0) → Handle → Option ℕ → List ℕ
     → LogFileWriter → Disk → Disk → Type 0
 Reopens {R} F own handle end header writer old new = (base : Disk) (q : LogFiles R) (path : List ℕ)

@@ -141,7 +141,7 @@ abbrev pub IsOfLog : State → BlockCache → Type 0
 IsOfLog s cache = (block : FileBlockHandle) → cache.place ≡ Some block
     → BlockIsStored s block × (cache.bytes.items ≡ written_block s block)
 
--- After a block of the log was read through the cache, the cache has the bytes that were written to the log there. This
+-- After a block of the log was read through the cache, the cache has the bytes that were written at its location. This
 -- holds for each log `s` over which the pipes run. Premise: a block that was cached before is of this log (`IsOfLog`).
 abbrev pub KeptBlocksAreWritten : Type 0
 KeptBlocksAreWritten = (log : LogSense) (v : LogPipes) (s : State) → RunsOn log v s

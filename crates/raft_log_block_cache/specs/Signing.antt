@@ -1,5 +1,5 @@
--- The contents of a batch's record. They are the same for each file. Only the checksum in the footer depends on the
--- file: in version 2, on the low 32 bits of its number.
+-- The record of a batch, signed for the file to which it is written. Its contents are the same in each file. Only the
+-- checksum in its footer depends on the file: in version 2, on the low 32 bits of the file's number.
 use Rattle.std.specs.Prelude.{◌≡◌, ℕ, List, [], map}
 use Rattle.raft_log_model_laws.specs.Item.{Record}
 use Rattle.raft_log_record_base.specs.Files.{signature_of}

@@ -111,8 +111,8 @@ abbrev pub StoredEntriesStay : Type 0 → Type 0
 StoredEntriesStay R = (s t : LogOnDisk R) → KeepsLog s t → (v : ℕ → Shown) → AreStored s v
     → AreStored t v × ((m : Map (List ℕ) (List ℕ)) → AreMeant (entries_at s) v m → AreMeant (entries_at t) v m)
 
--- If a block was written to the queue of a running pipe, a read of its location that succeeds returns the bytes that
--- were written.
+-- Let a block's location be inside what was written to the queue of a running pipe. If a read of this location
+-- succeeds, it returns the bytes that were written there.
 abbrev pub StoredBlockIsRead : {R : Type 0} → QueueLayout R → Type 0
 StoredBlockIsRead {R} layout = IsQueueLayout layout → (files : PipeFiles) (q : Spanned R) (d : Disk)
     → RunsQueue layout files q d → (block : FileBlockHandle)

@@ -32,8 +32,8 @@ RunIsStored s x = Unit {0}
 abbrev pub RunsAreStored : {R : Type 0} → LogOnDisk R → List (Tagged Place (List ℕ)) → Type 0
 RunsAreStored s xs = (g : ℕ) → Each (RunIsStored s) (of_group g xs)
 
--- After the tables `v` apply a batch with the items `xs`, all their entries are in the log. Premises: their entries
--- were in the log before, the batch's entries are in Append, and the batch may follow what the tables show.
+-- After the tables `v` apply a batch with the items `xs`, all entries that they show are in the log. Premises: those
+-- that they showed before were in the log, the batch's are in Append, and the batch may follow what the tables show.
 abbrev pub TakenEntriesAreStored : Type 0 → Type 0
 TakenEntriesAreStored R = (s : LogOnDisk R) (n : ℕ) (v : ℕ → Shown) (xs : List (Tagged Place (List ℕ)))
     → ((g : ℕ) → IsOrderly (v g)) → MayFollowAll v xs → AreStored s v → RunsAreStored s xs
@@ -49,8 +49,8 @@ pub record IsLaidOver (items : List LogItem) (entries : List ℕ) : Type 0 where
 abbrev pub placed_items : FileBlockHandle → List LogItem → List ℕ → List (Tagged Place (List ℕ))
 placed_items block items entries = tagged_items place_of (written (block_place block entries) items)
 
--- If the last record of Append is this batch's, at `block`, each of its entries is in the log at its location. It has
--- the bytes there that were added to the batch. Premise: the batch's entry block is whole.
+-- Suppose that the last record of Append is this batch's, at `block`, and that the batch's entry block is whole. Then
+-- each entry of the batch is in the log at its location, with the bytes that were added to the batch.
 abbrev pub WrittenEntriesAreStored : Type 0 → Type 0
 WrittenEntriesAreStored R = (s : LogOnDisk R) (said : R) (block : FileBlockHandle) (items : List LogItem)
     (entries : List ℕ)
@@ -59,9 +59,8 @@ WrittenEntriesAreStored R = (s : LogOnDisk R) (said : R) (block : FileBlockHandl
     → RunsAreStored s (placed_items block items entries)
     × (all_written (entries_at s) (placed_items block items entries) ≡ tagged_items (entry_bytes entries) items)
 
--- If a batch may follow what the tables show, it may be written to any file `n` of Append: for each `n`, some view `u`
--- is the tables' view after the batch with the record `y` was appended to file `n`. The tables' entries must be in the
--- log.
+-- Suppose that a batch with the record `y` may follow what the tables show, and that the tables' entries are in the
+-- log. Then `y` may be appended to any file `n` of Append: the tables' view becomes some view `u` by that (`GrowsTo`).
 abbrev pub AnyFileMayTakeIt : Type 0 → Type 0
 AnyFileMayTakeIt R = (s : LogOnDisk R) (v : ℕ → Shown) (m : Map (List ℕ) (List ℕ)) (items : List LogItem)
     (entries : List ℕ) (y : Record (List ℕ) (List ℕ)) → AreMeant (entries_at s) v m → AreStored s v

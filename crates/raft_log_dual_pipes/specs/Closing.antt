@@ -56,8 +56,8 @@ CloseIsAStep {R} log = AreTwoQueues log → (which : Which) (o : OpenPipes) (fil
     (s : LogOnDisk R) → IsOpenOrClosed log (with_open which o (Some files)) s → ClosesBeside log which o files s
 
 -- The pipe of a queue is closed, and the files that it kept for recycling (`kept`) got reserved names or failed to.
--- Premise: those with a number are below the live range. Then the queue's last file still holds its records, and the
--- log's numbered files are the same.
+-- Premise: those without a reserved name have numbers below the live range. Then the queue's last file still holds its
+-- records, and the log's numbered files are the same.
 abbrev pub NamesAreReserved : {R E V : Type 0} → TwoQueues R E V → Type 0
 NamesAreReserved {R} log = AreTwoQueues log → (which : Which) (o : OpenPipes) (kept : List Listed)
     (s : LogOnDisk R) (new : Disk) → IsOpenOrClosed log (with_open which o None) s

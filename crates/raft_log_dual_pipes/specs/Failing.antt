@@ -20,8 +20,8 @@ use Rattle.raft_log_dual_pipes.specs.OpenOrClosed.{OpenPipes, both_open, with_op
 use Rattle.raft_log_dual_pipes.specs.OnDisk.{LogLiesOn}
 use Rattle.raft_log_dual_pipes.specs.Writing.{IsAtOn}
 
--- Some log is on the disk `d`. Its contents are the map `m` after a prefix of the batches `pending`, and the others are
--- still pending.
+-- Some log is on the disk `d`. Its contents are the map `m` after a prefix of the batches `pending`, and the other
+-- batches are still pending.
 pub record LogEndsLying {R E V : Type 0} (log : TwoQueues R E V) (o : OpenPipes) (d : Disk) (m : Map E V)
     (pending : List (Record E V)) : Type 0 where
   pub done : List (Record E V)
@@ -36,7 +36,7 @@ failed_pipe which p = with_open which (both_open p) None
 -- The log that is on the disk after a pipe fails.
 -- - `sync`: a sync failed. The log has the same contents and the same pending batches.
 -- - `rotation`: a rotation failed. The log is the same, but a prefix of the pending batches may be synced now.
--- - `batch`: a write failed. The log is as after `rotation`, with the new batch (`y`) as its last one or without it.
+-- - `batch`: a write failed. The log is as after a failed rotation, with the new batch (`y`) as the last or without it.
 pub record FailedPipeLeavesALog {R E V : Type 0} (log : TwoQueues R E V) (p : Pipes) (old : Disk)
     (v : View E V) (m : Map E V) (pending : List (Record E V)) : Type 0 where
   pub sync : (which : Which) (new : Disk)

@@ -29,8 +29,8 @@ TurnsBehind which (errors.TryAgain text) v w =
     (n : ℕ) × IsNextIfFull which v n × (last_of which w ≡ suc n)
 TurnsBehind which _ v w = Unit {0}
 
--- the files below `seq` have left the live range of the queue, and as many of them are kept for recycling as the
--- capacity allows
+-- the files below `seq` have left the live range of the queue; of those with signed records, as many are kept for
+-- recycling as the capacity allows
 abbrev pub RaisesPipe : Which → ℕ → LogPipes → LogPipes → Type 0
 RaisesPipe which seq v w = IsRaised (one_at which v).settings.capacity seq (pipe_at which (files_of v))
     (pipe_at which (files_of w))

@@ -27,7 +27,7 @@ IsPipeIn queue directories = IsPipe (log_format queue directories) (IsOwnPath qu
 
 -- The bytes of the active file as they are now.
 
--- after all that the pipe wrote to its active file, no record of this file begins
+-- in the pipe's active file, no record begins right after what the pipe wrote
 abbrev pub EndsThere : Format LogRecord → PipeFiles → Disk → Type 0
 EndsThere F files d = (file : File) → d.files files.writer.handle.file ≡ Some file
     → Refuses (F.IsFrame files.active.seq (header_bytes files.active.format)) (drop files.writer.written file.content)
@@ -93,9 +93,9 @@ pub record CallsLeaveRoom : Type 0 where
 
 -- Recycled files.
 
--- When a rotation into a recycled file leaves no CRC collision (`UsedFilesMeetIt`). It uses the oldest file kept for
--- recycling. This file has a number of the queue, not a reserved name. It begins with the header that new files get, of
--- version 2. Its number and the queue's next one differ in their low 32 bits.
+-- When a rotation into a recycled file leaves no CRC collision (`UsedFilesMeetIt`). The oldest file kept for recycling
+-- becomes the next file. It has a number of the queue, not a reserved name. It begins with the header of new files,
+-- which is of version 2. Its number and the queue's next number differ in their low 32 bits.
 pub record NextIsUsed (F : Format LogRecord) (format : LogFileFormat) (files : PipeFiles) (d : Disk) : Type 0 where
   pub oldest : Listed
   pub others : List Listed

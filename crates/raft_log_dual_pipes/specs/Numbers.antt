@@ -11,7 +11,7 @@ use Rattle.raft_log_dual_pipes.specs.Queues.{layout_at, SaysRecord}
 use Rattle.raft_log_dual_pipes.specs.State.{pipe_at}
 use Rattle.raft_log_dual_pipes.specs.Pipes.{LogPipes, LogSense, RunsOn, LogRecordValue, State, files_of, one_at, queue_of, queues}
 
--- the number after that of a queue's active file has more than sixteen digits, so no file's name has it
+-- the next number after a queue's active file has more than sixteen digits, so no file can have it
 abbrev pub HasLastNumber : Which → LogPipes → Type 0
 HasLastNumber which v = 10 ^ 16 ≤ suc (pipe_at which (files_of v)).active.seq
 

@@ -25,7 +25,7 @@ pub record IsUnbegun {R : Type 0} (layout : QueueLayout R) (q : Spanned R) (d : 
   pub is : (older : ℕ → Past R) × (header : List ℕ) × (room : ℕ) × (q ≡ begun_queue older header room)
 
 -- The queue's files are on the disk, as a pipe or a stop left them, and each number of its live range has a file. Or no
--- file of it was created yet.
+-- file of the queue was created yet.
 abbrev pub LiesQueue : {R : Type 0} → QueueLayout R → Spanned R → Disk → Type 0
 LiesQueue layout q d = (HoldsQueue layout q.files d × HasSpan layout.format q d) ⊎ IsUnbegun layout q d
 

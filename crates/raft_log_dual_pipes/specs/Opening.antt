@@ -28,7 +28,7 @@ abbrev pub OpensFound : FoundPipe → PipeFiles → Disk → Disk → Type 0
 OpensFound p files old new = OpensPipe (layout_found p).format (layout_found p).own (layout_found p).paths
     p.settings.new_files p.found files old new
 
--- the pipe of a queue wasn't opened over what was found of the queue, for this error
+-- the pipe of a queue wasn't opened over what was found of the queue, and this is the error
 abbrev pub FailsToOpenFound : FoundPipe → Error → Disk → Disk → Type 0
 FailsToOpenFound p error old new = OpenLeaves (layout_found p).format (layout_found p).own (layout_found p).paths
     p.settings.new_files p.found error old new
@@ -77,7 +77,7 @@ pub record OpensLog (append rewrite : FoundPipe) (old : Disk) (v : LogPipes) : T
   pub log : (log : LogSense) (m : Map (List ℕ) (List ℕ)) → (h : RestsAsFound log m append rewrite old)
       → RunsAsFound log m h.rests.state v
 
--- Opening a log failed: one of its pipes wasn't opened, for this error. If a log at rest was found, it is still on the
+-- Opening a log failed with this error: one of its pipes wasn't opened. If a log at rest was found, it is still on the
 -- disk, with the same contents.
 pub record FailsToOpenLog (append rewrite : FoundPipe) (error : Error) (old new : Disk) : Type 0 where
   pub call : FailsToOpenFound append error old new ⊎ ((files : PipeFiles) × (mid : Disk)

@@ -1,4 +1,4 @@
--- The log's own two queues.
+-- How the files of the log's own two queues are written, and where they are.
 use Rattle.std.specs.Prelude.{ℕ, ◌<◌, List, length}
 use Rattle.raft_log_model_laws.specs.Item.{Record}
 use Rattle.raft_log_record_base.specs.declared.pipe_log.LogQueue.{LogQueue}

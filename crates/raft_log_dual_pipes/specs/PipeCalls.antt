@@ -87,12 +87,13 @@ PipeFailsToPurge which seq error = LeavesPipe which (λ layout rules before afte
 
 -- The same on any disk. These don't require that the pipes run over a log.
 
--- the call appended a record to this queue's pipe, at this location, by these file system calls
+-- the call appended a record to this queue's pipe, at this location, by the file system calls that `AppendsBy` lists
 abbrev pub PipeAppendsBy : Which → (LogFileContext → List ℕ) → FileBlockHandle → LogPipes → LogPipes → Type 0
 PipeAppendsBy which signed block = DoesToPipe which (λ layout rules before after.
     AppendsBy layout.paths rules.new_files rules.queue signed before after block)
 
--- the call failed to append a record to this queue's pipe, with this error, after these file system calls
+-- the call failed to append a record to this queue's pipe, with this error, after the file system calls that
+-- `FailsToAppendBy` lists
 abbrev pub PipeFailsToAppendBy : Which → (LogFileContext → List ℕ) → Error → LogPipes → LogPipes → Type 0
 PipeFailsToAppendBy which signed error = LeavesPipe which (λ layout rules before after.
     FailsToAppendBy layout.paths rules.new_files rules.queue signed before after error)
@@ -105,7 +106,7 @@ PipeSyncsBy which = DoesToPipe which (λ layout rules before after. Syncs before
 abbrev pub PipeFailsToSyncBy : Which → LogPipes → LogPipes → Type 0
 PipeFailsToSyncBy which = LeavesPipe which (λ layout rules before after. FailsToSyncBy before.writer.handle)
 
--- this queue's pipe rotated, by these file system calls
+-- this queue's pipe rotated, by the file system calls that `TurnsPipeBy` lists
 abbrev pub PipeRotatesBy : Which → LogPipes → LogPipes → Type 0
 PipeRotatesBy which = DoesToPipe which (λ layout rules before after.
     TurnsPipeBy layout.paths rules.new_files.format before after)

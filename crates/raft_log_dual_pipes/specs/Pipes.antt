@@ -77,7 +77,7 @@ pub record ArmsPipes (fault : Fault) (v w : LogPipes) : Type 0 where
   pub disk : Arms fault v.disk w.disk
   pub others : w ≡ record v { disk = w.disk }
 
--- A record in the model. An entry is its bytes, and so is the value of a key.
+-- A record in the model. Entries and values of keys are lists of bytes.
 abbrev pub LogRecordValue : Type 0
 LogRecordValue = Record (List ℕ) (List ℕ)
 

@@ -9,7 +9,7 @@ use Rattle.raft_log_file_writer.specs.LogQueue.{LogFiles}
 use Rattle.raft_log_active_file.specs.Bridge.{IsFileQueue}
 use Rattle.raft_log_machine_laws.specs.Moves.{Moved}
 
--- from the numbered files of the queue `q` on the disk `old`, some quiet events make those of `p` on the disk `new`
+-- some quiet events change the numbered files of the queue `q` on the disk `old` into those of `p` on the disk `new`
 abbrev pub QuietTo : {R E V : Type 0} → (R → Record E V) → Format R → ℕ → LogFiles R → Disk → LogFiles R
     → Disk → Type 0
 QuietTo {R} {E} {V} says F first q old p new =

@@ -1,5 +1,5 @@
--- After a stop an open finds the files of a log, and opens its pipes. The definitions say which numbered files (how the
--- model sees files) the log then has.
+-- Which numbered files a log has after a stop, and after an open found its files and opened its pipes. A numbered file
+-- is a file as the model sees it: its number and its records.
 use Rattle.std.specs.Prelude.{◌≡◌, ℕ, ◌≤◌, ◌⊎◌, false, Some, None, List, [], ◌∷◌, ◌++◌, length, suc, take}
 use Rattle.raft_log_model_laws.specs.Item.{Record}
 use Rattle.raft_log_model_laws.specs.Groups.{Map, directory_meaning, taken}
@@ -44,8 +44,8 @@ ReadsBothAgain {S} {E} {V} ties s t = (f : Files E V) → ties s f
     → (r : ReadAgain f.rewrite) × (a : ReadAgain f.append)
     × ties t (record f { rewrite = read_files f.rewrite r; append = read_files f.append a })
 
--- The queue's files are on the disk as a stop left them, and each number of its live range has a file. Or no file of it
--- was created yet.
+-- The queue's files are on the disk as a stop left them, and each number of its live range has a file. Or no file of
+-- the queue was created yet.
 abbrev pub RestsQueue : {R : Type 0} → QueueLayout R → Spanned R → Disk → Type 0
 RestsQueue layout q d = (IsStopped layout q.files d × HasSpan layout.format q d) ⊎ IsUnbegun layout q d
 
@@ -73,8 +73,8 @@ CrashIsAStep {R} log = AreTwoQueues log → (o : OpenPipes) (s : LogOnDisk R) (i
     → IsLeftByCrash log (stopped_log s append rewrite image) later)
 
 -- The files of a queue, as they were found. The last one has this `number`, was read up to `found.end`, and its handle
--- permits writes. The earlier ones are at their paths, and the number below the first file has no file. The files kept
--- for recycling can be recycled.
+-- permits writes. The earlier ones are at their paths. No file has the number just below the first file's. The files
+-- kept for recycling can be recycled.
 pub record AreFound {R : Type 0} (layout : QueueLayout R) (found : FoundFiles) (earlier : List Listed)
     (last : Listed) (number : ℕ) (d : Disk) : Type 0 where
   pub number_is : last.seq ≡ number

@@ -45,7 +45,7 @@ abbrev pub pipe_at : Which → Pipes → PipeFiles
 pipe_at InAppend p = p.append
 pipe_at InRewrite p = p.rewrite
 
--- the pipes, of which the one of this queue now has `files` open
+-- the same pipes, except that the one of this queue has `files` open
 abbrev pub with_pipe : Which → Pipes → PipeFiles → Pipes
 with_pipe InAppend p files = record { append = files; rewrite = p.rewrite }
 with_pipe InRewrite p files = record { append = p.append; rewrite = files }

@@ -40,8 +40,8 @@ RotationIsAStep {R} log = AreTwoQueues log → (which : Which) (p : Pipes) (s : 
     × Run log (with_pipe which p after) (next_log which s files new)
     × Settles (Ties log) which s (next_log which s files new)
 
--- From `s` to `t`, the pipe has failed. Quiet events may have changed the queue's numbered files: syncs, rotations,
--- losses of files below the live range. `allows` holds for `t` and the changed files.
+-- The pipe failed between the states `s` and `t`. Quiet events may have changed the queue's numbered files: syncs,
+-- rotations, losses of files below the live range. `allows` holds for `t` and the changed files.
 abbrev pub FailsMoved : {S E V : Type 0} → (S → Files E V → Type 0) → (S → Files E V → Type 0) → Which → S → S
     → Type 0
 FailsMoved {S} {E} {V} ties allows which s t =
@@ -71,7 +71,7 @@ RefusedRotationIsAStep {R} log = AreTwoQueues log → (which : Which) (p : Pipes
     (pipe_at which p) after error s.disk new
     → NotRotated log which p s header after error new
 
--- the log on the disk `d` after the live range of one queue begins at `first`
+-- the log on the disk `d`, in which the live range of one queue begins at `first` now
 abbrev pub raised_log : {R : Type 0} → Which → LogOnDisk R → ℕ → Disk → LogOnDisk R
 raised_log which s first d =
     with_spanned which s (record { first = first; files = (spanned_at which s).files }) d

@@ -11,7 +11,7 @@ use Rattle.raft_log_dual_pipes.specs.State.{pipe_at}
 -- An event that listeners hear:
 -- - `FileBegun`: a file was begun, or found at an open.
 -- - `RecordWritten`: a record was written at this location.
--- - `RecordApplied`: the last record of this file was applied to the tables.
+-- - `RecordApplied`: a record of this file was applied to the tables.
 -- - `FilesPurged`: the files of a queue up to this one were purged.
 pub data Told : Type 0 where
   FileBegun : FileId → Told
@@ -45,8 +45,8 @@ files_found queue v = let first = (pipe_at (which_of queue) (files_of v)).first_
     Told.FileBegun (record { queue = queue; seq = first })
     ∷ begun queue first (last_of (which_of queue) v - first)
 
--- The event for a purge up to `file`, which is excluded, with this result: the file before it was the last one to leave
--- the live range. There is no event if no file left or the purge failed.
+-- The event for a purge of the files below `file`, given the purge's result. The file before `file` was the last one
+-- that left the live range. There is no event if no file left it or the purge failed.
 abbrev pub files_purged : FileId → Result ℕ Error → List Told
 files_purged file (Ok (suc count)) =
     Told.FilesPurged (record { queue = file.queue; seq = file.seq - 1 }) ∷ []

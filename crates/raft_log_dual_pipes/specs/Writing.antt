@@ -24,8 +24,8 @@ pub record IsAtOn {R E V : Type 0} (log : TwoQueues R E V) (p : Pipes) (d : Disk
   pub run : Run log p state
   pub at : IsAt (Ties log state) v m pending
 
--- As `IsAtOn`, except that a prefix of the batches `pending` may be synced: the log's contents are `m` after these, and
--- the others are pending.
+-- As `IsAtOn`, except that a prefix of the batches `pending` may be synced. The log's contents are `m` after this
+-- prefix, and the other batches are pending.
 pub record EndsOn {R E V : Type 0} (log : TwoQueues R E V) (p : Pipes) (d : Disk) (v : View E V) (m : Map E V)
     (pending : List (Record E V)) : Type 0 where
   pub done : List (Record E V)

@@ -237,7 +237,7 @@ pub trait PipeLog {
         ensures fails { TellsFailure result (shown self.new) }
         ensures later { IsLater (shown self.old).disk (shown self.new).disk };
 
-    /// Reports to the listener that the last record of this file was applied to the tables. Changes nothing else.
+    /// Reports to the listener that a record of this file was applied to the tables. Changes nothing else.
     fn post_apply_memtables(&mut self, file_id: FileId)
         ensures shown { shown self.new ≡ shown self.old }
         ensures files { files self.new ≡ files self.old }

@@ -44,8 +44,8 @@ FailsToWriteCompact g index error s t =
     ((error ≡ errors.Memory) × (has_failed s ≡ false) × (t ≡ s))
     ⊎ ((b : Batch) × SaysCompact g index b × NotWritten b error s t × LeavesRecord b error s.pipes t.pipes)
 
--- Why deleting entries of group `g` fails: the engine had failed before; or the group has entries, and the write
--- failed.
+-- Why deleting entries of group `g` fails: the engine had failed before; or the group has entries, and writing the
+-- batch failed.
 abbrev pub FailsToCompact : ℕ → ℕ → Error → EngineState → EngineState → Type 0
 FailsToCompact g index error s t = HadFailed s t error
     ⊎ ((entries_below (s.tables g) index ≡ None → ⊥) × FailsToWriteCompact g index error s t)

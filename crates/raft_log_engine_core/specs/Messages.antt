@@ -21,8 +21,8 @@ pub record CalledAtKey {F M : Type 0} (g : Mut F (Bor (List ℕ) × (M × Unit {
   pub shows : shown.now ≡ key
   pub called : Called g f (shown, (message, tt)) more next
 
--- The callback is called with each pair whose value parses as a message, in order, until it returns false. Pairs with
--- other values are skipped.
+-- `reading` parses a value as a message. For each pair whose value parses, in order, the callback is called with the
+-- key and the message, until it returns false. Pairs with other values are skipped.
 abbrev pub VisitsMessages : {F M : Type 0} → (List ℕ → Option M) → (F → List ℕ → M → Bool → F → Type 0) → F
     → List (List ℕ × List ℕ) → Type 0
 VisitsMessages reading called f [] = Unit {0}
@@ -31,8 +31,9 @@ VisitsMessages {F} {M} reading called f (e ∷ es) =
     ⊎ ((message : M) × (reading e.1 ≡ Some message) × (more : Bool) × (next : F)
     × called f e.0 message more next × (more ≡ true → VisitsMessages reading called next es))
 
--- The callback is called with each key of group `g` in the requested range whose value parses as a message. The calls
--- are in ascending order of the keys, or in descending order if `backwards`. They end when the callback returns false.
+-- A scan covers the keys of group `g` in the requested range. The callback is called with each key whose value parses
+-- as a message, and with this message. The calls are in ascending order of the keys, or in descending order if
+-- `backwards`. They end when the callback returns false.
 abbrev pub ScansMessages : {F M : Type 0} → (List ℕ → Option M) → (F → List ℕ → M → Bool → F → Type 0) → F
     → EngineState → ℕ → Option (List ℕ) → Option (List ℕ) → Bool → Type 0
 ScansMessages reading called callback s g start end backwards = (es : List (List ℕ × List ℕ))

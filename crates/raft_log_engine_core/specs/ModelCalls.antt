@@ -29,8 +29,8 @@ IsEngineLog home e (resting m) = ⊥
 IsEngineLog home e (left m pending) = ⊥
 
 -- A call ended with `result`; `s` and `t` are the engine's states before and after it:
--- - If the engine ran, with the contents `m` and the batches `pending`, it now has a log `next` of the model open, and
---   `does` says which.
+-- - If the engine ran, with the contents `m` and the batches `pending`, it now has the model's log `next` open, for
+--   which `does` holds.
 -- - If it had failed, the call failed with `Failed`, and changed nothing.
 pub record FollowsModel {A : Type 0} (does : Result A Error → Contents → List BatchRecord → ModelLog → Type 0)
     (result : Result A Error) (s t : EngineState) : Type 0 where
@@ -38,8 +38,9 @@ pub record FollowsModel {A : Type 0} (does : Result A Error → Contents → Lis
       → (next : ModelLog) × does result m pending next × IsEngineLog home t next
   pub fails : has_failed s ≡ true → (result ≡ Err errors.Failed) × (t ≡ s)
 
--- A write adds its batch; if a sync was asked for, all batches are durable. If it fails with `Failed`, the engine has
--- failed, and the batch may be written or not. With any other error it leaves no trace, and no other batch is lost.
+-- A write adds its batch, or nothing if the batch is empty. If a sync was requested, all batches are durable. If the
+-- write fails with `Failed`, the engine has failed, and the batch may be written or not. With any other error it leaves
+-- no trace, and no other batch is lost.
 abbrev pub ModelWrites : Batch → Bool → Result ℕ Error → Contents → List BatchRecord → ModelLog → Type 0
 ModelWrites b sync (Ok len) m pending next = Adds sync m pending (said_of b) next
 ModelWrites b sync (Err errors.Failed) m pending next = FailsAt m pending (said_of b) next
@@ -51,8 +52,8 @@ ModelSyncs (Ok done) m pending next = next ≡ running (taken m pending) []
 ModelSyncs (Err errors.Failed) m pending next = next ≡ failed m pending
 ModelSyncs (Err error) m pending next = ⊥
 
--- A compaction adds its record as a write without a sync adds a batch, and fails as one does. If the group has no entry
--- below the index, the compaction may also add nothing.
+-- A compaction adds its record like a write without a sync, and fails like one. If the group has no entry below the
+-- index, the compaction may also add nothing.
 abbrev pub ModelCompacts : ℕ → ℕ → Result ℕ Error → Contents → List BatchRecord → ModelLog → Type 0
 ModelCompacts group index (Ok count) m pending next = Compacts m pending group index next
 ModelCompacts group index (Err errors.Failed) m pending next = FailsAt m pending (compacts group index) next
@@ -64,8 +65,8 @@ abbrev pub ModelPurges : {A : Type 0} → Result A Error → Contents → List B
 ModelPurges (Err errors.Failed) m pending next = (next ≡ failed m pending) ⊎ (next ≡ failed (taken m pending) [])
 ModelPurges result m pending next = next ≡ running (taken m pending) []
 
--- A read returns what the contents have after all batches; `is` says what that is. The log is unchanged, also if the
--- read fails.
+-- If a read succeeds, `is` holds for the contents after all batches and the value that the read returned. The log is
+-- unchanged, also if the read fails.
 abbrev pub ModelReads :
     {A : Type 0} → (Contents → A → Type 0) → Result A Error → Contents → List BatchRecord → ModelLog → Type 0
 ModelReads is (Ok value) m pending next = is (taken m pending) value × (next ≡ running m pending)
@@ -80,8 +81,8 @@ abbrev pub IsMessageIn : {M : Type 0} → (List ℕ → Option M) → ℕ → Li
 IsMessageIn reading group key m message = (value : Option (List ℕ))
     × (m group (Key key) ≡ option_map Value value) × IsMessageOf reading value message
 
--- A fetch of a group's entries from index `begin` on, below `end`, read them as messages. These were appended to `old`,
--- and `count` is their number.
+-- A fetch read a group's entries from index `begin` on, below `end`, as messages. It appended these to `old`, and
+-- `count` is their number.
 pub record FetchesMessages {M : Type 0} (reading : List ℕ → Option M) (group begin end : ℕ) (max : Option ℕ)
     (old new : List M) (m : Contents) (count : ℕ) : Type 0 where
   pub entries : List (List ℕ)
@@ -95,16 +96,17 @@ pub record FetchesMessages {M : Type 0} (reading : List ℕ → Option M) (group
 abbrev pub ArePairsOf : ℕ → Option (List ℕ) → Option (List ℕ) → Contents → Vec (List ℕ × List ℕ) → Type 0
 ArePairsOf group start end m pairs = Scans m group start end pairs.items
 
--- A scan called back with the keys of a group from `start` on, below `end`, and with their values. The calls were in
--- the order of the keys, or backwards, and ended when the callback returned false.
+-- A scan called the callback with the keys of a group from `start` on, below `end`, and with their values. The calls
+-- were in ascending order of the keys, or in descending order if `backwards`. They ended when the callback returned
+-- false.
 abbrev pub ScansInModel : {F : Type 0} → (F → List ℕ → List ℕ → Bool → F → Type 0) → F → ℕ → Option (List ℕ)
     → Option (List ℕ) → Bool → Contents → Unit {0} → Type 0
 ScansInModel called callback group start end backwards m done = (pairs : List (List ℕ × List ℕ))
     × Scans m group start end pairs × Visits called callback (in_direction backwards pairs)
 
--- A scan called back with the keys of a group from `start` on, below `end`, and with their values as messages. It
--- skipped each key whose value is no message. The calls were in the order of the keys, or backwards, and ended when the
--- callback returned false.
+-- A scan called the callback with the keys of a group from `start` on, below `end`, and with their values as messages.
+-- It skipped each key whose value is no message. The calls were in ascending order of the keys, or in descending order
+-- if `backwards`. They ended when the callback returned false.
 abbrev pub ScansMessagesInModel : {F M : Type 0} → (List ℕ → Option M) → (F → List ℕ → M → Bool → F → Type 0) → F → ℕ
     → Option (List ℕ) → Option (List ℕ) → Bool → Contents → Unit {0} → Type 0
 ScansMessagesInModel reading called callback group start end backwards m done = (pairs : List (List ℕ × List ℕ))
@@ -121,8 +123,8 @@ ModelCloses (Ok done) m pending next = next ≡ left (taken m pending) []
 ModelCloses (Err error) m pending next = next ≡ left m pending
 
 -- A close of an engine ended with `result`, and left the disk `d`:
--- - If the engine ran, with the contents `m` and these pending batches, its files are now the log that `ModelCloses`
---   says.
+-- - If the engine ran, with the contents `m` and these pending batches, its files are now a closed log of the model, as
+--   `ModelCloses` says.
 -- - If it had failed, the close failed with `Failed`, and changed nothing.
 pub record ClosesModel (result : Result (Unit {0}) Error) (s : EngineState) (d : Disk) : Type 0 where
   pub runs : (home : LogDirectories) (m : Contents) (pending : List BatchRecord) → Represents home s m pending

@@ -23,8 +23,8 @@ use Rattle.raft_log_purge.specs.raft_log_engine_laws.specs.Fetching.{HadFailed}
 use Rattle.raft_log_purge.specs.raft_log_engine_laws.specs.EngineState.{EngineState}
 use Rattle.raft_log_engine_core.specs.Reads.{Lives}
 
--- `thresholds` are those of the settings `config`, completed (`sanitized`); `rounds` counts no purge that asked for a
--- group
+-- `thresholds` are those of the settings `config`, completed (`sanitized`). `rounds` counts, for each group, the purges
+-- in a row that asked the caller to compact it; each count is 0.
 pub record IsPurgedBy (config : Config) (thresholds : Thresholds) (rounds : Rounds) : Type 0 where
   pub sizes : thresholds ≡ thresholds_of (sanitized (settings_of config))
   pub unasked : (g : ℕ) → count_of rounds g ≡ 0
@@ -51,17 +51,16 @@ pub record CountsBrought (config : Config) (d : Disk) (counts : PurgeCounts) : T
   pub brings : BringsInRewrite config d written
   pub stats : counts.stats ≡ added Rewrite written no_entries
 
--- The counts after a purge of expired files failed: unchanged, or as `CountsIfPast` says. `m` are the memtables before.
--- By `CountsIfPast`, the counts are updated first if a queue is past its threshold; then they depend on the failed
--- step.
+-- A purge of expired files failed. The counts are unchanged, or as `CountsIfPast` says: they are updated first if a
+-- queue is past its threshold, and then depend on the failed step. `m` are the memtables before.
 abbrev pub StopsCountingIfPast : Thresholds → MemTables → PurgeCounts → PurgeCounts → EngineState → EngineState → Type 0
 StopsCountingIfPast thresholds m old new s t = (new ≡ old) ⊎ CountsIfPast thresholds m old new s t
 
--- The counts after a rewrite of Rewrite failed: unchanged; or updated before the rewrite, and then as the step that
--- failed leaves them. `m` are the memtables before.
+-- A rewrite of Rewrite failed. The counts are unchanged; or they were updated before the rewrite, and the step that
+-- failed decides which are kept. `m` are the memtables before.
 abbrev pub StopsCounting : MemTables → PurgeCounts → PurgeCounts → EngineState → EngineState → Type 0
 StopsCounting m old new s t = (new ≡ old) ⊎ CountsAndKeeps m old new s t
 
--- the counts after a rewrite of Append failed: unchanged, or updated with what is live in Rewrite by the memtables `m`
+-- a rewrite of Append failed: the counts are unchanged, or updated with what is live in Rewrite by the memtables `m`
 abbrev pub MayCountStanding : MemTables → PurgeCounts → PurgeCounts → Type 0
 MayCountStanding m old new = (new ≡ old) ⊎ CountsStanding m old new

@@ -28,7 +28,7 @@ Lives s = has_failed s ≡ false
 abbrev pub IsFailed : EngineState → Error → Type 0
 IsFailed s error = (error ≡ errors.Failed) × (has_failed s ≡ true)
 
--- why a read that copies what it returns fails: `Failed` if the engine has failed; else `Memory`, as memory ran out
+-- why a read fails, if it copies what it returns: `Failed` if the engine has failed; else `Memory`, as memory ran out
 abbrev pub IsUncopied : EngineState → Error → Type 0
 IsUncopied s error = IsFailed s error ⊎ ((error ≡ errors.Memory) × Lives s)
 
@@ -37,7 +37,7 @@ abbrev pub Runs : EngineState → Type 0
 Runs s = s.pipes.disk.stopped ≡ false
 
 -- The engine reports `told` if a step of a read fails with `error`; `stopped` says whether the file system has stopped.
--- The two are equal, with one exception: if memory runs out after a stop, `told` is `Io(Other)`.
+-- `told` equals `error`, with one exception: if memory runs out after a stop, `told` is `Io(Other)`.
 abbrev pub IsToldAs : Bool → Error → Error → Type 0
 IsToldAs stopped error told = ((told ≡ error) × (error ≡ errors.Memory → stopped ≡ false))
     ⊎ ((error ≡ errors.Memory) × (stopped ≡ true) × (told ≡ errors.Io Other))

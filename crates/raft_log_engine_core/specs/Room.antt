@@ -30,7 +30,7 @@ PutFails b error s t = (IsUnfit b s.tables error × (t ≡ s)) ⊎ PipesRefused 
 abbrev pub KeepsLittle : Batch → Batch → Type 0
 KeepsLittle old new = (old.items ≡ []) ⊎ (new.buffer ≤ max_kept_len)
 
--- if the batch could be written before a call (`old`), so it can after it (`new`): its record isn't signed for a file
+-- if the batch could be written before a call (`old`), it still can be written after it (`new`)
 abbrev pub StaysWritable : Batch → Batch → Type 0
 StaysWritable old new = IsWritable old.state → IsWritable new.state
 

@@ -20,8 +20,8 @@ pub record StaysPurged {P : Type 0} (old new : LogEngine P) : Type 0 where
   pub thresholds : new.thresholds ≡ old.thresholds
   pub counts : new.counts ≡ old.counts
 
--- Append's pipe tried to append a record and failed with `TryAgain`, for lack of space. It has rotated to a new file,
--- and hasn't failed.
+-- Append's pipe tried to append a record, and the call returned `TryAgain`, for lack of space. The pipe has rotated to
+-- a new file, and still takes calls.
 abbrev pub FindsNoSpace : (LogFileContext → List ℕ) → LogPipes → LogPipes → Type 0
 FindsNoSpace signed v w = (error : Error) × SaysTryAgain error × (is_failed w ≡ false)
     × PipeFailsToAppend InAppend signed error v w
@@ -66,14 +66,14 @@ abbrev pub SyncsIf : Bool → LogPipes → LogPipes → Type 0
 SyncsIf true v w = SyncsQueue InAppend v w
 SyncsIf false v w = w ≡ v
 
--- What a write of batch `b` that succeeds does to the files. It appends the batch's record once, or nothing for an
--- empty batch. Then it syncs Append, if `sync` is true.
+-- What a successful write of batch `b` does to the files. It appends the batch's record once, or nothing for an empty
+-- batch. Then it syncs Append, if `sync` is true.
 abbrev pub WritesFiles : Batch → Bool → LogPipes → LogPipes → Type 0
 WritesFiles b sync v w = ((b.items ≡ []) × SyncsIf sync v w)
     ⊎ ((mid : LogPipes) × WritesRecord b v mid × SyncsIf sync mid w)
 
--- What a write of batch `b` that fails does to the files. Either the record wasn't appended. Or a sync was requested
--- and failed; before it, the record was appended, or nothing for an empty batch.
+-- What a failed write of batch `b` does to the files. Either the record wasn't appended. Or a sync was requested and
+-- failed; before it, the record was appended, or nothing for an empty batch.
 abbrev pub LeavesFiles : Batch → Bool → Error → LogPipes → LogPipes → Type 0
 LeavesFiles b sync error v w = LeavesRecord b error v w
     ⊎ ((sync ≡ true) × ((mid : LogPipes) × (((b.items ≡ []) × (mid ≡ v)) ⊎ WritesRecord b v mid)

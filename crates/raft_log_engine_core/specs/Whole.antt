@@ -23,7 +23,7 @@ pub record TellsSpan (queue : LogQueue) (v : LogPipes) (first last : ℕ) : Type
   pub last_is : last ≡ (pipe_at (which_of queue) (files_of v)).active.seq
   pub exact : IsSpanOf (which_of queue) v first last
 
--- the size of both queues' files, if each has the target size, but at most 2^64 - 1
+-- the total size of both queues' files, if each file has the target size; at most 2^64 - 1
 abbrev pub used_size : LogPipes → ℕ
 used_size v = min (size_at InAppend v + size_at InRewrite v) (2 ^ 64 - 1)
 

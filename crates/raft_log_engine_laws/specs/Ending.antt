@@ -52,8 +52,8 @@ WholeGroupsMayEnd E = (at : Located → E) (gate : Option ℕ) (ps : List Writte
     → ((g : ℕ) → of_group g items ≡ filed_copies at (filed_items g ps))
     → MayEnd at (whole_end files k w) v items
 
--- Assume that in each queue, a table's file numbers never fall as the index rises. Noting an atomic group's files in
--- the table is noting them with some `least`: below this file, the table has nothing in Rewrite.
+-- Assume that in each queue, a table's file numbers never fall as the index rises. After it noted an atomic group's
+-- files, the table shows what `with_note` says, for some file `least` below which it has nothing in Rewrite.
 abbrev pub WholeGroupsAreNoted : Type 0
 WholeGroupsAreNoted = (t : Raw) (files : GroupFiles) (a r : ℕ) → IsOrderly (shown t) → FilesRise a r (shown t)
     → (least : ℕ) × IsLeastInRewrite (shown t) least × (with_group t files ≡ with_note (shown t) least files)
@@ -81,9 +81,9 @@ WrittenEndsKeepTheMap = (home : LogDirectories) (e t : EngineState) (gate : Opti
     → ShowsWhole gate (parts_of o ++ record { block = block; batch = b } ∷ []) (files_of_group o block)
     e.tables t.tables → KeepsOrForgets e t → Represents home t m []
 
--- An append of the record that ends an atomic group of copies failed, and the tables are unchanged. If the group is
--- given up, the log is as after any failed append to Rewrite. After `NumberRange` or `Memory` the group is also still
--- open, and may continue.
+-- An append of the record that ends an atomic group of copies failed, and the tables are unchanged. If no more of the
+-- group is written, the log is as after any failed append to Rewrite (`RewriteLeaves`). After `NumberRange` or
+-- `Memory`, the group is still open, and may continue (`goes_on`).
 pub record RefusedEndsKeepTheMap : Type 0 where
   pub given_up : (home : LogDirectories) (e t : EngineState) (gate : Option ℕ) (o : UnendedGroup) (b : Batch) (m : LogMap)
       (error : Error) → HoldsInGroup home e m o → IsGroupPart o.number End b

@@ -39,11 +39,11 @@ pub record EngineState : Type 0 where
 abbrev pub shows : LogPipes → MemTables → BlockCache → EngineState
 shows v tables cache = record { tables = shown_of tables; counts = counts tables; pipes = v; cache = cache }
 
--- from `s` to `t`, the cached block stayed the same, or none is cached any more
+-- from `s` to `t`, the cached block stayed the same, or no block is cached any more
 abbrev pub KeepsOrForgets : EngineState → EngineState → Type 0
 KeepsOrForgets s t = (t.cache ≡ s.cache) ⊎ (t.cache.place ≡ None)
 
--- whether the engine has failed: a file system call failed, and what it did could not be undone
+-- whether the engine has failed: a file system call failed, and what that call did could not be undone
 abbrev pub has_failed : EngineState → Bool
 has_failed e = is_failed e.pipes
 

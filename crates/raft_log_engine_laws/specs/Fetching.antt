@@ -39,8 +39,8 @@ abbrev pub AreEntriesOf : {M : Type 0} → (List ℕ → Option M) → LogMap �
 AreEntriesOf reading m g i [] = Unit {0}
 AreEntriesOf reading m g i (x ∷ xs) = IsEntryOf reading m g i x × AreEntriesOf reading m g (i + 1) xs
 
--- A read of index `i` of group `g` returned the message of the entry there, or none if there is no entry. The entry is
--- that of the log's contents after the pending batches. At most the cached block changed.
+-- A read of index `i` of group `g` returned the message of the entry there, or none if there is no entry. It read the
+-- log's contents after the pending batches. At most the cached block changed.
 pub record TellsEntry {M : Type 0} (reading : List ℕ → Option M) (g i : ℕ) (s t : EngineState) (message : Option M)
     : Type 0 where
   pub lived : has_failed s ≡ false
@@ -48,7 +48,7 @@ pub record TellsEntry {M : Type 0} (reading : List ℕ → Option M) (g i : ℕ)
   pub exact : (home : LogDirectories) (m : LogMap) (pending : List LogRecordValue) → Represents home s m pending
       → IsEntryTold reading (taken m pending) g i message
 
--- Why a read of an entry that the log has fails: its file can't be read (`Io`), memory ran out (`Memory`), or its bytes
+-- Why a read fails though the log has the entry: its file can't be read (`Io`), memory ran out (`Memory`), or its bytes
 -- don't parse as a message (`Message`). No error reports damaged bytes.
 pub record IsUntold {M : Type 0} (reading : List ℕ → Option M) (g i : ℕ) (s : EngineState) (m : LogMap) (error : Error)
     : Type 0 where
@@ -79,9 +79,8 @@ abbrev pub AreToRead : EngineState → ℕ → ℕ → ℕ → Option ℕ → Li
 AreToRead s g begin end max es = ((s.counts g ≡ false) × (es ≡ []))
     ⊎ ((s.counts g ≡ true) × AreIn (s.tables g) begin end × (es ≡ fetched (s.tables g) begin end max))
 
--- The entries of `AreToRead` were read, and their messages were appended to `old`, which became `new`. There are
--- `count` of them. They are the entries of the log's contents after the pending batches. At most the cached block
--- changed.
+-- The entries of `AreToRead` were read, and their `count` messages were appended to `old`, which became `new`. The
+-- messages are those of the log's contents after the pending batches. At most the cached block changed.
 pub record FetchesTo {M : Type 0} (reading : List ℕ → Option M) (g begin end : ℕ) (max : Option ℕ) (s t : EngineState)
     (old new : List M) (count : ℕ) : Type 0 where
   pub lived : has_failed s ≡ false
@@ -94,7 +93,7 @@ pub record FetchesTo {M : Type 0} (reading : List ℕ → Option M) (g begin end
   pub exact : (home : LogDirectories) (m : LogMap) (pending : List LogRecordValue) → Represents home s m pending
       → AreEntriesOf reading (taken m pending) g begin messages
 
--- why a fetch of entries that the log has fails: memory ran out, or a read of one of them failed
+-- why a fetch fails though the log has the entries: memory ran out, or a read of one of them failed
 abbrev pub IsOneUntold : {M : Type 0} → (List ℕ → Option M) → ℕ → ℕ → ℕ → EngineState → LogMap → Error → Type 0
 IsOneUntold reading g begin end s m error = (error ≡ errors.Memory)
     ⊎ ((i : ℕ) × (begin ≤ i) × (i < end) × IsUntold reading g i s m error)

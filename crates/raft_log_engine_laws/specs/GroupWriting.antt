@@ -1,5 +1,5 @@
--- A part of an atomic group that begins or continues the group is written to Rewrite. The log keeps its contents,
--- whether the write succeeds or fails.
+-- The first part or a middle part of an atomic group is written to Rewrite. The log keeps its contents, whether the
+-- write succeeds or fails.
 use Rattle.std.specs.Prelude.{ℕ, []}
 use Rattle.raft_log_record_base.specs.declared.errors.Error.{Error}
 use Rattle.raft_log_record_base.specs.declared.errors.Error.TheVariants as errors
@@ -15,8 +15,8 @@ use Rattle.raft_log_engine_laws.specs.Rewriting.{RewriteLeaves}
 use Rattle.raft_log_engine_laws.specs.Settled.{SameTables}
 use Rattle.raft_log_engine_laws.specs.Parts.{HoldsInGroup, IsGroupPart, UnendedGroup, begun_by, gone_on_by}
 
--- A part that begins or continues an atomic group was written to Rewrite. The group is open, with this part as its
--- last one, and the log has the same contents.
+-- The first part (`begins`) or a middle part (`goes_on`) of an atomic group was written to Rewrite. The group is open,
+-- with this part as its last one, and the log has the same contents.
 pub record WrittenPartsKeepTheMap : Type 0 where
   pub begins : (home : LogDirectories) (e t : EngineState) (number : ℕ) (b : Batch) (block : FileBlockHandle) (m : LogMap)
       → Represents home e m [] → IsGroupPart number Begin b
@@ -33,9 +33,9 @@ LeavesRecords errors.NumberRange = Unit {0}
 LeavesRecords errors.Memory = Unit {0}
 LeavesRecords _ = ⊥
 
--- An append of a part that begins or continues an atomic group failed. If the group is given up, the log is as after
--- any failed append to Rewrite. After `NumberRange` or `Memory` a group that was open is also still open, and may
--- continue.
+-- An append of the first part or a middle part of an atomic group failed. If no more of the group is written, the log
+-- is as after any failed append to Rewrite (`RewriteLeaves`). After `NumberRange` or `Memory`, a group that was open is
+-- still open, and may continue (`goes_on`).
 pub record RefusedPartsKeepTheMap : Type 0 where
   pub begins : (home : LogDirectories) (e t : EngineState) (number : ℕ) (b : Batch) (m : LogMap) (error : Error)
       → Represents home e m [] → IsGroupPart number Begin b → SameTables e t
@@ -47,7 +47,7 @@ pub record RefusedPartsKeepTheMap : Type 0 where
       → HoldsInGroup home e m o → IsGroupPart o.number Middle b → SameTables e t → LeavesRecords error
       → FailsToAppendTo InRewrite (signed_for b) error e.pipes t.pipes → HoldsInGroup home t m o
 
--- if an atomic group is open, it is open after a sync of Rewrite, and the log has the same contents
+-- if an atomic group is open, it is still open after a sync of Rewrite, and the log has the same contents
 abbrev pub SyncsLeaveGroupsOpen : Type 0
 SyncsLeaveGroupsOpen = (home : LogDirectories) (e t : EngineState) (o : UnendedGroup) (m : LogMap) → HoldsInGroup home e m o
     → SameTables e t → SyncsQueue InRewrite e.pipes t.pipes → HoldsInGroup home t m o

@@ -22,7 +22,7 @@ use Rattle.raft_log_engine_laws.specs.EngineState.{LogDirectories, LogMap, Engin
 abbrev pub FilesRiseIn : State → (ℕ → Shown) → Type 0
 FilesRiseIn s v = (g : ℕ) → FilesRise s.append.files.last s.rewrite.files.last (v g)
 
--- the files that the tables note for atomic groups end no later than the last file of Rewrite
+-- no file that the tables note for an atomic group is after the last file of Rewrite
 abbrev pub NotesEndIn : State → (ℕ → Shown) → Type 0
 NotesEndIn s v =
     (g : ℕ) (files : GroupFiles) → (v g).noted ≡ Some files → files.to ≤ s.rewrite.files.last
@@ -46,8 +46,8 @@ pub record Represents (home : LogDirectories) (e : EngineState) (m : LogMap) (pe
   pub cached : IsOfLog state e.cache
   pub at : IsAt (Ties (log_in home) state) (view_of e.tables map) m pending
 
--- The pipes run over a log in these directories. Its durable contents are `m`, and `pending` is written after them.
--- Nothing is said of the engine's tables.
+-- The pipes run over a log in these directories. Its durable contents are `m`, and the batches `pending` are written
+-- after them, not yet synced. Nothing is said of the engine's tables.
 pub record RunsAs (home : LogDirectories) (v : LogPipes) (m : LogMap) (pending : List LogRecordValue) : Type 0 where
   pub state : State
   pub view : View (List ℕ) (List ℕ)

@@ -29,7 +29,7 @@ pub record MayBeWritten (e : EngineState) (b : Batch) : Type 0 where
   pub laid : IsLaidOut b
 
 -- Suppose the batch `b` may be written. After the pipes wrote it and the tables applied it under the number of its
--- file, it is the last batch of the log. A prefix of the log's batches may be durable.
+-- file, it is the last batch of the log, and joins the pending ones. A prefix of these may be durable already.
 abbrev pub BatchesAreWritten : Type 0
 BatchesAreWritten = (home : LogDirectories) (e t : EngineState) (b : Batch) (block : FileBlockHandle) (m : LogMap)
     (pending : List LogRecordValue) → Represents home e m pending → MayBeWritten e b
@@ -37,9 +37,9 @@ BatchesAreWritten = (home : LogDirectories) (e t : EngineState) (b : Batch) (blo
     → t.tables ≡ all_shown block.id.seq e.tables (items_at block b) → KeepsOrForgets e t
     → EndsAt home t m (pending ++ said_of b ∷ [])
 
--- Suppose the batch `b` may be written. After the pipes failed to append it, and the tables stayed the same, the log
--- is without the batch, as `Leaves` says. If the engine has failed, its files can be opened, with the batch or
--- without it.
+-- Suppose the batch `b` may be written, but the pipes failed to append it, and the tables stayed the same. Unless the
+-- engine has failed, the log is without the batch. A failed engine's files can be opened, with the batch or without it.
+-- `Leaves` says what else is true after each error.
 abbrev pub RefusalsLeaveNoTrace : Type 0
 RefusalsLeaveNoTrace = (home : LogDirectories) (e t : EngineState) (b : Batch) (m : LogMap) (pending : List LogRecordValue)
     (error : Error) → Represents home e m pending → MayBeWritten e b → t.tables ≡ e.tables → KeepsOrForgets e t
@@ -64,7 +64,8 @@ abbrev pub ClosedEnginesAreLeft : Type 0
 ClosedEnginesAreLeft = (home : LogDirectories) (e : EngineState) (m : LogMap) (pending : List LogRecordValue) (d : Disk)
     → Represents home e m pending → ClosesLog e.pipes d → IsRecoverableAs home d m pending
 
--- After a close that didn't fail, the log's files can be opened, with all batches durable and none pending.
+-- After a close that left all records of both queues synced, the log's files can be opened, with all batches durable
+-- and none pending.
 abbrev pub ClosedEnginesAreDurable : Type 0
 ClosedEnginesAreDurable = (home : LogDirectories) (e : EngineState) (m : LogMap) (pending : List LogRecordValue) (d : Disk)
     → Represents home e m pending → ClosesSettled e.pipes d → IsRecoverableAs home d (taken m pending) []

@@ -1,4 +1,4 @@
--- Atomic groups that get no end: none of their items count.
+-- Atomic groups whose last record is never written: none of their items count.
 use Rattle.std.specs.Prelude.{◌≡◌, ℕ, ◌<◌, ◌≤◌, List, [], ◌∷◌, ◌++◌, None}
 use Rattle.raft_log_model_laws.specs.Item.{Record, Tagged}
 use Rattle.raft_log_model_laws.specs.Item.Mark.{Begin, End, Middle}
@@ -14,9 +14,9 @@ abbrev pub GroupsMayBeGivenUp : Type 0
 GroupsMayBeGivenUp = (home : LogDirectories) (e : EngineState) (m : LogMap) (o : UnendedGroup) → HoldsInGroup home e m o
     → Represents home e m []
 
--- Atomic group `n` is begun between the records `front` and `back`, and not ended. In `back`, each middle or end of a
--- group comes right after its begin or a middle of it; so none continues `n`. Then all other records count as if
--- those of `n` were not there.
+-- Between the records `front` and `back` are those of atomic group `n`, which has a begin and no end. In `back`, each
+-- middle or end of an atomic group comes right after the group's begin or another middle. So no record of `back`
+-- continues `n`. Then all other records count as if those of `n` were not there.
 abbrev pub GroupsLeftOpenCountNot : Type 0 → Type 0 → Type 0
 GroupsLeftOpenCountNot E V = (front back : List (Record E V)) (n : ℕ) (first : List (Tagged E V))
     (more : List (List (Tagged E V))) → UnbrokenFrom None back
@@ -35,7 +35,7 @@ AreNumberedFrom n (Part (Middle k) xs ∷ rs) = (n ≤ k) × AreNumberedFrom n r
 AreNumberedFrom n (Part (End k) xs ∷ rs) = (n ≤ k) × AreNumberedFrom n rs
 
 -- The records `new` come after the records `old`, and their atomic groups have higher numbers than all that `old`
--- leaves open. Then `new` counts as if none had been left open, and the groups that `old` leaves open stay as they are.
+-- leaves open. Then `new` counts as if `old` had left no group open. The groups left open by `old` stay as they are.
 abbrev pub NewGroupsEndNoOldOnes : Type 0 → Type 0 → Type 0
 NewGroupsEndNoOldOnes E V = (old new : List (Record E V)) (n : ℕ) → AreOpenBelow n (opened none_open old)
     → AreNumberedFrom n new

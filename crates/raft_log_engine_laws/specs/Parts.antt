@@ -82,8 +82,8 @@ abbrev pub FilesGoUp : ℕ → ℕ → List WrittenPart → Type 0
 FilesGoUp low high [] = low ≤ high
 FilesGoUp low high (p ∷ ps) = (low ≤ p.block.id.seq) × FilesGoUp p.block.id.seq high ps
 
--- An atomic group `o` of copies is open in Rewrite. The log has the contents `m`, and the tables show them, as if none
--- of its parts had been written.
+-- An atomic group `o` of copies is open in Rewrite. The log has the contents `m`, and the tables show them, as if no
+-- part of `o` had been written.
 -- - The group's records are the last ones of Rewrite, in the file of its first part and later ones.
 -- - The entries of each part are in these files.
 -- - No entry that the tables show in Rewrite is in a later file than the first part.

@@ -17,8 +17,8 @@ use Rattle.raft_log_engine_laws.specs.Settled.{HoldsSettled, SameTables}
 abbrev pub SettledLogsAreHeld : Type 0
 SettledLogsAreHeld = (home : LogDirectories) (e : EngineState) (m : LogMap) → HoldsSettled home e m → Represents home e m []
 
--- A sync of Rewrite leaves the log's contents and pending batches as they were. If no batch is pending in Append,
--- nothing is pending in either queue after it.
+-- A sync of Rewrite leaves the log's contents and pending batches as they were. If no batch was pending in Append
+-- before the sync, nothing is pending in either queue after it.
 pub record RewriteSyncsKeepTheMap : Type 0 where
   pub keeps : (home : LogDirectories) (e t : EngineState) (m : LogMap) (pending : List LogRecordValue) → Represents home e m pending
       → SameTables e t → SyncsQueue InRewrite e.pipes t.pipes → Represents home t m pending
@@ -32,8 +32,9 @@ FailedSyncsLeaveLogs = (which : Which) (home : LogDirectories) (v w : LogPipes) 
     → RunsAs home v m pending → FailsToSyncQueue which v w
     → Fails v.disk w.disk × IsRecoverableAs home w.disk m pending
 
--- A rotation of Append makes all pending batches durable. If nothing was pending in either queue, nothing is after
--- it. If no batch is pending, nothing is pending in either queue after a rotation of Rewrite.
+-- A rotation keeps the log's contents. A rotation of Append makes all pending batches durable. If nothing was pending
+-- in either queue before it, nothing is afterwards. After a rotation of Rewrite nothing is pending in either queue, if
+-- no batch was pending in Append before.
 pub record RotationsKeepTheMap : Type 0 where
   pub append : (home : LogDirectories) (e t : EngineState) (m : LogMap) (pending : List LogRecordValue) → Represents home e m pending
       → SameTables e t → RotatesQueue InAppend e.pipes t.pipes → Represents home t (taken m pending) []
@@ -51,8 +52,8 @@ TurnLeavesHeld home m pending t errors.NumberRange = Represents home t m pending
 TurnLeavesHeld home m pending t errors.Failed = IsRecoverableAs home t.pipes.disk m pending
 TurnLeavesHeld home m pending t _ = ⊥
 
--- After a failed rotation of either queue, the log has the same contents and pending batches. If the engine has
--- failed, its files can be opened with these, and a prefix of the batches may be durable.
+-- After a failed rotation of either queue, the log has the same contents and pending batches. If the engine has failed,
+-- the log's files can be opened with these contents and batches. A prefix of the batches may be durable.
 abbrev pub RefusedRotationsKeepTheMap : Type 0
 RefusedRotationsKeepTheMap = (which : Which) (home : LogDirectories) (e t : EngineState) (m : LogMap) (pending : List LogRecordValue)
     (error : Error) → Represents home e m pending → SameTables e t

@@ -37,7 +37,7 @@ PurgesKeepTheMap = (which : Which) (home : LogDirectories) (e t : EngineState) (
     → MayBegin which n e.tables → t.tables ≡ e.tables → t.cache.place ≡ None → PurgesQueue which n e.pipes t.pipes
     → HoldsSettled home t m
 
--- What is true after the files failed to leave the live range, by the error:
+-- What is true after a failed purge of a queue's files, by the error:
 -- - `Memory`, `Other`, `NumberRange`: the log has the same contents, and nothing is pending
 -- - `Failed`: the log's files can be opened, with the same contents and nothing pending
 abbrev pub PurgeLeavesHeld : LogDirectories → LogMap → EngineState → Error → Type 0
@@ -47,8 +47,8 @@ PurgeLeavesHeld home m t errors.NumberRange = HoldsSettled home t m
 PurgeLeavesHeld home m t errors.Failed = IsRecoverableAs home t.pipes.disk m []
 PurgeLeavesHeld home m t _ = ⊥
 
--- The files of a queue below `n`, at which its live range may begin, failed to leave it. The tables are the same, and
--- no block is cached. If nothing was pending before, the log has the same contents, with nothing pending. If the engine
+-- A purge of a queue's files below `n` failed. The queue's live range may begin at `n`. The tables are the same, and no
+-- block is cached. If nothing was pending before, the log has the same contents, with nothing pending. If the engine
 -- has failed, its files can be opened with these contents.
 abbrev pub RefusedPurgesKeepTheMap : Type 0
 RefusedPurgesKeepTheMap = (which : Which) (home : LogDirectories) (e t : EngineState) (m : LogMap) (n : ℕ) (error : Error)

@@ -30,19 +30,19 @@ IsLastIn m g (Some i) = (m g (Index i) ≡ None → ⊥) × ((j : ℕ) → i < j
 abbrev pub StandsUnder : LogMap → ℕ → List ℕ → Option (List ℕ) → Type 0
 StandsUnder m g k value = m g (Key k) ≡ option_map Value value
 
--- The first index of group `g`, or none, was returned. It is that of the log's contents after the pending batches.
+-- The read returned the first index that group `g` has in the log's contents after the pending batches, or none.
 pub record ReadsFirst (e : EngineState) (g : ℕ) (index : Option ℕ) : Type 0 where
   pub shown : index ≡ first_of (e.tables g)
   pub exact : (home : LogDirectories) (m : LogMap) (pending : List LogRecordValue) → Represents home e m pending
       → IsFirstIn (taken m pending) g index
 
--- The last index of group `g`, or none, was returned. It is that of the log's contents after the pending batches.
+-- The read returned the last index that group `g` has in the log's contents after the pending batches, or none.
 pub record ReadsLast (e : EngineState) (g : ℕ) (index : Option ℕ) : Type 0 where
   pub shown : index ≡ last_of (e.tables g)
   pub exact : (home : LogDirectories) (m : LogMap) (pending : List LogRecordValue) → Represents home e m pending
       → IsLastIn (taken m pending) g index
 
--- The value of a key of group `g`, or none, was returned. It is that of the log's contents after the pending batches.
+-- The read returned the value that the key of group `g` has in the log's contents after the pending batches, or none.
 pub record ReadsValue (e : EngineState) (g : ℕ) (key : List ℕ) (value : Option (List ℕ)) : Type 0 where
   pub shown : value ≡ bytes_held ((e.tables g).held key)
   pub exact : (home : LogDirectories) (m : LogMap) (pending : List LogRecordValue) → Represents home e m pending
@@ -60,8 +60,8 @@ pub record AreKeysOf (m : LogMap) (g : ℕ) (start end : Option (List ℕ)) (es 
   pub inside : (k : List ℕ) → is_within start end k ≡ true → StandsUnder m g k (lookup (bytes_eq k) es)
   pub outside : (k : List ℕ) → is_within start end k ≡ false → lookup (bytes_eq k) es ≡ None
 
--- All keys of group `g` from `start` on and below `end` were returned in `es`, with their values. They are those of
--- the log's contents after the pending batches.
+-- The read returned in `es` the keys of group `g` from `start` on and below `end`, with their values. They are all such
+-- keys of the log's contents after the pending batches.
 pub record ReadsKeys (e : EngineState) (g : ℕ) (start end : Option (List ℕ)) (es : List (List ℕ × List ℕ))
     : Type 0 where
   pub shown : ListsAll (values_within start end (e.tables g)) es

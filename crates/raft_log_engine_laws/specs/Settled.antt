@@ -22,7 +22,7 @@ pub record HoldsSettled (home : LogDirectories) (e : EngineState) (m : LogMap) :
   pub cached : IsOfLog state e.cache
   pub at : IsSettled (Ties (log_in home) state) (view_of e.tables map) m
 
--- from `e` to `t`, the tables are unchanged, and the cached block stayed the same, or none is cached any more
+-- from `e` to `t`, the tables are unchanged; the cached block stayed the same, or no block is cached any more
 pub record SameTables (e t : EngineState) : Type 0 where
   pub tables : t.tables ≡ e.tables
   pub cache : KeepsOrForgets e t

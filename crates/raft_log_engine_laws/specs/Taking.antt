@@ -40,9 +40,9 @@ pub record NotesFiles (group : ℕ) (files : GroupFiles) (old new : MemTables) :
   pub noted : replayed_of new group ≡ noted_in files (raw_of old group)
   pub others : (g : ℕ) → (group == g) ≡ false → replayed_of new g ≡ replayed_of old g
 
--- Let the parts `ps` be whole copies, with items of raft group `group` only, which has a table. File numbers never
--- fall along its entries, nor along the parts. If the tables `old` moved the items of all parts, and then noted the
--- files, they show the whole atomic group.
+-- Let the parts `ps` be whole copies, with items of raft group `group` only, which has a table. File numbers never fall
+-- from one part to the next, nor, within a queue, from one entry of a group to the next. If the tables `old` moved the
+-- items of all parts, and then noted the files, they show the whole atomic group.
 abbrev pub TablesTakeWholeGroups : Type 0 → Type 0
 TablesTakeWholeGroups E = (at : Located → E) (gate : Option ℕ) (a : ℕ) (ps : List WrittenPart)
     (files : GroupFiles) (group : ℕ) (old m new : MemTables) → ((g : ℕ) → IsOrderly (shown_of old g))

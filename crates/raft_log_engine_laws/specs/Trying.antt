@@ -22,8 +22,8 @@ abbrev pub WritesAt : (LogFileContext → List ℕ) → FileBlockHandle → LogP
 WritesAt signed block v w = AppendsTo InAppend signed block v w
     ⊎ ((mid : LogPipes) × TriesInVain signed v mid × AppendsTo InAppend signed block mid w)
 
--- An append to Append failed with `error`. This is `NumberRange` only if the queue had to rotate, and has the last
--- file number that a name can have.
+-- An append to Append failed with `error`. The error is `NumberRange` only if the queue had to rotate, and its active
+-- file has the last number that a file name can have.
 abbrev pub RefusesRecord : (LogFileContext → List ℕ) → Error → LogPipes → LogPipes → Type 0
 RefusesRecord signed error v w =
     FailsToAppendTo InAppend signed error v w × EndsNumbersAt InAppend signed error v w

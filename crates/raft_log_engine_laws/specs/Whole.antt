@@ -1,4 +1,5 @@
--- What moves to Rewrite at the end of an atomic group: the items of all its parts. A run of entries may be split over
+-- What an atomic group of records changes in the tables. Its parts are records of Rewrite. When the last is written,
+-- the table of each raft group notes the items of all parts in their new files. A run of entries may be split over
 -- several parts, each piece in the file of its part's record. The gate is the last file of Append from which a purge
 -- copies; without a gate, it copies only what is in Rewrite already.
 use Rattle.std.specs.Prelude.{◌≡◌, ℕ, ◌+◌, false, List, [], ◌∷◌, ◌++◌, length, map, Option}
@@ -34,7 +35,7 @@ abbrev pub filed_items : ℕ → List WrittenPart → List Filed
 filed_items g [] = []
 filed_items g (p ∷ ps) = filed_in p.block.id.seq (of_group g (items_at p.block p.batch)) ++ filed_items g ps
 
--- what the table of group `g` shows, if it showed `v`, and then applied the group's items of each part in order
+-- what the table of group `g` shows after it applied the group's items of each part, in order; it showed `v` before
 abbrev pub parts_moved : Option ℕ → ℕ → List WrittenPart → Shown → Shown
 parts_moved gate g [] v = v
 parts_moved gate g (p ∷ ps) v =
@@ -50,8 +51,8 @@ abbrev pub filed_moves : List Filed → List Move
 filed_moves [] = []
 filed_moves (x ∷ xs) = moves_of x.file (x.item ∷ []) ++ filed_moves xs
 
--- Each item is a copy that the gate lets move. It is a copy of what the table shows, if it showed `v`, and then
--- applied the items before this one.
+-- Each item is a copy that the gate lets move: a copy of what the table shows after it applied the items before this
+-- one. Before all of them it showed `v`.
 abbrev pub AreFiledCopies : {E : Type 0} → (Located → E) → Option ℕ → Shown → List Filed → Type 0
 AreFiledCopies at gate v [] = Unit {0}
 AreFiledCopies at gate v (x ∷ xs) =
@@ -94,17 +95,18 @@ abbrev pub whole_moves : {E : Type 0} {at : Located → E} {gate : Option ℕ} {
     → IsWholeCopy at gate v xs → List Move
 whole_moves w = filed_moves (in_one w.first w.pieces ++ w.rest)
 
--- Let the items of the parts be a whole copy. Applying them part after part gives the same tables as the moves with
--- the pieces as one run. These moves are allowed. They give each index and key the same content as the parts' items.
+-- Let the items of the parts be a whole copy (`IsWholeCopy`). Applying them part after part gives the same table as the
+-- moves in which the pieces are one run (`whole_moves`). These moves are allowed. They give each index and key the same
+-- content as the parts' items.
 abbrev pub WholeGroupsAreMoved : Type 0 → Type 0
 WholeGroupsAreMoved E = (at : Located → E) (gate : Option ℕ) (v : Shown) (g : ℕ) (ps : List WrittenPart)
     → IsOrderly v → (w : IsWholeCopy at gate v (filed_items g ps))
     → (parts_moved gate g ps v ≡ all_moved v (whole_moves w)) × CanAllMove at v (whole_moves w)
     × IsJoined (filed_copies at (filed_items g ps)) (copies_of at v (whole_moves w))
 
--- The parts are in files from `r` to `n` of Rewrite. In each queue, a group's file numbers don't fall as the index
--- rises: at most `a` in Append, at most `r` in Rewrite. After the items of the parts moved, the same holds, with `n`
--- for `r`.
+-- The parts are a whole copy, in files from `r` to `n` of Rewrite. In each queue, the file numbers of a group's entries
+-- never fall as the index rises. They are at most `a` in Append, and at most `r` in Rewrite. After the items of the
+-- parts moved, the same is true with `n` in place of `r`.
 abbrev pub MovedFilesRise : Type 0 → Type 0
 MovedFilesRise E = (at : Located → E) (gate : Option ℕ) (a r n : ℕ) (v : Shown) (g : ℕ)
     (ps : List WrittenPart) → IsOrderly v → FilesRise a r v → FilesGoUp r n ps

@@ -29,8 +29,8 @@ abbrev pub items_at : FileBlockHandle → Batch → List (Tagged Place (List ℕ
 items_at block b = placed_items block b.items b.entries
 
 -- A batch that isn't empty was written at `block`, and the tables applied it under the number of its file. It is the
--- last batch of the log. A prefix of the pending batches and this one is durable. If a sync was asked for, all of them
--- are.
+-- last batch of the log, and joins the pending ones. A prefix of these may be durable already. If a sync was requested,
+-- all of them are.
 pub record Writes (b : Batch) (sync : Bool) (s t : EngineState) : Type 0 where
   pub block : FileBlockHandle
   pub some : b.items ≡ [] → ⊥
@@ -47,7 +47,7 @@ pub record Writes (b : Batch) (sync : Bool) (s t : EngineState) : Type 0 where
   pub synced : sync ≡ true → (home : LogDirectories) (m : LogMap) (pending : List LogRecordValue) → Represents home s m pending
       → Represents home t (taken m (pending ++ said_of b ∷ [])) []
 
--- The batch is empty, so nothing is written. If a sync was asked for, Append is synced.
+-- The batch is empty, so nothing is written. If a sync was requested, Append is synced.
 abbrev pub WritesNothing : Bool → EngineState → EngineState → Type 0
 WritesNothing true s t = SyncsAppend s t
 WritesNothing false s t = (t ≡ s) × (has_failed s ≡ false)
@@ -85,7 +85,8 @@ Leaves home b m pending s t errors.Failed = Fails s.pipes.disk t.pipes.disk
 Leaves home b m pending s t _ = ⊥
 
 -- An append of the batch failed. Unless the engine has failed now, its tables are unchanged, and no block is cached.
--- `TryAgain` is returned only after two tries, and `NumberRange` only if Append's active file has the last number.
+-- `TryAgain` is returned only after two tries. `NumberRange` is returned only if Append's active file has the last
+-- number that a file name can have.
 pub record PipesRefused (b : Batch) (error : Error) (s t : EngineState) : Type 0 where
   pub lived : has_failed s ≡ false
   pub tells : IsTrue (has_failed t) ↔ (error ≡ errors.Failed)
@@ -99,7 +100,7 @@ pub record PipesRefused (b : Batch) (error : Error) (s t : EngineState) : Type 0
       → Leaves home b m pending s t error
 
 -- A write of the batch failed with `error`. There are three cases:
--- - it rejected the batch, and nothing changed
+-- - the write rejected the batch, and nothing changed
 -- - the engine had failed before, and nothing changed
 -- - an append of the batch failed
 abbrev pub NotWritten : Batch → Error → EngineState → EngineState → Type 0

@@ -17,7 +17,7 @@ use Rattle.raft_log_engine.specs.raft_log_open.specs.Opening.{OpensDirectory}
 
 -- A log was opened over `old`, and a batch that puts `value` at `key` of group `group` was written with a sync. Then
 -- the key was read, and `found` is what the read returned. The log was closed with everything synced, which left `new`.
--- If the opened log has any contents, with nothing pending, `found` is `value`.
+-- If nothing was pending in the opened log, `found` is `value`, whatever the log's contents were.
 pub record SavesInLog {F : Type 0} (disk : F → Disk) (tells : F → List ℕ → ℕ → Type 0) (config : Config)
     (group : ℕ) (key value : List ℕ) (old new : F) (found : Option (List ℕ)) : Type 0 where
   pub pipes : LogPipes

@@ -6,8 +6,8 @@ use Rattle.raft_log_engine.specs.raft_log_record_batches.specs.Places.{AddsBytes
 use Rattle.raft_log_engine.specs.raft_log_engine_laws.specs.EngineState.{EngineState}
 use Rattle.raft_log_engine.specs.raft_log_engine_laws.specs.Writing.{WritesBytes}
 
--- One batch was written in state `s` and synced, which led to state `t`. It has these entries of group 1 at these
--- indexes, and then a put of `value` under `key` in the same group.
+-- One batch was written in state `s` and synced, which led to state `t`. The batch has these entries of group 1 at
+-- these indexes, and then a put of `value` under `key` in the same group.
 pub record StoresTogether (indexes : List ℕ) (entries : List (List ℕ)) (key value : List ℕ) (s t : EngineState)
     : Type 0 where
   pub filled : Batch

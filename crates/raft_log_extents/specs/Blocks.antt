@@ -1,5 +1,5 @@
--- Places: each says where the bytes of an entry are. It has the file, the offset and length of a block, and the offset
--- and length in the block. A piece is a list of places that are adjacent in one block.
+-- Places: each says where the bytes of an entry are. It has the file, the offset and length of a block, and the entry's
+-- offset and length in the block. A piece is a list of places that are adjacent in one block.
 use Rattle.std.specs.Prelude.{◌≡◌, ℕ, zero, suc, ◌+◌, ◌-◌, Bool, true, ◌&&◌, List, [], ◌∷◌, if◌then◌else◌, ◌==◌}
 use Rattle.raft_log_extents.specs.declared.place.Place.{Place}
 
@@ -9,7 +9,7 @@ follows p q =
     (((p.file == q.file) && (p.offset == q.offset)) && (p.len == q.len))
     && (p.entry_offset + p.entry_len == q.entry_offset)
 
--- how many of the places `ps` don't follow the place before them (`follows`); the place before the first is `p`
+-- how many of the places `ps` don't follow the one before (`follows`); before the first comes `p`
 abbrev pub gaps : Place → List Place → ℕ
 gaps p [] = 0
 gaps p (q ∷ ps) = if follows p q then gaps q ps else suc (gaps q ps)

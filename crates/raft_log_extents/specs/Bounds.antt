@@ -9,7 +9,7 @@ abbrev pub bounds_of : Bounds → List ℕ
 bounds_of (Even start size count) = rising start size (count + 1)
 bounds_of (Uneven starts end) = starts.now ++ (end ∷ [])
 
--- if the entries have one length (`Even`), each begins at an offset below 2 ^ 32; else nothing is required
+-- if all entries have the same length (`Even`), each begins at an offset below 2 ^ 32; else nothing is required
 abbrev pub AreShort : Bounds → Type 0
 AreShort (Even start size count) = (j : ℕ) → j < count → start + j * size < 2 ^ 32
 AreShort (Uneven starts end) = Unit {0}

@@ -10,8 +10,8 @@ use Rattle.raft_log_model_laws.specs.Item.Item.{Run}
 use Rattle.raft_log_extents.specs.declared.place.Place.{Place}
 use Rattle.raft_log_extents.specs.Blocks.{between}
 
--- The places of a table's entries. They are stored as that many `runs` and `starts` (`Runs.antt` says what these are).
--- Memory is reserved in advance for `wanted` more places, and for `moves` replacements.
+-- The places of a table's entries. `runs` and `starts` count the runs and starts that store them (`Runs.antt` says what
+-- these are). Memory is reserved in advance for `wanted` more places, and for `moves` replacements.
 pub record PlaceList : Type 0 where
   pub items : List Place
   pub runs : ℕ

@@ -1,7 +1,7 @@
 -- Lists of runs, which encode the places of a group's consecutive entries. The first entries of a run are adjacent in
--- one block. If they have one length, the run is even, and stores only the offset of its first entry. Otherwise the
--- offset of each is in a second list, `starts`. Each other entry of a run is alone in its block; `starts` has its
--- place, as eight numbers.
+-- one block. If they all have the same length, the run is even, and stores only the offset of its first entry.
+-- Otherwise the offset of each is in a second list, `starts`. Each other entry of a run is alone in its block; `starts`
+-- has its place, as eight numbers.
 use Rattle.std.specs.Prelude.{◌≡◌, ℕ, ◌+◌, ◌-◌, ◌*◌, ◌<◌, ◌≤◌, ◌^◌, Bool, true, false, List, [], ◌∷◌, ◌++◌, if◌then◌else◌, nat_le, nat_lt, length, map, take, drop, slice_index_or}
 use Rattle.std.specs.Coded.{Unit-prop, le_prop, Coded-set, coded_ℕ}
 use Rattle.raft_log_record_items.specs.declared.entry.EntryIndex.{EntryIndex}
@@ -14,8 +14,8 @@ use Rattle.raft_log_extents.specs.Words.{whole_places}
 abbrev pub block : Run → Place
 block r = record { file = r.file; offset = r.offset; len = r.len; entry_offset = 0; entry_len = 0 }
 
--- how many starts are stored for `count` entries in a run's block: none if they have one length (`true`), else one for
--- each
+-- how many starts are stored for `count` entries in a run's block: none if all have the same length (`true`), else one
+-- for each
 abbrev pub width_of : Bool → ℕ → ℕ
 width_of true count = 0
 width_of false count = count
@@ -39,7 +39,8 @@ abbrev pub laid : Bool → Run → List ℕ → List Place
 laid true r starts = even_places (block r) r.size r.start r.count
 laid false r starts = uneven_places (block r) r.size (take r.count starts)
 
--- the places of run `r`, if its stored starts are the first of `starts`: those in its block, and then those alone
+-- the places of run `r`, if its stored starts are the first of `starts`: first those in its block, and then those alone
+-- in theirs
 abbrev pub places_of : Run → List ℕ → List Place
 places_of r starts = laid r.even r starts ++ whole_places r.alone (drop (width_of r.even r.count) starts)
 
@@ -128,7 +129,7 @@ pub record IsFound (number : ℕ) (rs : List Run) (k : ℕ) : Type 0 where
 abbrev pub start_of_entry : EntryIndex → ℕ
 start_of_entry e = e.entry_offset
 
--- the starts that are stored for these entries: none if they have one length (`true`), else the offset of each
+-- the starts that are stored for these entries: none if all have the same length (`true`), else the offset of each
 abbrev pub starts_for : Bool → List EntryIndex → List ℕ
 starts_for true es = []
 starts_for false es = map start_of_entry es

@@ -7,7 +7,7 @@ use Rattle.raft_log_record_base.specs.declared.pipe_log.LogQueue.TheVariants.{Ap
 use Rattle.raft_log_file_listeners.specs.Least.{lesser}
 
 -- The files of Append that the hook lists. `first` is the number of the first; `waiting` has, for each file, how many
--- of its records were written but are not in the tables. Files from `missing` on, if there is one, may not be listed.
+-- of its records were written but are not in the tables. If `missing` is a number, files from there on may be left out.
 pub record ActiveFiles : Type 0 where
   pub first : ℕ
   pub waiting : List ℕ
@@ -21,7 +21,7 @@ no_files = record { first = 0; waiting = []; missing = None }
 abbrev pub IsNext : ActiveFiles → ℕ → Type 0
 IsNext h seq = (h.waiting ≡ []) ⊎ (seq ≡ h.first + length h.waiting)
 
--- the list with file `seq` at its end, with no record that waits for the tables
+-- the list after file `seq` was added at its end; no record of this file waits for the tables
 abbrev pub with_file : ActiveFiles → ℕ → ActiveFiles
 with_file h seq = record h { first = seq - length h.waiting; waiting = h.waiting ++ 0 ∷ [] }
 
@@ -70,8 +70,8 @@ first_waiting first [] = None
 first_waiting first (zero ∷ waiting) = first_waiting (suc first) waiting
 first_waiting first (suc n ∷ waiting) = Some first
 
--- The first file of the queue that the hook pins: the first with a record that waits for the tables, or the first
--- missing one if its number is lower. It pins none of Rewrite.
+-- The number from which on the hook pins files of the queue. It is that of the first file with a record that waits for
+-- the tables, or of the first missing file if that is lower. The hook pins no file of Rewrite.
 abbrev pub first_held : LogQueue → ActiveFiles → Option ℕ
 first_held Append h = lesser (first_waiting h.first h.waiting) h.missing
 first_held Rewrite h = None

@@ -7,9 +7,9 @@ use Rattle.raft_log_file_listeners.specs.Active.{ActiveFiles, DropsListed, Lists
 
 -- How each event changes the hook's list:
 -- - a file was begun: it is listed if it is of Append, or counts as missing if listing fails
--- - a record was written: its file has one more record that waits for the tables
--- - a record was applied to the tables: its file has one less
--- - files were purged: they are removed from the list
+-- - a record was written: if its file is listed, the file has one more record that waits for the tables
+-- - a record was applied to the tables: if its file is listed, the file has one less
+-- - files were purged: those that are listed are removed, unless the last file that was purged is past the list's end
 abbrev pub HookHears : Told → ActiveFiles → ActiveFiles → Type 0
 HookHears (Told.FileBegun file) old new = ListsOrMisses file.queue file.seq old new
 HookHears (Told.RecordWritten block) old new = new ≡ counted one_more block.id.queue block.id.seq old

@@ -1,4 +1,4 @@
--- What several listeners pin together: all files from the least number on that one of them returns.
+-- What several listeners pin together. Each returns a number, and pins the files from that number on, or returns none.
 use Rattle.std.specs.Prelude.{◌≡◌, ◌≤◌, ℕ, min, Option, Some, None, IfSome, List, [], ◌∷◌, All, Contains}
 use Rattle.std.specs.List.{AllZip}
 
@@ -13,14 +13,14 @@ abbrev pub IsLeast : List (Option ℕ) → Option ℕ → Type 0
 IsLeast said None = All (λ one. one ≡ None) said
 IsLeast said (Some n) = Contains said (Some n) × All (λ one. IfSome one (λ m. n ≤ m)) said
 
--- `held` is what all of these pin together: each returns a file number or none, and `held` is the least number
+-- `held` is what the listeners `all` pin together: the least number that one of them returns, or none if none does
 pub record AllHoldBack {A : Type 0} (holds : A → Option ℕ → Type 0) (all : List A) (held : Option ℕ)
     : Type 0 where
   pub said : List (Option ℕ)
   pub each : AllZip holds all said
   pub least : IsLeast said held
 
--- `held` is what two of them pin together: the least of the numbers that they return
+-- `held` is what two listeners pin together: the least number that one of them returns, or none if none does
 pub record BothHoldBack (one other : Option ℕ → Type 0) (held : Option ℕ) : Type 0 where
   pub first : Option ℕ
   pub second : Option ℕ

@@ -1,7 +1,7 @@
 -- Appending a record to a pipe: which calls are made, and what they leave. `before` and `after` are the pipe's files,
 -- `old` and `new` the disk or the file system. `begin` are the settings for new files. `signed` gives the record's
--- bytes for the file that they are signed for. `paths` are the paths of the queue's files, `own` says which paths these
--- are.
+-- bytes for the file that they are signed for. `paths` gives the path of each file of the queue. `own` says which paths
+-- are the queue's.
 use Rattle.std.specs.Prelude.{◌≡◌, ◌⊎◌, ℕ, ◌+◌, ◌<◌, ◌≤◌, List, length}
 use Rattle.std.specs.declared.io.ErrorKind.TheVariants.{StorageFull}
 use Rattle.raft_log_fs.specs.Disk.{Disk}
@@ -39,7 +39,7 @@ pub data TurnsFirst {R : Type 0} (F : Format R) (own : List ℕ → Type 0) (pat
       → IsTurned begin.format before after → TurnsFirst F own paths begin before after old new
 
 -- A record was appended to the active file, after the pipe had rotated if it had to. The record is signed for this
--- file, one write wrote it, and `block` is its location.
+-- file, and was written by one write at the location `block`.
 pub record AppendsAt {R : Type 0} (F : Format R) (own : List ℕ → Type 0) (paths : FilePaths)
     (begin : NewFiles) (queue : LogQueue) (signed : LogFileContext → List ℕ)
     (before after : PipeFiles) (block : FileBlockHandle) (old new : Disk) : Type 0 where
@@ -79,7 +79,7 @@ pub record GoesInto {R F : Type 0} (disk : F → Disk) (tells : F → List ℕ �
       before.recycled.items after.active.path_id
 
 -- A record's write failed for lack of space, and what was written of it was truncated away. The pipe may have rotated
--- before the write. It rotated after it, and the free space that the file system then reported determined the next
+-- before the write. After the write, it rotated. The free space that the file system reported then determined the next
 -- file's directory.
 pub record GoesElsewhere {R F : Type 0} (disk : F → Disk) (tells : F → List ℕ → ℕ → Type 0)
     (format : Format R) (own : List ℕ → Type 0) (paths : FilePaths) (begin : NewFiles) (queue : LogQueue)
@@ -113,8 +113,8 @@ GoesOnBy count before after =
     (before.active.seq ≤ after.active.seq) × (after.active.seq ≤ before.active.seq + count)
 
 -- How an append ends after its write failed, by the fault.
--- - `CutBack`: the error is `Io` with the write's error kind, and nothing more was done. If space was lacking, the pipe
---   may have tried to rotate instead (`TurnsElsewhere`).
+-- - `CutBack`: the error is `Io` with the write's error kind, and nothing more was done. Or space was lacking, and then
+--   the pipe tried to rotate (`TurnsElsewhere`).
 -- - `Failed`: the error is `Failed`, and nothing more was done.
 abbrev pub Tells : {R : Type 0} → Format R → (List ℕ → Type 0) → FilePaths → NewFiles → WriteFault → PipeFiles
     → PipeFiles → Error → Disk → Disk → Type 0

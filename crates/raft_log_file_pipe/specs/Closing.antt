@@ -66,8 +66,8 @@ LeavesClosed {R} F own paths files old new = (base : Disk) (q : LogFiles R)
     → IsPipe F own paths base files q old → IsHeldOrSettled F own base q new × GapsStay F q old new
     × IsSpan paths new.names files.first_seq files.earlier.items q.last
 
--- If the pipe ran over a queue, its files are on the disk, and all its records are durable. No gap in the file numbers
--- was filled, and the files of the live range are at their paths.
+-- If the pipe ran over a queue, the queue's files are on the disk, and all its records are durable. No gap in the file
+-- numbers was filled, and the files of the live range are at their paths.
 abbrev pub IsSettledBy : {R : Type 0} → Format R → (List ℕ → Type 0) → FilePaths → PipeFiles → Disk → Disk
     → Type 0
 IsSettledBy {R} F own paths files old new = (base : Disk) (q : LogFiles R)
@@ -84,9 +84,9 @@ abbrev pub NumbersStay : {R : Type 0} → Format R → ℕ → Disk → Disk →
 NumbersStay F first old new = (m : ℕ) (path : List ℕ) → first ≤ m → m < F.limit → F.IsPath m path
     → new.names path ≡ old.names path
 
--- Let a queue's last number be above those of the files in `fs` that have no reserved name. The queue keeps its
--- records: its last file still holds them, and no gap in the file numbers was filled. The paths of all numbers above
--- those in `fs` name the same files as before.
+-- Premise: the files in `fs` without a reserved name have numbers below a queue's last one. Then the queue's last file
+-- still holds its records, and no gap in the file numbers was filled. The paths of all numbers above those of these
+-- files name the same files as before.
 abbrev pub StaysLeft : {R : Type 0} → Format R → (List ℕ → Type 0) → List Listed → Disk → Disk → Type 0
 StaysLeft {R} F own fs old new = (base : Disk) (q : LogFiles R) → AreBelow q.last fs → StandsWithRecords F own base q old
     → StandsWithRecords F own base q new × GapsStay F q old new

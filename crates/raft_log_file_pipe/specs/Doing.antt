@@ -49,7 +49,7 @@ OldestIsFar (f ∷ fs) = 10 ^ 16 ≤ f.seq
 
 -- Why the pipe didn't rotate.
 -- - `Memory`: memory ran out, and nothing was done.
--- - `NumberRange`: no name has the next number, or that of the file to recycle. Nothing was done.
+-- - `NumberRange`: the next number, or that of the file to recycle, has more than sixteen digits. Nothing was done.
 -- - `Failed`: one of the calls failed, and none was made after it. This may be the call that opens the file to recycle.
 abbrev pub FailsToTurnBy : FilePaths → LogFileFormat → PipeFiles → PipeFiles → Error → Disk → Disk → Type 0
 FailsToTurnBy paths format before after errors.Memory old new = SameFiles before after × (new ≡ old)
@@ -94,8 +94,8 @@ TurnsElsewhereBy paths format before after error old new =
     ⊎ FailsToTurnBy paths format before after error old new
 
 -- How an append ends after its write failed, by the fault.
--- - `CutBack`: the error is `Io` with the write's error kind, and nothing more was done. If space was lacking, the pipe
---   may have tried to rotate instead (`TurnsElsewhereBy`).
+-- - `CutBack`: the error is `Io` with the write's error kind, and nothing more was done. Or space was lacking, and then
+--   the pipe tried to rotate (`TurnsElsewhereBy`).
 -- - `Failed`: the error is `Failed`, and nothing more was done.
 abbrev pub TellsBy : FilePaths → LogFileFormat → WriteFault → PipeFiles → PipeFiles → Error → Disk → Disk
     → Type 0
@@ -138,7 +138,7 @@ FailsToPurgeBy paths capacity seq before errors.Failed old new =
     DropsUntil (paths_going paths capacity seq before) old new
 FailsToPurgeBy paths capacity seq before _ old new = ⊥
 
--- The pipe was opened with these lists of files. If no file was found, its file 1 was created and got its header.
+-- The pipe was opened with these lists of files. If no file was found, file 1 was created and got its header.
 -- Otherwise the last file that was found was truncated after its records and synced, and the pipe continues there.
 pub data OpensPipeBy (paths : FilePaths) (format : LogFileFormat) (found : FoundFiles) (files : PipeFiles)
     (old new : Disk) : Type 0 where

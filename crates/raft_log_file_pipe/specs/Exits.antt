@@ -1,5 +1,5 @@
 -- What each call of a pipe leaves, whether it succeeds or fails. `before` and `after` are the pipe's files, `old` and
--- `new` the disk. That the pipe ran over a queue means `IsPipe`, for any queue `q` of records in the format `F`. `own`
+-- `new` the disk. "The pipe ran over a queue" means `IsPipe`, for any queue `q` of records in the format `F`. `own`
 -- says which paths are the queue's. Since the disk `base`, only these have changed.
 use Rattle.std.specs.Prelude.{◌≡◌, ℕ, false, ◌≤◌, ◌^◌, List, [], ◌∷◌, ◌++◌, length, drop, suc}
 use Rattle.std.specs.declared.io.ErrorKind.{ErrorKind}
@@ -46,8 +46,8 @@ pub record IsTurned (format : LogFileFormat) (before after : PipeFiles) : Type 0
   pub format_is : after.active.format ≡ format
   pub recycled : after.recycled.items ≡ drop 1 before.recycled.items
 
--- If the pipe ran over a queue, the queue has rotated into its next file, and the pipe runs over it. No gap in the file
--- numbers was filled. The file system calls are those of `TurnsBy`.
+-- If the pipe ran over a queue, the queue has rotated into its next file, and the pipe runs over the rotated queue. No
+-- gap in the file numbers was filled. The file system calls are those of `TurnsBy`.
 abbrev pub Rotates : {R : Type 0} → Format R → (List ℕ → Type 0) → FilePaths → List ℕ → PipeFiles → PipeFiles
     → Disk → Disk → Type 0
 Rotates {R} F own paths header before after old new = (base : Disk) (q : LogFiles R)
@@ -57,7 +57,7 @@ Rotates {R} F own paths header before after old new = (base : Disk) (q : LogFile
     × TurnsBy paths header before.recycled.items before.writer after.active after.writer old new
 
 -- A rotation failed. If the pipe ran over a queue, a file call failed. The last file holds its records, and there may
--- be a next file without records. The files of the live range are at their paths, also the active file.
+-- be a next file without records. The files of the live range, with the active file, are at their paths.
 abbrev pub FailsToRotate : {R : Type 0} → Format R → (List ℕ → Type 0) → FilePaths → List ℕ → PipeFiles
     → Disk → Disk → Type 0
 FailsToRotate {R} F own paths header before old new = (base : Disk) (q : LogFiles R)
@@ -124,14 +124,14 @@ pub record SameLists (before after : PipeFiles) : Type 0 where
   pub active : after.active ≡ before.active
   pub recycled : after.recycled.items ≡ before.recycled.items
 
--- if the pipe ran over a queue, one call synced all its records, and the pipe runs over it
+-- if the pipe ran over a queue, one call synced all the queue's records, and the pipe still runs over the queue
 abbrev pub SyncsPipe : {R : Type 0} → Format R → (List ℕ → Type 0) → FilePaths → PipeFiles → Disk → Disk
     → Type 0
 SyncsPipe {R} F own paths files old new = (base : Disk) (q : LogFiles R) → IsPipe F own paths base files q old
     → IsPipe F own paths base files (synced q) new × Syncs files.writer.handle old new
 
--- If the pipe ran over a queue, its records weren't synced, as the sync failed. The last file holds its records, and
--- the files of the live range are at their paths.
+-- If the pipe ran over a queue, the sync of the active file failed. This file still holds its records, and the files of
+-- the live range are at their paths.
 abbrev pub FailsToSyncPipe : {R : Type 0} → Format R → (List ℕ → Type 0) → FilePaths → PipeFiles → Disk → Disk
     → Type 0
 FailsToSyncPipe {R} F own paths files old new = (base : Disk) (q : LogFiles R)

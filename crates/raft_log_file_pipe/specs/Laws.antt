@@ -17,8 +17,8 @@ use Rattle.raft_log_file_pipe.specs.declared.pipe_files.PipeFiles.{PipeFiles}
 
 -- What is read of a pipe's queue after a stop without a CRC collision.
 -- - `standing`: if a pipe runs over the queue, the queue's last file holds its records (`StandsWithRecords`).
--- - `kept`: all records of such a queue's earlier files are read, and the last file's durable ones with a prefix of its
---   pending ones.
+-- - `kept`: all records of such a queue's earlier files are read. Of its last file, the durable records and a prefix of
+--   the pending ones are read.
 -- - `restarts`: given `CanTellFormat`, the stop leaves the queue again, with these records, all durable.
 pub record PipesAreKept {R : Type 0} (F : Format R) (own : List ℕ → Type 0) (paths : FilePaths) : Type 0 where
   pub standing : (base : Disk) (files : PipeFiles) (q : LogFiles R) (d : Disk)

@@ -95,8 +95,8 @@ BeginsPipe {R} F own paths format kept files old new = (base : Disk) (older : �
     × BeginsQueueBy (path_of paths files.active) (header_bytes format) files.active.handle files.writer
     old new
 
--- The queue hasn't begun. If it could, a file call failed. It can still begin, or its file 1 exists without a record.
--- There is no file 0.
+-- Beginning the queue failed. If the queue could begin before, a file call failed. It can still begin, or its file 1
+-- exists without a record. There is no file 0.
 abbrev pub FailsToBeginPipe : {R : Type 0} → Format R → (List ℕ → Type 0) → FilePaths → LogFileFormat
     → List Listed → Disk → Disk → Type 0
 FailsToBeginPipe {R} F own paths format kept old new = (base : Disk) (older : ℕ → Past R)
@@ -112,7 +112,7 @@ pub record IsListedFirst (format : LogFileFormat) (kept : List Listed) (files : 
   pub format_is : files.active.format ≡ format
   pub spares : files.recycled.items ≡ kept
 
--- A pipe was opened over what was found. If no file was found, its queue has begun; otherwise its last file was
+-- A pipe was opened over what was found. If no file was found, the queue has begun; otherwise the queue's last file was
 -- reopened.
 pub data OpensPipe {R : Type 0} (F : Format R) (own : List ℕ → Type 0) (paths : FilePaths) (begin : NewFiles)
     (found : FoundFiles) (files : PipeFiles) (old new : Disk) : Type 0 where

@@ -1,6 +1,6 @@
 -- Purging a pipe: the files below the number `seq` leave the live range. Some of them are kept for recycling, the
--- others are deleted. `capacity` is how many files the pipe may have with those kept for recycling. `before` and
--- `after` are the pipe's files, `old` and `new` the disk.
+-- others are deleted. `capacity` limits the files of the live range and those kept for recycling, together. `before`
+-- and `after` are the pipe's files, `old` and `new` the disk.
 use Rattle.std.specs.Prelude.{◌≡◌, ℕ, ◌-◌, ◌<◌, ◌≤◌, ◌^◌, false, nat_lt, ◌&&◌, if◌then◌else◌, Some, None, List, [], ◌∷◌, ◌++◌, length, map, take, drop, slice_index_or, suc}
 use Rattle.std.specs.Map.{update}
 use Rattle.std.specs.Str.{bytes_eq}
@@ -106,8 +106,8 @@ Purges {R} F own paths capacity seq before after old new = (base : Disk) (q : Lo
     × (new.names ≡ without (paths_going paths capacity seq before) old.names)
     × DropsBy (paths_going paths capacity seq before) old new
 
--- If the pipe ran over a queue, deleting one of the files to delete failed. Only the files before it were deleted. The
--- last file holds its records, and the files of the live range are at their paths.
+-- If the pipe ran over a queue, deleting one of the files to delete failed. The files before that one were deleted, and
+-- at a stop perhaps that one too. The last file holds its records. The files of the live range are at their paths.
 abbrev pub FailsToPurge : {R : Type 0} → Format R → (List ℕ → Type 0) → FilePaths → ℕ → ℕ → PipeFiles
     → PipeFiles → Disk → Disk → Type 0
 FailsToPurge {R} F own paths capacity seq before after old new = (base : Disk) (q : LogFiles R)
@@ -122,8 +122,8 @@ IsOtherOrMemory (errors.Other fault) = Unit {0}
 IsOtherOrMemory errors.Memory = Unit {0}
 IsOtherOrMemory _ = ⊥
 
--- why the number of files below `seq` isn't returned: `seq` isn't in the live range, and the error says so, or memory
--- ran out for its text
+-- why the number of files below `seq` isn't returned: `seq` isn't in the live range. The error is `Other`, or `Memory`
+-- if memory ran out for the text.
 abbrev pub CountFails : ℕ → PipeFiles → Error → Type 0
 CountFails seq files error = (IsInSpan seq files → ⊥) × IsOtherOrMemory error
 
@@ -131,8 +131,8 @@ CountFails seq files error = (IsInSpan seq files → ⊥) × IsOtherOrMemory err
 abbrev pub HasFarFile : List Listed → Type 0
 HasFarFile fs = (f : Listed) × (i : ℕ) × (i < length fs) × (f ≡ slice_index_or fs i f) × (10 ^ 16 ≤ f.seq)
 
--- Why a list of files wasn't split into those to keep and those to delete. Memory ran out, or no name has the number of
--- one of the files.
+-- Why a list of files wasn't split into those to keep and those to delete. Memory ran out, or one of the files has a
+-- number of more than sixteen digits.
 abbrev pub PartFails : List Listed → Error → Type 0
 PartFails fs errors.Memory = Unit {0}
 PartFails fs errors.NumberRange = HasFarFile fs
@@ -141,8 +141,8 @@ PartFails fs _ = ⊥
 -- Why a purge failed, and what it leaves.
 -- - `Memory`: memory ran out. Nothing was done.
 -- - `Other`: the number isn't in the live range. Nothing was done.
--- - `NumberRange`: no name has the number of one of the files. Nothing was done.
--- - `Failed`: a file call failed. The files below the number have left the live range; not all may be deleted.
+-- - `NumberRange`: one of the files has a number of more than sixteen digits. Nothing was done.
+-- - `Failed`: a file call failed. The files below the number have left the live range. Some may not be deleted yet.
 abbrev pub PurgeLeaves : {R : Type 0} → Format R → (List ℕ → Type 0) → FilePaths → ℕ → ℕ → PipeFiles →
     PipeFiles
     → Error → Disk → Disk → Type 0

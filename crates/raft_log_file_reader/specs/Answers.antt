@@ -54,8 +54,8 @@ pub record IsLogFileOpen (d : Disk) (file : LogFile) (current : OpenFile) (start
   pub size : current.source.size ≡ length (bytes_of current.source d)
   pub header : SaysFormat (bytes_of current.source d) current.format start
 
--- `answers` is what is read from a log file. If the file couldn't be found or opened, it is only an error; otherwise it
--- is what is read after the header.
+-- `answers` is what is read from a log file. If the file couldn't be found or opened, that is only an error; otherwise
+-- it is what is read after the header.
 pub data GivesFile (d : Disk) (file : LogFile) (answers : List Answer) : Type 0 where
   unfound : (error : Error) → IsReadOpenRefusal (string_bytes file.path) d error → answers ≡ Err error ∷ []
       → GivesFile d file answers

@@ -18,8 +18,8 @@ use Rattle.raft_log_file_reader.specs.declared.open_file.OpenFile.{OpenFile}
 abbrev pub padding_len : ℕ → ℕ → ℕ
 padding_len alignment offset = if alignment == 0 then 0 else (alignment - offset % alignment) % alignment
 
--- `bytes` begin with padding of this many bytes. The first and the last of these are 0, and no valid header of a record
--- begins there. `bytes` are long enough for such a header and for the padding.
+-- `bytes` begin with padding of this many bytes, of which the first and the last are 0. `bytes` are long enough for the
+-- padding and for a record's header, but don't begin with a valid header.
 pub record IsPadding (padding : ℕ) (bytes : List ℕ) : Type 0 where
   pub some : 0 < padding
   pub room : 16 ≤ length bytes
@@ -27,8 +27,8 @@ pub record IsPadding (padding : ℕ) (bytes : List ℕ) : Type 0 where
   pub broken : IsErr (header_at bytes)
   pub zeros : IsZeroPadded (take padding bytes)
 
--- The next record after `offset` is at `at`. If there is padding up to the next multiple of the alignment, this is that
--- multiple, and otherwise `offset` itself.
+-- Reading goes on at `at` after `offset`. If there is padding from `offset` to the next multiple of the alignment, `at`
+-- is that multiple. Otherwise `at` is `offset`.
 pub data GoesOnAt (alignment : ℕ) (content : List ℕ) (offset at : ℕ) : Type 0 where
   behind_padding : IsPadding (padding_len alignment offset) (drop offset content)
       → at ≡ offset + padding_len alignment offset → GoesOnAt alignment content offset at
@@ -90,8 +90,8 @@ HasBatches file content offset [] end = end ≡ offset
 HasBatches file content offset (items ∷ more) end =
     (next : ℕ) × HasBatch file content offset items next × HasBatches file content next more end
 
--- Reads the header of the record at the front of `bytes`. Returns where its footer begins and how long the record is.
--- Fails with the header's first fault, or because the record doesn't end within `bytes`.
+-- Reads the header of the record with which `bytes` begin. Returns where the record's footer begins, and the record's
+-- length. Fails with the header's first fault, or because the record doesn't end within `bytes`.
 unfoldable pub extent_at : List ℕ → Result (ℕ × ℕ) Fault
 extent_at bytes = header_at bytes
     >>= λ r. if nat_lt (length bytes) r.0.2 then Err (corrupt (past_input r.0.2)) else Ok (r.0.0, r.0.2)

@@ -10,7 +10,8 @@ pub record SpellsHeader (bytes : List ℕ) (header : SpelledHeader) : Type 0 whe
   pub footer : header.footer ≡ footer_in bytes
   pub len : header.len ≡ len_in bytes
 
--- the header's compression type isn't 0, its footer begins inside the record, and the record has at most `left` bytes
+-- the compression type isn't 0, the footer begins after the header and within the record, and the record has at most
+-- `left` bytes
 pub record IsForeignHeader (header : SpelledHeader) (left : ℕ) : Type 0 where
   pub compressed : 0 < header.compression
   pub behind : 16 ≤ header.footer

@@ -33,7 +33,7 @@ pub record GivesRest (d : Disk) (reader : BatchReader) (answers : List Answer) :
 abbrev pub AnswersGoOn : {S : Type 0} → (S → List Answer → Type 0) → S → List Answer → S → Type 0
 AnswersGoOn gives old first new = (rest : List Answer) → gives new rest → gives old (first ++ rest)
 
--- a bound on the results that an open file still gives: one for each byte after `end`, and an error
+-- a bound on the results that an open file still gives: one for each byte after `end`, and one for an error
 abbrev pub most_behind : Option OpenFile → ℕ → ℕ
 most_behind None end = 0
 most_behind (Some file) end = suc (file.source.size - end)

@@ -45,7 +45,7 @@ pub record IsReaderOf {F : Type 0} (disk : F → Disk) (file_system : F) (files 
   pub gives : (answers : List Answer) → StillGives disk reader answers
       → GivesFiles (disk file_system) files answers
 
--- the reader will return what is read of the log file at `path`, and there is one
+-- there is a log file at `path`, and the reader will return what is read of it
 pub record ReadsFileAt {F : Type 0} (disk : F → Disk) (file_system : F) (path : List ℕ)
     (reader : LogItemReader F) : Type 0 where
   pub files : List LogFile

@@ -21,8 +21,8 @@ OneReading = (file : OpenFile) (content : List ℕ) (offset m n : ℕ) (xs ys : 
     → HasBatches file content offset xs m → EndsBehind file content m
     → HasBatches file content offset ys n → EndsBehind file content n → (xs ≡ ys) × (m ≡ n)
 
--- Reading the next record after an offset fails with at most one fault. If it fails, the file doesn't end at this
--- offset.
+-- Reading the next record after an offset fails with at most one fault. If it fails, the file has more than padding
+-- after this offset.
 abbrev pub OneFault : Type 0
 OneFault = (file : OpenFile) (content : List ℕ) (offset : ℕ) (e f : Fault) → IsBroken file content offset e
     → (HasNoMore file content offset → ⊥) × (IsBroken file content offset f → e ≡ f)

@@ -36,7 +36,7 @@ pub record IsReadingFile (d : Disk) (reader : LogItemBatchFileReader) (file : Op
   pub holds : HoldsPart file.source d reader.window
   pub within : reader.valid_offset ≤ file.source.size
 
--- if the reader has a file open, the reader's size, window and offset fit that file on the disk
+-- if the reader has a file open, its window and its offset fit that file on the disk (`IsReadingFile`)
 abbrev pub IsReading : Disk → LogItemBatchFileReader → Type 0
 IsReading d reader = ForSome reader.file (IsReadingFile d reader)
 
@@ -49,7 +49,7 @@ pub record ReadsHonestly (d : Disk) (reader : LogItemBatchFileReader) : Type 0 w
 abbrev pub IsInsideFile : FileBlockHandle → LogItemBatchFileReader → Type 0
 IsInsideFile block reader = ForSome reader.file (λ file. block.offset + block.len ≤ file.source.size)
 
--- the reader has no file open
+-- the reader has no file open, and its offset is 0
 pub record HasNoneOpen (reader : LogItemBatchFileReader) : Type 0 where
   pub file : file_of reader ≡ None
   pub end : end_of reader ≡ 0
@@ -70,8 +70,8 @@ pub record IsUnmoved (old new : LogItemBatchFileReader) : Type 0 where
   pub end : end_of new ≡ end_of old
   pub block : last_block new ≡ last_block old
 
--- Reading the next batch of `file` took the reader from `old` to `new`, and returned `found`. A batch begins after the
--- offset of `old`, and ends at that of `new`. `None`: no batch follows, and the reader is unmoved.
+-- Reading the next batch of `file` changed the reader `old` into `new`, and returned `found`. A batch is the next one
+-- after the offset of `old`, and ends at the offset of `new`. `None`: no batch follows, and the reader is unmoved.
 abbrev pub AnswersBatch : Disk → OpenFile → LogItemBatchFileReader → LogItemBatchFileReader → Option ItemBatch
     → Type 0
 AnswersBatch d file old new found = MatchOption found

@@ -16,7 +16,7 @@ bytes_in (Some file) = file.content
 abbrev pub bytes_of : Source → Disk → List ℕ
 bytes_of source d = bytes_in (d.files source.handle.file)
 
--- the file system failed a read of bytes of the file, all of them at or after `offset`
+-- the file system failed a read of the file that asked only for bytes at or after `offset`
 pub record IsUnreadFrom (source : Source) (offset : ℕ) (d : Disk) (kind : ErrorKind) : Type 0 where
   pub at : ℕ
   pub count : ℕ

@@ -14,7 +14,7 @@ use Rattle.raft_log_file_reader.specs.declared.batches.BatchReader.{BatchReader}
 abbrev pub most_open : LogItemBatchFileReader → ℕ
 most_open reader = most_behind (file_of reader) (end_of reader)
 
--- `items` were read from the open file. The bound on its results has become lower by more than their number.
+-- `items` were read from the open file. The bound on the file's results fell by more than the number of these items.
 pub record ReadsOn (d : Disk) (items : List LogItem) (old new : LogItemBatchFileReader) : Type 0 where
   pub goes_on : AnswersGoOn (GivesOpen d) old (given items) new
   pub fewer : length items + most_open new < most_open old

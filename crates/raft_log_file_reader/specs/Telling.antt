@@ -1,4 +1,4 @@
--- The errors for a path that isn't that of a file or directory to read.
+-- The errors of a call on a path, if the path has no file or directory that can be read.
 use Rattle.std.specs.Prelude.{◌≡◌, ℕ, Bool, true, false, List}
 use Rattle.std.specs.String.{string_bytes}
 use Rattle.std.specs.declared.io.ErrorKind.{ErrorKind}
@@ -13,9 +13,9 @@ TellsInvalid words path (errors.InvalidArgument text) = string_bytes text ≡ to
 TellsInvalid words path errors.Memory = Unit {0}
 TellsInvalid words path _ = ⊥
 
--- The error of a call on a path if the file system failed it with `kind`. `stopped` says whether it had stopped.
--- - If it had, the error is `Io` with this kind.
--- - If it runs, the error is `Memory`. If `kind` isn't `OutOfMemory`, it may be `InvalidArgument` instead, whose text
+-- The error of a call on a path that the file system failed with `kind`. `stopped`: the file system had stopped.
+-- - If it had stopped, the error is `Io` with this kind.
+-- - If it runs, the error is `Memory`, or, unless `kind` is `OutOfMemory`, an `InvalidArgument`. The text of this one
 --   has these words and the path.
 abbrev pub TellsAbsent : Bool → ErrorKind → List ℕ → List ℕ → Error → Type 0
 TellsAbsent stopped kind words path (errors.InvalidArgument text) =

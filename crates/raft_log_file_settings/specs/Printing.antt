@@ -44,7 +44,7 @@ pub record SizesFit (s : Settings) : Type 0 where
   pub memory : SizeFits s.memory_limit
   pub prefill : SizeFits s.prefill_limit
 
--- the TOML value for an `Entry`, which is the value of a row in the code
+-- the TOML value for an `Entry`; in the code, a row has its value as an `Entry`
 abbrev pub data_of : Entry → Data
 data_of (entries.Text text) = string text.now
 data_of (entries.Size size) = size_data size.0
@@ -126,8 +126,8 @@ first_unsaid (row ∷ rows) = if is_unsaid row.1 then Some row.0 else first_unsa
 abbrev pub too_large : List ℕ → List ℕ
 too_large key = codes "number past the range of TOML at " ++ key
 
--- Why the rows can't be printed: TOML can't express a number, and the error names the first key that has one. Or memory
--- ran out.
+-- Why the rows can't be printed: TOML can't express a number, and the error names the first key with such a number. Or
+-- memory ran out.
 abbrev pub IsUnprintable : List Row → Error → Type 0
 IsUnprintable rows (errors.InvalidArgument text) =
     (key : List ℕ) × (first_unsaid rows ≡ Some key) × (string_bytes text ≡ too_large key)

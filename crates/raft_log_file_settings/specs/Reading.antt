@@ -47,7 +47,7 @@ size_of d = number_of d
 abbrev pub thousandths : ℕ → Float
 thousandths n = div binary64 (of_int binary64 (pos n)) (of_int binary64 (pos 1000))
 
--- the number of thousandths, at most `most`, to which `x` is the nearest float, if there is one
+-- the number of thousandths, at most `most`, whose nearest float is `x`, if there is one
 unfoldable pub thousandths_up_to : ℕ → Float → Option ℕ
 thousandths_up_to most x = find (λ n. eq x (thousandths n)) (range_with_len 0 (most + 1))
 

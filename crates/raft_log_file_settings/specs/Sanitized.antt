@@ -21,7 +21,7 @@ IsFileName name =
 abbrev pub IsFileIn : List ℕ → List ℕ → Type 0
 IsFileIn directory path = (name : List ℕ) × IsFileName name × (path ≡ directory ++ 47 ∷ name)
 
--- `dir` and `spill` are the same directory, or one is at a path that a file of the log may have in the other
+-- `dir` and `spill` are equal, or one of them is a path that a file of the log may have in the other
 abbrev pub Clash : List ℕ → List ℕ → Type 0
 Clash dir spill = (dir ≡ spill) ⊎ (IsFileIn dir spill ⊎ IsFileIn spill dir)
 
@@ -33,7 +33,8 @@ or_else None default = Some default
 -- Settings as the log uses them.
 -- - If no rewrite threshold is set, it is a tenth of the purge threshold, but at least the target size.
 -- - Recovery reads blocks of at least 512 bytes, and has at least one thread.
--- - If files are prefilled and no limit is set, it is the purge threshold. If they aren't, there is no limit.
+-- - If files are prefilled and no prefill limit is set, it is the purge threshold. If files aren't prefilled, there is
+--   no limit.
 abbrev pub sanitized : Settings → Settings
 sanitized s = record s {
   purge_rewrite_threshold =
@@ -58,8 +59,8 @@ recycle_capacity s =
     if can_recycle s && nat_le s.target_file_size s.purge_threshold
     then files_within s.purge_threshold s.target_file_size else 0
 
--- How many files an open may prefill with zeros. It is 0 if it may not prefill, or if the limit on their bytes is below
--- the target size.
+-- How many files an open may prefill with zeros. It is 0 if files can't be recycled or aren't prefilled, or if the
+-- limit on their bytes is below the target size.
 abbrev pub prefill_capacity : Settings → ℕ
 prefill_capacity s =
     let limit = unwrap_or s.prefill_limit 0 in

@@ -29,7 +29,7 @@ FailsToFind path true _ old new = ⊥
 FailsToFind path false error old new = IsOpenRefusal path old error × (new ≡ old)
 
 -- The file at `path` was created or opened, and then its writer was opened. A new file gets `header`, and so does an
--- old one that is shorter than that.
+-- old file that is shorter than the header.
 pub record Builds (path header : List ℕ) (create : Bool) (writer : LogFileWriter) (old new : Disk)
     : Type 0 where
   pub between : Disk
@@ -39,7 +39,7 @@ pub record Builds (path header : List ℕ) (create : Bool) (writer : LogFileWrit
 -- Why no writer was built:
 -- - `has_no_header`: the format has no header, or memory ran out for it; no call was made.
 -- - `not_found`: the file wasn't created or opened.
--- - `not_taken_up`: it was, but opening its writer failed.
+-- - `not_taken_up`: the file was created or opened, and then opening its writer failed.
 pub data FailsToBuild (path : List ℕ) (format : LogFileFormat) (create : Bool) (error : Error)
     (old new : Disk) : Type 0 where
   has_no_header : IsHeaderRefusal format error → new ≡ old → FailsToBuild path format create error old new
@@ -49,8 +49,8 @@ pub data FailsToBuild (path : List ℕ) (format : LogFileFormat) (create : Bool)
       → FailsToTakeUp handle (header_bytes format) create kind between new
       → FailsToBuild path format create error old new
 
--- If the writer's file existed on disk `old`, then up to the writer's offset it has its old content. If that was
--- shorter than `header`, it has `header` instead.
+-- If the writer's file existed on disk `old`, the bytes up to the writer's offset are its old content. If that was
+-- shorter than `header`, they are `header` instead.
 abbrev pub IsGoneOn : List ℕ → LogFileWriter → Disk → Disk → Type 0
 IsGoneOn header writer old new = (file : File) → old.files writer.handle.file ≡ Some file
     → IsWritten writer (taken_up header false file.content) new

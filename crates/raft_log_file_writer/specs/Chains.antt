@@ -17,8 +17,8 @@ abbrev pub DurableIsLeft : Type 0
 DurableIsLeft = (bytes left : List ℕ) (file : File) → IsDurable bytes file → IsLeft file left
     → take (length bytes) left ≡ bytes
 
--- Up to the writer's offset, the file has the records `durable` and `pending`, from `start` on. It holds this chain and
--- the records `more`, whose write failed: any part of these may follow the offset.
+-- From `start` up to the writer's offset, the file has the records `durable` and `pending`. It holds the chain of these
+-- records and of `more`, whose write failed. Any part of `more` may follow the offset.
 pub record IsAtEnd {R : Type 0} (IsFrame : List ℕ → R → Type 0) (start : ℕ) (stale : List ℕ)
     (durable pending more : List (Written R))
     (writer : LogFileWriter) (d : Disk) : Type 0 where
@@ -34,8 +34,8 @@ pub record HasStaleFrom (from : ℕ) (stale : List ℕ) (file : File) : Type 0 w
   pub stands : StandsBehind from stale file.content
   pub covers : length stale ≤ length file.content
 
--- Up to the writer's offset, the file has the records `durable` and `pending`, from `start` on, and it holds this
--- chain. Only stale bytes follow the offset, and no part of a record whose write failed.
+-- From `start` up to the writer's offset, the file has the records `durable` and `pending`, and it holds this chain.
+-- Only stale bytes follow the offset, and no part of a record whose write failed.
 abbrev pub IsReady : {R : Type 0} → (List ℕ → R → Type 0) → ℕ → List ℕ → List (Written R) → List (Written R)
     → LogFileWriter → Disk → Type 0
 IsReady IsFrame start stale durable pending writer d = IsAtEnd IsFrame start stale durable pending [] writer d
@@ -46,9 +46,9 @@ IsReady IsFrame start stale durable pending writer d = IsAtEnd IsFrame start sta
 -- - `refused`: the record whose write failed counts as the last pending one. The writer's offset is unchanged.
 -- - `synced`: all records are durable.
 -- - `not_synced`: the durable records are still durable; a prefix of the pending ones may be durable too.
--- - `closed`: from `start` on the file has exactly the durable and pending records, all durable now. Those whose write
---   failed are gone.
--- - `not_closed`: the durable records are still durable. Those whose write failed count as pending.
+-- - `closed`: from `start` on the file has exactly the durable and pending records, all durable now. Records whose
+--   write failed are gone.
+-- - `not_closed`: the durable records are still durable. Records whose write failed count as pending.
 pub record ChainIsWritten {R : Type 0} (IsFrame : List ℕ → R → Type 0) (start : ℕ) (stale : List ℕ)
     (durable pending : List (Written R))
     (before after : LogFileWriter) (old new : Disk) : Type 0 where
@@ -92,8 +92,8 @@ abbrev pub RestHoldsNothing : {R : Type 0} → (List ℕ → R → Type 0) → T
 RestHoldsNothing IsFrame = (start : ℕ) (content : List ℕ)
     → HoldsNothing IsFrame start content (at_rest content)
 
--- How a chain begins: a file without records gets its header, and is ready for its first record. If writing the header
--- fails, the file is still without records.
+-- How a chain begins: a file without records gets its header, and is ready for its first record. If opening the writer
+-- fails, the file holds the empty chain.
 pub record ChainBegins {R : Type 0} (IsFrame : List ℕ → R → Type 0) (handle : Handle)
     (header stale : List ℕ) (reset : Bool) (old new : Disk) : Type 0 where
   pub begun : (writer : LogFileWriter) → handle.permission ≡ ReadWrite

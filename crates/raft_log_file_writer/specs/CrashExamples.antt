@@ -24,8 +24,8 @@ TornRecordIsLost {R} IsFrame = IsSelfDelimiting IsFrame
     IsLeft file bytes × NoChanceMatch IsFrame (length front) stale (spelled (durable ++ w ∷ [])) file bytes
     × Reads IsFrame (length front) durable bytes)
 
--- The last record of a file, `w`, isn't synced. A stop may leave a different record, `foreign`, in its place, which is
--- at most as long. But that is a CRC collision.
+-- The last record of a file, `w`, isn't synced. In its place, a stop may leave a different record that isn't longer,
+-- `foreign`. But that is a CRC collision.
 abbrev pub ForeignRecordIsChance : {R : Type 0} → (List ℕ → R → Type 0) → Type 0
 ForeignRecordIsChance {R} IsFrame = IsSelfDelimiting IsFrame
     → (front stale : List ℕ) (durable : List (Written R)) (w foreign : Written R)

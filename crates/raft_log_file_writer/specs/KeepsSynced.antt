@@ -8,8 +8,8 @@ use Rattle.raft_log_fs.specs.Image.{IsLeft, Spares}
 use Rattle.raft_log_fs.specs.Calls.{with_change}
 use Rattle.raft_log_file_writer.specs.LawsChains.{IsSelfDelimiting, Written, AreFrames, spelled, BeginsWith, Reads, Meets, LiesIn, HoldsNoFrame}
 
--- An unsynced write was asked to write bytes that contain `bytes`, so that these begin at the offset `at`. It may have
--- written only some of them.
+-- An unsynced write was asked to write `bytes` at the offset `at`, perhaps among other bytes. It may have written only
+-- some of them.
 pub record IsHandedIn (changes : List Change) (at : ℕ) (bytes : List ℕ) : Type 0 where
   pub from : ℕ
   pub all : List ℕ
@@ -40,10 +40,10 @@ NoChanceMatch {R} IsFrame start stale own file bytes = (at : ℕ) (w : Written R
 
 -- The file holds a chain: its durable records and then its pending ones (written, not yet synced) follow one another
 -- from `start` on.
--- - `synced`, `others`: its synced bytes begin with the durable records; all other records that are read of them are
--- stale.
+-- - `synced`, `others`: its synced bytes begin with the durable records; all other records that are read of these bytes
+-- are stale.
 -- - `spared`: no change since the last sync touches the durable records.
--- - `handed`: each write since then ends before the chain, or is a part of the chain at its offset, or contains no
+-- - `handed`: each write since the last sync ends before the chain, is a part of it at its offset, or contains no
 -- record. The zeros of a prefilled file contain none.
 -- A record whose write failed counts as the last pending one, until the file is truncated before that record and
 -- synced.
@@ -103,7 +103,7 @@ DurableIsRead {R} IsFrame = IsSelfDelimiting IsFrame
     → (ws : List (Written R)) → Reads IsFrame start ws bytes → (more : List (Written R))
     × (ws ≡ durable ++ more)
 
--- each byte of `bytes` at the offset `from` or after it is one that `stale` has at the same offset
+-- from the offset `from` on, each byte of `bytes` is the byte that `stale` has at the same offset
 abbrev pub StandsBehind : ℕ → List ℕ → List ℕ → Type 0
 StandsBehind from stale bytes = (place : ℕ) → from ≤ place → place < length bytes
     → (place < length stale) × (slice_index bytes place ≡ slice_index stale place)
@@ -111,7 +111,7 @@ StandsBehind from stale bytes = (place : ℕ) → from ≤ place → place < len
 -- Changes of a file through which it still holds its chain. `content` is what the file contains after the change; it
 -- may be anything.
 -- - `written`: a record was written after the chain, whatever part of it is on disk; it is now the last pending one.
--- - `to_be_written`: records that are still to be written count as pending.
+-- - `to_be_written`: nothing changed, and records that are still to be written already count as pending.
 -- - `shortened`: the file was truncated, but not before the end of the durable records.
 -- - `grown`: the file grew.
 -- - `in_front`: bytes were written that end at or before `start`.
@@ -143,8 +143,8 @@ ChainGoesOn {R} IsFrame =
 -- How a chain begins, and when a file holds one:
 -- - `used_again`: a file whose bytes are all synced holds the empty chain, if all its bytes count as stale. It may be
 -- new or recycled.
--- - `read`: after a restart, a file whose bytes are all synced holds the records that are read of it, all durable, with
--- any stale bytes.
+-- - `read`: after a restart, a file whose bytes are all synced holds the records that are read of it. They are all
+-- durable, whatever bytes count as stale.
 -- - `synced`: a file whose bytes are all synced holds the records that it begins with, if only stale bytes follow them.
 -- - `prefilled`: a file without a record in its synced bytes or in its writes, such as one filled with zeros, holds the
 -- empty chain.

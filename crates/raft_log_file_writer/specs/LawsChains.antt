@@ -80,7 +80,7 @@ abbrev pub ReadsSome : {R : Type 0} → (List ℕ → R → Type 0) → Type 0
 ReadsSome {R} IsFrame = CanTell IsFrame → (start : ℕ) (bytes : List ℕ) → (ws : List (Written R))
     × Reads IsFrame start ws bytes
 
--- if `d` agrees with `c` up to the end of a chain, and `c` begins with this chain, so does `d`
+-- if the bytes `c` have a chain from `start` on, bytes `d` that are the same up to the chain's end have it too
 abbrev pub AgreesUpToEnd : {R : Type 0} → (List ℕ → R → Type 0) → Type 0
 AgreesUpToEnd {R} IsFrame = (start : ℕ) (ws : List (Written R)) (c d : List ℕ)
     → take (start + length (spelled ws)) d ≡ take (start + length (spelled ws)) c

@@ -1,6 +1,6 @@
 -- The format of a log: numbered files, each with a header, and records after the header. How a record is encoded may
--- depend on its file's number and header. So a record that was written under an earlier number may not count. The file
--- also has the premise on CRC collisions in one file.
+-- depend on its file's number and header. So a record that was written under an earlier number of the file can be none
+-- under the new one. Also here: what it means that one file has no CRC collision.
 use Rattle.std.specs.Prelude.{◌≡◌, ℕ, ◌<◌, ◌⊎◌, List, [], ◌++◌, length}
 use Rattle.raft_log_fs.specs.Disk.{File}
 use Rattle.raft_log_file_writer.specs.LawsChains.{Written, IsSelfDelimiting, CanTell, Reads}
@@ -44,18 +44,18 @@ pub record CanTellFormat {R : Type 0} (F : Format R) : Type 0 where
       ⊎ ((header : List ℕ) → HasHeader F header bytes → ⊥)
   pub frames : (n : ℕ) (header : List ℕ) → CanTell (F.IsFrame n header)
 
--- The records that are read of `bytes` as the file with number `n`: those after the header, or none if they begin with
--- no header.
+-- `ws` are the records that are read of `bytes` as the file with number `n`: those after the header. If `bytes` begin
+-- with no header, there are none.
 abbrev pub ReadsFile : {R : Type 0} → Format R → ℕ → List (Written R) → List ℕ → Type 0
 ReadsFile F n ws bytes = ((ws ≡ []) × ((header : List ℕ) → HasHeader F header bytes → ⊥))
     ⊎ ((header : List ℕ) × HasHeader F header bytes × Reads (F.IsFrame n header) (length header) ws bytes)
 
 -- No CRC collision in `bytes`, which a stop left of `file`, the file with number `n`. `header` is its header, `stale`
 -- its stale bytes, and `own` the bytes of its records.
--- - `headers`: the bytes begin with no other header than the file's own. A torn header could be read as one of another
---   version and length.
--- - `records`: each record that is read of them was written at that offset under this number.
--- - `plain`: a reader doesn't take them for a file with an alignment.
+-- - `headers`: the bytes begin with no other header than the file's own. By chance, a torn header could be read as one
+--   of another version and length.
+-- - `records`: each record that is read of `bytes` was written at that offset under this number.
+-- - `plain`: a reader doesn't take `bytes` for a file with an alignment.
 pub record NoChanceInFile {R : Type 0} (F : Format R) (n : ℕ) (header stale own : List ℕ)
     (file : File) (bytes : List ℕ) : Type 0 where
   pub headers : (other : List ℕ) → HasHeader F other bytes → other ≡ header

@@ -17,7 +17,7 @@ pub record Past (R : Type 0) : Type 0 where
   pub records : List (Written R)
 
 -- A queue of files.
--- - `older`: by number, the files before the last. Which of them still exist depends on the directory.
+-- - `older`: by number, the files before the last. Which of them still exist depends on the disk.
 -- - `last`: the number of the last file, which is the one that is written to.
 -- - `header`, `durable`, `pending`: the last file's header, its synced records, and those that aren't synced yet.
 -- - `stale`: the bytes that the last file held when it got its number.
@@ -44,7 +44,7 @@ rotated header stale q = record {
   pending = [];
 }
 
--- the queue as a restart finds it after a stop that left the first `count` pending records: all remaining records are
+-- the queue as a restart finds it after a stop that left the first `count` pending records: all records that it has are
 -- durable
 abbrev pub kept_to : {R : Type 0} → ℕ → LogFiles R → LogFiles R
 kept_to count q = record q { stale = []; durable = kept_records q.durable q.pending count; pending = [] }
@@ -92,7 +92,7 @@ abbrev pub IsAbsent : {R : Type 0} → Format R → ℕ → Disk → Type 0
 IsAbsent F n d = (path : List ℕ) → F.IsPath n path → d.names path ≡ None
 
 -- The files of a queue on a disk.
--- - `last`, `alone`: exactly one file has the number of the last one, and `P` holds for it.
+-- - `last`, `alone`: exactly one file has the queue's last number, and `P` holds for it.
 -- - `none`: no file has a higher number.
 -- - `older`: each file at a path of a lower number has exactly the header and records that the queue has for this
 -- number.
@@ -156,8 +156,8 @@ KeepsQueue {R} F q d = (image : Disk) → IsImage d image → NoChanceInLast F q
     → (found : List (Found R)) → ReadsFrom F image s found → (count : ℕ) × (count ≤ length q.pending)
     × (found ≡ found_from s q count)
 
--- After any stop without a CRC collision in the last file, one `count` holds for every number that reading begins with.
--- Of the last file, reading gives the durable records and the first `count` pending ones.
+-- After any stop without a CRC collision in the last file, reading gives the same records of that file from whatever
+-- number it begins. They are the durable records and the first `count` pending ones.
 abbrev pub EndsInOnePlace : {R : Type 0} → Format R → LogFiles R → Disk → Type 0
 EndsInOnePlace {R} F q d = (image : Disk) → IsImage d image → NoChanceInLast F q d image
     → (count : ℕ) × (count ≤ length q.pending)
@@ -192,8 +192,8 @@ pub record QueueIsKept {R : Type 0} (F : Format R) : Type 0 where
 abbrev pub Anything : File → Type 0
 Anything file = Unit {0}
 
--- After any stop, a queue can be read from each number such that no file is missing from there on, whatever its last
--- file contains. This needs that it is decidable whether bytes begin with a header or a record.
+-- After any stop, a queue on a sound disk can be read from each number such that no file is missing from there on. Its
+-- last file may contain anything. It must be decidable whether bytes begin with a header or a record.
 abbrev pub QueueIsReadable : {R : Type 0} → Format R → Type 0
 QueueIsReadable {R} F = CanTellFormat F → (q : LogFiles R) (d : Disk) → IsSound d
     → HasLogFiles F q Anything d → IsReadable F q d
@@ -209,7 +209,7 @@ QueueRestarts {R} F = CanTellFormat F → (q : LogFiles R) (d image : Disk)
     × ((later : Disk) → IsImage image later → NoChanceInLast F (kept_to count q) image later)
 
 -- After a file got the next number, and before its header is written, it is the queue's last file and has no records.
--- It may be new or recycled, with any content.
+-- It may be new or recycled, with any content, all synced.
 abbrev pub RotatedHoldsNothing : {R : Type 0} → Format R → Type 0
 RotatedHoldsNothing {R} F = (q : LogFiles R) (header stale : List ℕ)
     → HoldsLast F (rotated header stale q) (at_rest stale)

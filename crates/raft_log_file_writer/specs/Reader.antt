@@ -38,7 +38,7 @@ IsSizeRefusal handle d _ = ⊥
 abbrev pub AreBytesAt : ℕ → ℕ → List ℕ → File → Type 0
 AreBytesAt at count bytes file = bytes ≡ take count (drop at file.content)
 
--- what reading the header of a file returns; only its first 69 bytes are read, the length of the longest header
+-- what reading a file's header returns; only the file's first 69 bytes are read, the length of the longest header
 abbrev pub header_of : File → Result (LogFileFormat × List ℕ) Fault
 header_of file = header_at (take 69 file.content)
 

@@ -49,9 +49,9 @@ KeepsDurable {R} IsFrame start stale durable file =
 
 -- What holds when a file is truncated at `size` and synced:
 -- - `before`: it holds the chain.
--- - `tried`: it holds the same chain while the truncation may or may not be done.
--- - `done`: after the truncation it still does, and from `start` on has exactly the durable records and the first
---   `count` pending ones.
+-- - `tried`: it holds the same chain after the truncation was tried, whatever it contains then.
+-- - `done`: after the truncation it still holds the chain. From `start` on it has exactly the durable records and the
+--   first `count` pending ones.
 -- - `synced`: after the sync it still holds the chain, with at least the durable records synced.
 pub record ShorteningKeeps {R : Type 0} (IsFrame : List ℕ → R → Type 0)
     (start : ℕ) (stale : List ℕ) (size count : ℕ)

@@ -15,8 +15,8 @@ use Rattle.raft_log_file_writer.specs.declared.writer.LogFileWriter.{LogFileWrit
 
 -- The bytes of the writer's file.
 
--- The writer's file exists and may be written. Up to the writer's offset it has exactly `bytes`, and anything may
--- follow. It ends at or before the writer's capacity.
+-- The writer's file exists, and the writer's handle may write it. Up to the writer's offset the file has exactly
+-- `bytes`, and anything may follow. The file is at most as long as the writer's capacity.
 pub record IsWritten (writer : LogFileWriter) (bytes : List ℕ) (d : Disk) : Type 0 where
   pub permitted : writer.handle.permission ≡ ReadWrite
   pub offset : writer.written ≡ length bytes
@@ -26,12 +26,12 @@ pub record IsWritten (writer : LogFileWriter) (bytes : List ℕ) (d : Disk) : Ty
   pub content : file.content ≡ bytes ++ behind
   pub end : length file.content ≤ writer.capacity
 
--- `bytes` are all bytes of the writer's file, and its offset is at their end
+-- `bytes` are all bytes of the writer's file, and the writer's offset is at their end
 abbrev pub AreItsBytes : LogFileWriter → List ℕ → Disk → Type 0
 AreItsBytes writer bytes d = IsWritten writer bytes d
     × HasFile writer.handle.file (λ file. file.content ≡ bytes) d
 
--- `bytes` are all bytes of the writer's file, all synced, and its offset is at their end
+-- `bytes` are all bytes of the writer's file, all synced, and the writer's offset is at their end
 abbrev pub IsClosed : LogFileWriter → List ℕ → Disk → Type 0
 IsClosed writer bytes d = IsWritten writer bytes d × (d.files writer.handle.file ≡ Some (at_rest bytes))
 
@@ -63,8 +63,7 @@ pub record IsWriterAt (writer : LogFileWriter) (handle : Handle) (written capaci
 -- Writing: which calls are made, in which order.
 
 -- How many bytes are allocated after `capacity` for a write that ends at `end`. `target` is the size that the file is
--- expected to reach. The result is the larger of two numbers. One is the bytes missing up to `end`. The other is those
--- missing up to `target`, but at most 2 MiB.
+-- expected to reach. The result is the larger of `end - capacity` and `target - capacity`, the latter limited to 2 MiB.
 abbrev pub allocated : ℕ → ℕ → ℕ → ℕ
 allocated capacity end target = max (end - capacity) (min 2097152 (target - capacity))
 
@@ -72,8 +71,8 @@ allocated capacity end target = max (end - capacity) (min 2097152 (target - capa
 abbrev pub reach : ℕ → ℕ → ℕ → ℕ
 reach capacity end target = if nat_lt capacity end then capacity + allocated capacity end target else capacity
 
--- Space is made for a write that ends at `end`, in a file that is at most `capacity` bytes long. If the write may not
--- fit, space is allocated ahead of it, as much as `allocated` says. A failure to allocate is ignored.
+-- Space is made for a write that ends at `end`, in a file that is at most `capacity` bytes long. If `end` is beyond
+-- `capacity`, as much space as `allocated` says is allocated before the write. A failure to allocate is ignored.
 pub data MakesRoom (handle : Handle) (capacity end target : ℕ) (old new : Disk) : Type 0 where
   is_there : end ≤ capacity → new ≡ old → MakesRoom handle capacity end target old new
   is_allocated : capacity < end → Grows handle (capacity + allocated capacity end target) old new
@@ -113,7 +112,7 @@ pub record FailsToWriteNext (before after : LogFileWriter) (bytes : List ℕ) (t
 
 -- Truncating.
 
--- the file was truncated at the writer's offset, if its capacity is after that; otherwise no call was made
+-- the file was truncated at the writer's offset if the writer's capacity is beyond it; otherwise no call was made
 pub data CutsBehind (before after : LogFileWriter) (old new : Disk) : Type 0 where
   ends_there : before.capacity ≤ before.written → after ≡ before → new ≡ old → CutsBehind before after old new
   is_cut : before.written < before.capacity → Shortens before.handle before.written old new
@@ -132,7 +131,7 @@ pub record Closes (before after : LogFileWriter) (old new : Disk) : Type 0 where
   pub cuts : CutsBehind before after old between
   pub syncs : Syncs before.handle between new
 
--- either truncating the file failed, and no sync was tried, or the sync failed
+-- the truncation of the file failed, and no sync was tried; or the sync after it failed
 pub data FailsToClose (before after : LogFileWriter) (error : ErrorKind) (old new : Disk) : Type 0 where
   not_cut : FailsToCutBehind before after error old new → FailsToClose before after error old new
   not_synced : (between : Disk) → CutsBehind before after old between
@@ -150,7 +149,7 @@ abbrev pub taken_up : List ℕ → Bool → List ℕ → List ℕ
 taken_up header reset content = if needs_header header reset content then header else content
 
 -- A writer was opened:
--- - `goes_on`: the file needs no header. The writer continues at its end, and no call changed it.
+-- - `goes_on`: the file needs no header. The writer continues at the file's end, and no call changed the file.
 -- - `begins`: the header was written at offset 0, and the writer continues after it.
 pub data TakesUp (handle : Handle) (header : List ℕ) (reset : Bool) (writer : LogFileWriter) (old new : Disk)
     : Type 0 where
@@ -162,7 +161,7 @@ pub data TakesUp (handle : Handle) (header : List ℕ) (reset : Bool) (writer : 
       → IsWriterAt writer handle (length header) (reach (length file.content) (length header) 0)
       → TakesUp handle header reset writer old new
 
--- Opening a writer failed: the file's size couldn't be read, or writing the header that the file needs failed.
+-- Opening a writer failed: the file's size couldn't be read, or the file needs a header and writing it failed.
 pub data FailsToTakeUp (handle : Handle) (header : List ℕ) (reset : Bool) (error : ErrorKind) (old new : Disk)
     : Type 0 where
   not_measured : IsNotMeasured handle old error → new ≡ old
@@ -177,8 +176,8 @@ pub record CanBeTakenUp (handle : Handle) (d : Disk) : Type 0 where
   pub permitted : handle.permission ≡ ReadWrite
   pub there : d.files handle.file ≡ None → ⊥
 
--- A writer was opened by a handle that may write the file. Then the bytes up to the writer's offset are the header if
--- it was written, otherwise all of the file's old content.
+-- A writer was opened, and its handle may write the file. If the header was written, the file has only the header up to
+-- the writer's offset; otherwise it has all its old content there.
 abbrev pub IsTakenUp : Handle → List ℕ → Bool → LogFileWriter → Disk → Disk → Type 0
 IsTakenUp handle header reset writer old new = (file : File) → handle.permission ≡ ReadWrite
     → old.files handle.file ≡ Some file → IsWritten writer (taken_up header reset file.content) new

@@ -11,8 +11,8 @@ use Rattle.raft_log_fs.specs.declared.handle.Permission.TheVariants.{ReadOnly}
 abbrev pub IsTaken : List ℕ → Disk → Type 0
 IsTaken path d = (d.names path ≡ None → ⊥) ⊎ (d.directories path ≡ true)
 
--- Creating a file at `path` is wrong: `AlreadyExists` if a file or directory has the path, `NotFound` if the
--- directory it is in doesn't exist.
+-- Creating a file at `path` is wrong: `AlreadyExists` if a file or directory has the path, `NotFound` if the path's
+-- parent directory doesn't exist.
 abbrev pub WrongCreate : List ℕ → Disk → ErrorKind → Type 0
 WrongCreate path d error = ((error ≡ AlreadyExists) × IsTaken path d)
     ⊎ ((error ≡ NotFound) × (HasDirectory path d → ⊥))
@@ -21,8 +21,8 @@ WrongCreate path d error = ((error ≡ AlreadyExists) × IsTaken path d)
 abbrev pub WrongName : List ℕ → Disk → ErrorKind → Type 0
 WrongName path d error = (error ≡ NotFound) × (d.names path ≡ None)
 
--- Renaming is wrong: `NotFound` if no file has the path `from`. For the path `to`, `IsADirectory` if a directory has
--- it, and `NotFound` if the directory it is in doesn't exist.
+-- Renaming is wrong: `NotFound` if no file has the path `from`; `IsADirectory` if a directory has the path `to`;
+-- `NotFound` if the parent directory of `to` doesn't exist.
 abbrev pub WrongRename : List ℕ → List ℕ → Disk → ErrorKind → Type 0
 WrongRename from to d error = WrongName from d error ⊎ (((error ≡ IsADirectory) × (d.directories to ≡ true))
     ⊎ ((error ≡ NotFound) × (HasDirectory to d → ⊥)))
@@ -52,7 +52,7 @@ IsAfterStop d error = (d.stopped ≡ true) × (error ≡ Other)
 
 -- Why a call that changes nothing failed with this error:
 -- - `stopped`: the file system has stopped, and the error is `Other`.
--- - `wrong_argument`: an argument is wrong, and `wrong` says which, and that the error fits.
+-- - `wrong_argument`: an argument is wrong, and the error fits (`wrong`).
 -- - `no_memory`: memory ran out, and the error is `OutOfMemory`.
 pub data IsDeclined (wrong : Type 0) (d : Disk) (error : ErrorKind) : Type 0 where
   stopped : d.stopped ≡ true → error ≡ Other → IsDeclined wrong d error

@@ -1,5 +1,5 @@
--- How each call changes the disk, if it succeeds, and what it may leave if it fails. `old` is the disk before the call,
--- and `new` the disk after it. `left` is the disk of a failed call, before the failure or the stop is noted on it.
+-- How each call changes the disk if it succeeds, and what it may leave if it fails. `old` is the disk before the call,
+-- and `new` the disk after it. `left` is the disk of a failed call before the failure is counted or the stop is noted.
 use Rattle.std.specs.Prelude.{◌≡◌, ℕ, ◌+◌, ◌<◌, ◌≤◌, ◌⊎◌, Bool, true, false, cond, Option, Some, None, List, [], ◌∷◌, ◌++◌, length, slice_index, suc}
 use Rattle.std.specs.Map.{update}
 use Rattle.std.specs.Str.{bytes_eq}
@@ -51,7 +51,7 @@ renamed from to id d = record d {
 abbrev pub with_directory : List ℕ → Disk → Disk
 with_directory path d = record d { directories = λ q. cond (bytes_eq path q) true (d.directories q) }
 
--- the disk with other marks for which offsets of files are unreadable
+-- the disk with other marks; these say which offsets of files are unreadable
 abbrev pub with_marks : (ℕ → ℕ → Bool) → Disk → Disk
 with_marks marks d = record d { unreadable = marks }
 
@@ -74,8 +74,8 @@ abbrev pub at_stop : Disk → Disk
 at_stop d = record d { stopped = true }
 
 -- What a write of `bytes` at offset `at` may leave of the content `old` if it fails after some bytes. The old bytes
--- outside of its range are unchanged, and all others may be any. The file doesn't shrink, and doesn't grow beyond the
--- later of its old end and the write's end.
+-- outside of its range are unchanged, and all others may have any value. The file doesn't shrink, and doesn't grow
+-- beyond its old end or the write's end, whichever is later.
 pub record IsTorn (at : ℕ) (bytes old new : List ℕ) : Type 0 where
   pub outside : (place : ℕ) → place < length old → (place < at) ⊎ (at + length bytes ≤ place)
       → slice_index new place ≡ slice_index old place
@@ -129,16 +129,16 @@ pub record MakesDirectory (path : List ℕ) (old new : Disk) : Type 0 where
   pub apart : old.directories path ≡ false
   pub done : new ≡ with_directory path old
 
--- no argument of the call is wrong, with any error
+-- no argument of the call is wrong: `wrong` is true of no error
 abbrev pub IsRight : (ErrorKind → Type 0) → Type 0
 IsRight wrong = (error : ErrorKind) → wrong error → ⊥
 
--- Any error but `OutOfMemory`. A call at which the file system stops doesn't return that one. Callers take it to mean
--- that nothing was done and the call can be repeated.
+-- Any error but `OutOfMemory`. A call at which the file system stops doesn't return `OutOfMemory`: callers would infer
+-- that nothing was done and that the call can be repeated.
 abbrev pub IsStopKind : ErrorKind → Type 0
 IsStopKind error = error ≡ OutOfMemory → ⊥
 
--- The error of a call that was to fail with `kind`, if the file system stops at it. It is the same kind, but
+-- The file system stops at a call that was to fail with `kind`, and the call fails with `error`. This is `kind`, but
 -- `ResourceBusy` instead of `OutOfMemory`.
 pub record IsToldAtStop (kind error : ErrorKind) : Type 0 where
   pub stops : IsStopKind error
@@ -148,7 +148,7 @@ pub record IsToldAtStop (kind error : ErrorKind) : Type 0 where
 -- - `after_stop`: the file system had stopped before. Nothing changes, and the error is `Other`.
 -- - `wrong_argument`: the error says which argument is wrong. Nothing changes, and no failure is counted.
 -- - `failed`: no argument is wrong. A failure with this error is counted, and the call may be done in part.
--- - `stops`: the file system stops, not with `OutOfMemory`. With right arguments, a part or all may be done.
+-- - `stops`: the file system stops; the error isn't `OutOfMemory`. If no argument is wrong, a part or all may be done.
 pub data Refused (part done : Disk → Type 0) (wrong : ErrorKind
     → Type 0) (error : ErrorKind) (old new : Disk) : Type 0 where
   after_stop : old.stopped ≡ true → new ≡ old → error ≡ Other → Refused part done wrong error old new
@@ -159,8 +159,8 @@ pub data Refused (part done : Disk → Type 0) (wrong : ErrorKind
       → new ≡ at_stop left
       → Refused part done wrong error old new
 
--- What a call that is done in full or not at all may leave if it fails: the same disk. A sync is such a call, and so is
--- a rename.
+-- The disk that a failed call leaves if such a call is done in full or not at all: the same disk. Syncs and renames are
+-- such calls.
 abbrev pub Nothing : Disk → Disk → Type 0
 Nothing old left = left ≡ old
 

@@ -2,8 +2,8 @@
 use Rattle.std.specs.Prelude.{◌≡◌, ℕ, ◌+◌, ◌<◌, ◌≤◌, true, false}
 use Rattle.raft_log_fs.specs.Disk.{Disk}
 
--- Why a call on these files failed. The file system has stopped, a failure was counted during the call, or an offset of
--- one of them is unreadable. The contract of a failed read says more: the read asked for that offset.
+-- Why a call on these files failed. The file system has stopped, a failure was counted during the call, or one of the
+-- files has an unreadable offset. The contract of a failed read says more: the read asked for that offset.
 pub data HasCause (files : ℕ → Type 0) (old new : Disk) : Type 0 where
   stopped : new.stopped ≡ true → HasCause files old new
   counted_one : old.failures < new.failures → HasCause files old new

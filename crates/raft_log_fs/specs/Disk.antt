@@ -18,9 +18,9 @@ pub record File : Type 0 where
   pub synced : List ℕ
   pub changes : List Change
 
--- A file system. `names` maps each path to the number of its file. A number is never used again, so a handle keeps
--- its file. `unreadable` marks offsets of files, and writes and renames don't change it. `kinds` has the error kinds
--- of all counted failures, the latest first.
+-- A file system. `names` maps each path to the number of its file. The next new file gets the number `unused`. No
+-- number is used twice, so a handle keeps its file. `unreadable` marks offsets that can't be read; writes and renames
+-- don't change the marks. `failures` counts failures, and `kinds` has their error kinds, the latest first.
 pub record Disk : Type 0 where
   pub directories : List ℕ → Bool
   pub names : List ℕ → Option ℕ

@@ -61,7 +61,7 @@ abbrev pub Writes : Handle → ℕ → List ℕ → Disk → Disk → Type 0
 Writes handle offset bytes old new = Changes handle.file (after_change (Wrote offset bytes)) old new
 
 -- Writing `bytes` failed: the handle is wrong, a failure was counted, or the file system stopped. The bytes in the
--- write's range may be any, as `IsTorn` says.
+-- write's range may have any value, as `IsTorn` says.
 abbrev pub FailsToWrite : Handle → ℕ → List ℕ → ErrorKind → Disk → Disk → Type 0
 FailsToWrite handle offset bytes error old new =
     RefusedChange handle.file (Wrote offset bytes) (WrongWriter handle old) error old new

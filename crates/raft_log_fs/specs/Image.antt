@@ -22,9 +22,9 @@ end_of (Wrote at bytes) = at + length bytes
 end_of (ShortenedTo size) = 0
 end_of (GrewTo size) = size
 
--- `bytes` is what a crash may leave of the file. A synced byte that no unsynced change touches is kept. All other bytes
--- may be any, or be missing at the end. The bytes end at most at the largest of the synced size and the ends of the
--- changes.
+-- A crash may leave `bytes` of the file. A synced byte that no unsynced change touches is kept. All other bytes may
+-- have any value, or be missing at the end. `bytes` is at most as long as the synced content, or as the latest end of a
+-- change, whichever is larger.
 pub record IsLeft (file : File) (bytes : List ℕ) : Type 0 where
   pub kept : (place : ℕ) → place < length file.synced → All (Spares place) file.changes
       → (place < length bytes) × (slice_index bytes place ≡ slice_index file.synced place)
@@ -38,9 +38,9 @@ IsFileImage None (Some after) = ⊥
 IsFileImage (Some before) None = ⊥
 IsFileImage (Some before) (Some after) = (bytes : List ℕ) × (after ≡ at_rest bytes) × IsLeft before bytes
 
--- `image` is a crash image of `d`: what a crash at this moment may leave. Directories and paths are unchanged, and
--- each file has some content that the crash may leave. No offset is unreadable, and no failures are counted or
--- recorded.
+-- `image` is a crash image of `d`: what a crash at this moment may leave. Directories and paths are unchanged, and each
+-- file has some content that the crash may leave. The file system runs, no offset is unreadable, and no failures are
+-- counted or recorded.
 pub record IsImage (d image : Disk) : Type 0 where
   pub directories : image.directories ≡ d.directories
   pub names : image.names ≡ d.names
@@ -51,8 +51,8 @@ pub record IsImage (d image : Disk) : Type 0 where
   pub uncounted : image.failures ≡ 0
   pub untold : image.kinds ≡ []
 
--- The file is consistent. Its content is one that a crash may leave. Nothing that a crash may leave is as long as 2 ^
--- 63 bytes.
+-- The file is consistent. Its content is one that a crash may leave. Everything that a crash may leave is shorter than
+-- 2 ^ 63 bytes.
 pub record IsSoundFile (file : File) : Type 0 where
   pub stands : IsLeft file file.content
   pub short : length file.synced < file_limit

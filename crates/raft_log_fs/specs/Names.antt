@@ -19,8 +19,8 @@ pub record DeletionLeaves (path : List ℕ) (id : ℕ) (d : Disk) : Type 0 where
   pub names : (other : List ℕ) → (other ≡ path → ⊥) → (deleted path id d).names other ≡ d.names other
   pub files : (other : ℕ) → (other ≡ id → ⊥) → (deleted path id d).files other ≡ d.files other
 
--- After renaming, `to` is the file's path, and `from` isn't, unless they are equal. The file itself is unchanged.
--- Another file that had the path `to` is gone. No other path and no other file is changed.
+-- After renaming, `to` is the file's path. No file has the path `from`, unless the two paths are equal. The file itself
+-- is unchanged. Another file that had the path `to` is gone. No other path and no other file is changed.
 pub record RenamingLeaves (from to : List ℕ) (id : ℕ) (d : Disk) : Type 0 where
   pub named : (renamed from to id d).names to ≡ Some id
   pub unnamed : (from ≡ to → ⊥) → (renamed from to id d).names from ≡ None

@@ -29,7 +29,7 @@ abbrev pub AreReadable : ℕ → ℕ → ℕ → Disk → Type 0
 AreReadable id at count d = (place : ℕ) → at ≤ place → place < at + count → d.unreadable id place ≡ false
 
 -- Why a read of `count` bytes at offset `at` fails. After a stop, the error is `Other`. If the file was deleted, it is
--- `NotFound`. If an offset that the read asked for, within the file, is unreadable, it is `Other`.
+-- `NotFound`. If an offset in the read's range and within the file is unreadable, it is `Other`.
 pub data IsUnread (handle : Handle) (at count : ℕ) (d : Disk) (error : ErrorKind) : Type 0 where
   stopped : d.stopped ≡ true → error ≡ Other → IsUnread handle at count d error
   gone : d.stopped ≡ false → WrongHandle handle d error → IsUnread handle at count d error

@@ -1,8 +1,8 @@
--- Receipts of reads: how the receipt of several reads follows from those of each.
+-- Receipts of reads: how the receipt of several reads follows from the receipt of each read.
 use Rattle.std.specs.Prelude.{Bool, IsTrue}
 
--- A receipt collected further reads; `old` and `new` are whether it was honest before and is now. If it is honest now,
--- it was honest before them. If `truth` holds, the file system is truthful, and an honest receipt stays honest.
+-- A receipt collected further reads. `old` says whether it was honest before them, `new` whether it is honest now. If
+-- it is honest now, it was honest before. An honest receipt stays honest if the file system is truthful (`truth`).
 pub record Collects (truth : Type 0) (old new : Bool) : Type 0 where
   pub falls : IsTrue new → IsTrue old
   pub stays : truth → IsTrue old → IsTrue new

@@ -27,8 +27,8 @@ pub record TouchesOnlyNames (own : List ℕ → Type 0) (old new : Disk) : Type 
   pub files : (path : List ℕ) (id : ℕ) → (own path → ⊥) → old.names path ≡ Some id
       → new.files id ≡ old.files id
 
--- If a call changes only paths in `own`, whatever is true of a file at another path stays true. So calls on one
--- queue's files don't affect those of the other queue.
+-- If a call changes only paths in `own`, and `P` is true of a file at another path, then `P` stays true of it. So calls
+-- on one queue's files don't affect those of the other queue.
 abbrev pub OtherNamesStay : (List ℕ → Type 0) → (File → Type 0) → Type 0
 OtherNamesStay own P = (old new : Disk) (path : List ℕ) → TouchesOnlyNames own old new → (own path → ⊥)
     → HasNamed path P old → HasNamed path P new

@@ -17,9 +17,9 @@ use Rattle.raft_log_fs_memory.specs.Turns.{ArmedRefusalFell, ArmedPartFell, Arme
 
 -- Why a call failed.
 
--- If `result` is an error, a call that is done whole or not at all failed as `IsRefusedWhole` says. `wrong` gives the
--- errors of wrong arguments. If the call was done in spite of the error, it changed the disk by `done`, and the
--- unsynced changes are then those of `order`.
+-- `result` is returned by a call that is done whole or not at all. If it is an error, the call failed as
+-- `IsRefusedWhole` says. `wrong` gives the errors of wrong arguments. If the call was done in spite of the error, it
+-- changed the disk by `done`, and the unsynced changes are then those of `order`.
 abbrev pub RefusesWhole : {A : Type 0} → (Disk → ErrorKind → Type 0) → (Disk → Disk → Type 0)
     → (Kept → List (ℕ × Change)) → Result A ErrorKind → MemoryFileSystem → MemoryFileSystem → Type 0
 RefusesWhole wrong done order result old new =

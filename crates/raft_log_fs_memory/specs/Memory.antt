@@ -59,8 +59,8 @@ most_failures = 18446744073709551615
 abbrev pub failed_once : ErrorKind → Disk → Disk
 failed_once error d = cond (nat_lt (suc d.failures) most_failures) (counted error d) (at_stop d)
 
--- The error of a call that fails with one more failure of this kind, as in `failed_once`. It is `kind`. If the file
--- system stops instead, it is the error of a stop.
+-- The error of a call that fails with one more failure of this kind, as in `failed_once`. It is `kind`, or the error of
+-- a stop (`IsToldAtStop`) if the file system stops instead.
 abbrev pub IsToldOnce : ErrorKind → ErrorKind → Disk → Type 0
 IsToldOnce kind error d = ((suc d.failures < most_failures) × (error ≡ kind))
     ⊎ ((most_failures ≤ suc d.failures) × IsToldAtStop kind error)
@@ -70,8 +70,8 @@ abbrev pub without_named : Option ℕ → List (ℕ × Change) → List (ℕ × 
 without_named None changes = changes
 without_named (Some id) changes = without_file id changes
 
--- The unsynced changes after the file `id` was renamed to the path of the file `replaced`: those of `replaced` are
--- gone. If there is no file to rename, they are unchanged.
+-- The unsynced changes after the file `id` was renamed to the path of the file `replaced`. If this is another file, its
+-- changes are gone. If there is no file to rename, nothing changes.
 abbrev pub with_moved : Option ℕ → Option ℕ → List (ℕ × Change) → List (ℕ × Change)
 with_moved None replaced changes = changes
 with_moved (Some id) replaced changes = without_replaced id replaced changes

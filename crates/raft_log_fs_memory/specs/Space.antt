@@ -24,7 +24,7 @@ pub record ListsFiles (directory : List ℕ) (d : Disk) (names : List (List ℕ)
       → Contains names name
   pub once : (j k : ℕ) → j < k → k < length names → slice_index_or names j [] ≡ slice_index_or names k [] → ⊥
 
--- the total size of a directory's files in bytes
+-- `used` is the total size of a directory's files in bytes
 pub record HasUsed (directory : List ℕ) (d : Disk) (used : ℕ) : Type 0 where
   pub names : List (List ℕ)
   pub listed : ListsFiles directory d names
@@ -65,8 +65,8 @@ LacksSpace spaces id change d = (free : ℕ) × MayGrowBy spaces id d free × Gr
 abbrev pub HasSpace : (List ℕ → Option ℕ) → ℕ → Change → Disk → Type 0
 HasSpace spaces id change d = LacksSpace spaces id change d → ⊥
 
--- why there is no room for `change`: memory ran out, or the change ends at offset 2^63 or after, or too few bytes are
--- free
+-- why there is no room for `change`: `OutOfMemory`, or `StorageFull` if the change ends at offset 2^63 or after, or if
+-- too few bytes are free
 abbrev pub HasNoRoom : (List ℕ → Option ℕ) → ℕ → Change → Disk → ErrorKind → Type 0
 HasNoRoom spaces id change d error = (error ≡ OutOfMemory)
     ⊎ ((error ≡ StorageFull) × ((file_limit ≤ end_of change) ⊎ LacksSpace spaces id change d))

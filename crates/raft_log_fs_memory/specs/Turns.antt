@@ -1,6 +1,6 @@
 -- Failures that a test arms in a file system in memory, and how they make a changing call fail. A changing call is one
--- that changes names or files, or syncs. An armed failure is due at a call given by its number, counted from now on.
--- `old` is what there was before a call, `new` what there is after it, and `left` what a failed call leaves.
+-- that changes names or files, or syncs. A failure is armed for one of the coming changing calls; their numbers start
+-- at 1. `old` is what there was before a call, `new` what there is after it, and `left` what a failed call leaves.
 use Rattle.std.specs.Prelude.{◌≡◌, ℕ, ◌-◌, ◌⊎◌, Bool, true, false, cond, Option, Some, None, List, [], ◌∷◌, ◌++◌, Result}
 use Rattle.std.specs.Result.{MatchResult}
 use Rattle.std.specs.String.{string_bytes}
@@ -116,24 +116,24 @@ pub record StopsAfter (a : Armed) : Type 0 where
   pub falls : a.stop ≡ 1
   pub done : a.after ≡ true
 
--- An armed failure and no stop was due at this call, which returned `Other`. On the disk, the failure was counted, or
--- the file system stopped if the count was full; nothing else changed.
+-- An armed failure was due at this call, and no stop was. The call returned `Other`. On the disk, the failure was
+-- counted, or the file system stopped if the count was full; nothing else changed.
 pub record ArmedRefusalFell (error : ErrorKind) (old new : MemoryFileSystem) : Type 0 where
   pub falls : Contains (armed old).refusals 1
   pub no_stop : (armed old).stop ≡ 1 → ⊥
   pub kind : error ≡ Other
   pub left : disk_of new ≡ failed_once error (disk_of old)
 
--- A partial failure was due at this call, which isn't a write, and returned `Other`. On the disk, the failure was
--- counted, or the file system stopped if the count was full; nothing else changed.
+-- A partial failure was due at this call, which returned `Other`. On the disk, the failure was counted, or the file
+-- system stopped if the count was full; nothing else changed.
 pub record ArmedPartFell (error : ErrorKind) (old new : MemoryFileSystem) : Type 0 where
   pub count : ℕ
   pub falls : PartFalls count (armed old)
   pub kind : error ≡ Other
   pub left : disk_of new ≡ failed_once error (disk_of old)
 
--- A stop before the call was due at this call, which returned `Other`. The file system stopped, and nothing else
--- changed on its disk.
+-- At this call, a stop was due that comes before the call is done. The call returned `Other`. The file system stopped,
+-- and nothing else changed on its disk.
 pub record ArmedStopFell (error : ErrorKind) (old new : MemoryFileSystem) : Type 0 where
   pub falls : (armed old).stop ≡ 1
   pub undone : (armed old).after ≡ false
@@ -149,7 +149,7 @@ after_failure error k = record k { disk = failed_once error k.disk }
 abbrev pub after_stop : Kept → Kept
 after_stop k = record k { disk = at_stop k.disk }
 
--- Why a changing call failed, and what it left. In the last two cases a failure is counted as in `failed_once`:
+-- Why a changing call failed, and what it left. All cases but the first two are counted as in `failed_once`:
 -- - `uncounted`: the file system had stopped, and the error is `Other`; or an argument is wrong. Nothing changed.
 -- - `stop_fell`: a stop was due. `left_at_stop` says what it left.
 -- - `refusal_fell`, `part_fell`: an armed failure was due. A partial one left what `left_in_part` says.
@@ -182,8 +182,8 @@ pub record IsCallDone (done : Disk → Type 0) (changes : List (ℕ × Change)) 
   pub order : left.unsynced ≡ changes
 
 -- What a stop leaves of a call that is done whole or not at all. With a stop before the call (`false`), nothing was
--- done. With a stop after it, the call was done and returned `Other`. If memory ran out, it wasn't done and returned
--- `ResourceBusy`.
+-- done. With a stop after it (`true`), there are two cases. The call was done and returned `Other`; or memory ran out,
+-- and it wasn't done and returned `ResourceBusy`.
 abbrev pub LeftAtStop : Bool → (Disk → Type 0) → List (ℕ × Change) → Kept → ErrorKind → Kept → Type 0
 LeftAtStop false done order old error left = Untouched old error left
 LeftAtStop true done order old error left =
@@ -212,8 +212,8 @@ pub record IsFrontMade (id at : ℕ) (bytes : List ℕ) (count : ℕ) (old left 
   pub order : left.unsynced ≡ old.unsynced ++ (id, Wrote at (take count bytes)) ∷ []
 
 -- What a partial failure leaves of a change. A write wrote its first `count` bytes and returned `Other`. If there was
--- no room for the whole write, it wrote none, and the error is the reason. A truncation or growth wasn't made, and
--- returned `Other`.
+-- no room for the whole write, it wrote no byte, and the error is the reason (`IsToldOnce`). A truncation or growth
+-- wasn't made, and returned `Other`.
 abbrev pub LeftInPart : Type 0 → (ErrorKind → Type 0) → ℕ → Change → Kept → ℕ → ErrorKind → Kept → Type 0
 LeftInPart space no_room id (Wrote at bytes) old count error left =
     ((error ≡ Other) × space × IsFrontMade id at bytes count old left)
@@ -247,7 +247,7 @@ IsRefusedChange id change wrong error old new =
     (NoRoomFor id change old) error old new
 
 -- How a call that didn't succeed ended; `done` is the result of its work, and `kind_of` the kind of an error:
--- - `at_the_stop`: the file system stops at it. The error is `Other` if the work was done, else the one of
+-- - `at_the_stop`: the file system stops at this call. The error is `Other` if the work was done, else the one of
 --   `IsToldAtStop`.
 -- - `not_made`: the file system doesn't stop. The work wasn't done, and a failure is counted as in `failed_once`.
 pub data IsEnded {E : Type 0} (kind_of : E → ErrorKind) (stops : Bool) (done : Result (Unit {0}) E)

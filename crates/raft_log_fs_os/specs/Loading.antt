@@ -1,4 +1,4 @@
--- The file system after the directories of the operating system were opened.
+-- A file system over directories of the operating system, right after it was opened.
 use Rattle.std.specs.Prelude.{◌≡◌, ℕ, false, Some, List, []}
 use Rattle.std.proofs.Props.{props}
 use Rattle.raft_log_fs.proofs.Props.{File-set}

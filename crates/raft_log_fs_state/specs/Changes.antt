@@ -18,7 +18,7 @@ with_rest (GrewTo size) rest = GrewTo (size + length rest)
 abbrev pub IsLanded : disk.Change → disk.Change → Type 0
 IsLanded landed asked = (rest : List ℕ) × (asked ≡ with_rest landed rest)
 
--- a stored change as a change of a disk; a stored write doesn't keep the bytes that it wrote, so `bytes` gives them
+-- a stored change, as far as it was made; a stored write doesn't keep the bytes that it wrote, so `bytes` gives them
 abbrev pub change_of : Change → List ℕ → disk.Change
 change_of (Write offset rest) bytes = Wrote offset bytes
 change_of (Shortening size) bytes = ShortenedTo size

@@ -1,5 +1,5 @@
--- The files that a file system in memory stores, and their content, synced bytes and unsynced changes. A file's node
--- number is given once, by the disk. A change's stamp is the number of changes, of any file, that were made before it.
+-- The files that a file system in memory stores: their content, synced bytes and unsynced changes. The disk gives each
+-- node number to one file only. A change's stamp is the number of changes, of any file, that were made before it.
 use Rattle.std.specs.Prelude.{◌≡◌, ℕ, ◌-◌, ◌<◌, min, length, take, drop, List, [], ◌∷◌, ◌++◌, Option, Some, None}
 use Rattle.std.specs.Map.{update}
 use Rattle.std.specs.List.{All}
@@ -19,8 +19,8 @@ pub record Held : Type 0 where
   pub synced : List ℕ
   pub changes : List Made
 
--- The content before these changes, computed from `content`, the one after them. The changes are listed oldest first,
--- and undone from the last one back.
+-- The content before these changes, if `content` is the content after them. The changes are listed oldest first, and
+-- undone from the last one back.
 abbrev pub before : List Stamped → List ℕ → List ℕ
 before [] content = content
 before (u ∷ us) content = restored u.former (before us content)
@@ -101,7 +101,7 @@ changes_in made = map (λ (m : Made). with_rest m.change m.rest) made
 abbrev pub landed_in : List Made → List Change
 landed_in made = map (λ (m : Made). m.change) made
 
--- each change ends below offset 2^63, where a failed write counts with all bytes that were passed in
+-- each change ends below offset 2^63; a failed write counts with all bytes that were passed in
 abbrev pub AreShort : List Made → Type 0
 AreShort made = All (λ c. end_of c < file_limit) (changes_in made)
 

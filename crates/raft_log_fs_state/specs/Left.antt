@@ -23,8 +23,8 @@ left_as other (Wrote at bytes) old = overwritten at (take (length bytes) other) 
 left_as other (ShortenedTo size) old = changed (ShortenedTo size) old
 left_as other (GrewTo size) old = changed (GrewTo size) old
 
--- `old` with what the chosen piece keeps of `change`; if the list of pieces is too short, there is none, and the change
--- is lost
+-- `old` with what the chosen piece keeps of `change`; without a piece, because the list of pieces is too short, the
+-- change is lost
 abbrev pub left_as_said : Option Piece → disk.Change → List ℕ → List ℕ
 left_as_said None change old = old
 left_as_said (Some Keep) change old = changed change old

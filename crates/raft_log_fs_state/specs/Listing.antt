@@ -14,8 +14,8 @@ pub record IsChild (directory path : List ℕ) (node : Node) (name : List ℕ) :
   pub plain : IsPlain name
   pub file : file_named (Some node) ≡ None → ⊥
 
--- `told` is the name in `directory` of the file at `path`, or `None` if its `node` is no file or `path` isn't directly
--- in `directory`
+-- `told` is the name that the file at `path` has in `directory`. It is `None` if the node at `path` is no file, or if
+-- `path` isn't directly in `directory`.
 abbrev pub TellsChild : List ℕ → List ℕ → Node → Option (Bor (List ℕ)) → Type 0
 TellsChild directory path node told =
     MatchOption told ((name : List ℕ) → IsChild directory path node name → ⊥) (λ name.

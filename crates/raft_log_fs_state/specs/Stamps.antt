@@ -1,5 +1,5 @@
--- The stamps of changes. A change's stamp is the number of changes, of any file, that were made before it. What a crash
--- leaves of a change depends on its position among the unsynced ones, which the stamps give.
+-- The stamps of changes. A change's stamp is the number of changes, of any file, that were made before it. The stamps
+-- give each change's position among the unsynced ones. What a crash leaves of a change depends on this position.
 use Rattle.std.specs.Prelude.{ℕ, suc, zero, Option, Some, None, List, [], ◌∷◌, ◌++◌, length}
 use Rattle.std.specs.List.{filter}
 use Rattle.std.proofs.Common.{map, nat_lt}

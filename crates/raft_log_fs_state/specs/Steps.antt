@@ -30,7 +30,7 @@ pub record Makes (id : ℕ) (change : Change) (rest : List ℕ) (old new : Stora
   pub order : unsynced_of new ≡ unsynced_of old ++ (id, change) ∷ []
 
 -- A growth of file `id` to `size` bytes failed and added no zero. If the file exists, its content is the same, and its
--- unsynced changes end with the growth that was asked for. The list of all files' changes ends with one that adds
+-- unsynced changes end with the growth that was asked for. The list of all files' changes ends with a growth that adds
 -- nothing.
 pub record NotesGrowth (id size : ℕ) (old new : Storage) : Type 0 where
   pub contents : (file : File) → (contents_of old).files id ≡ Some file

@@ -57,7 +57,7 @@ contents_of storage = record {
 abbrev pub unsynced_of : Storage → List (ℕ × Change)
 unsynced_of storage = in_order storage.made (held_of storage.files.items) (vec_len storage.files)
 
--- the disk is sound; the stamps of each file's changes rise, and no two files share a stamp
+-- the disk is consistent; the stamps of each file's changes rise, and no two files share a stamp
 pub record IsStorageSound (storage : Storage) : Type 0 where
   pub sound : IsSound (contents_of storage)
   pub stamped : AreStamped storage.made (held_of storage.files.items)

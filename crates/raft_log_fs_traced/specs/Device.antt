@@ -85,13 +85,13 @@ changed_by (Undone file change) d = with_next (d.files file) (undone_change chan
 changed_by (WroteBack file at bytes) d = d
 changed_by (Synced file) d = with_next (d.files file) flushed file d
 
--- The device after a call that changes names. Later calls see the change at once. The directories `homes` have to be
--- synced now; a crash keeps the change only once no directory has to be synced any more.
+-- The device after a call that changes names. Later calls see the change at once. Now the directories `homes` have to
+-- be synced, too. A crash keeps the change only once no directory has to be synced any more.
 abbrev pub with_names : DeviceCall → List (List ℕ) → Held → Held
 with_names call homes held =
     record { seen = changed_by call held.seen; kept = held.kept; owed = homes ++ held.owed }
 
--- the device after a call that changes a file's bytes, or syncs them: both calls and a crash see the change
+-- the device after a call that changes a file's bytes or syncs them: both disks change, `seen` and `kept`
 abbrev pub with_bytes : DeviceCall → Held → Held
 with_bytes call held =
     record { seen = changed_by call held.seen; kept = changed_by call held.kept; owed = held.owed }
@@ -117,7 +117,7 @@ after (Undone file change) held = with_bytes (Undone file change) held
 after (WroteBack file at bytes) held = held
 after (Synced file) held = with_bytes (Synced file) held
 
--- the device after these calls, the last of which comes first; `found` is the disk at its opening
+-- the device after these calls, which are listed from the last one back; `found` is the disk at the device's opening
 abbrev pub replayed : Disk → List DeviceCall → Held
 replayed found [] = settled found
 replayed found (call ∷ earlier) = after call (replayed found earlier)
@@ -144,8 +144,8 @@ attempted file change (attempt.Undone kind) = Undone file change
 abbrev pub MayBeMade : DeviceCall → Trace → Trace → Type 0
 MayBeMade call old new = (new ≡ old) ⊎ (new ≡ noted call old)
 
--- Successful calls that change the disk by `next`. If no directory had to be synced before them, none has to be after,
--- and both calls and a crash see the change.
+-- Successful calls that change the disk by `next`. If no directory had to be synced before them, none has to be after.
+-- Then later calls see the changed disk, and a crash leaves it.
 abbrev pub Does : (Disk → Disk) → Trace → Trace → Type 0
 Does next old new = (d : Disk) → held_by old ≡ settled d → held_by new ≡ settled (next d)
 

@@ -23,7 +23,8 @@ abbrev pub FailsOnce : ErrorKind → ErrorKind → Disk → Disk → Type 0
 FailsOnce kind error old new =
     ((error ≡ kind) × (new ≡ counted error old)) ⊎ (IsToldAtStop kind error × (new ≡ at_stop old))
 
--- what a call returns after a device call: success if that succeeded; otherwise the error of a stop
+-- `result` is what a call returns after the device call `made`: the same value if that succeeded, otherwise the error
+-- of a stop
 abbrev pub IsToldOf : {T : Type 0} → Result T ErrorKind → Result T ErrorKind → Type 0
 IsToldOf made result =
     MatchResult made (λ v. result ≡ Ok v) (λ kind. IfErr result (IsToldAtStop kind) × OnOk result ⊥)
@@ -36,8 +37,8 @@ LacksDirectory path d error = IsAfterStop d error ⊎ ((d.stopped ≡ false) × 
 abbrev pub LacksFile : Handle → Disk → ErrorKind → Type 0
 LacksFile handle d error = IsAfterStop d error ⊎ ((d.stopped ≡ false) × WrongHandle handle d error)
 
--- The error of a call that writes, if the file system has stopped; or if it runs, and the handle's file was deleted or
--- is open only for reading.
+-- The error of a call that writes. The file system has stopped, or it runs and the handle's file was deleted or is open
+-- only for reading.
 abbrev pub LacksWriter : Handle → Disk → ErrorKind → Type 0
 LacksWriter handle d error = IsAfterStop d error ⊎ ((d.stopped ≡ false) × WrongWriter handle d error)
 

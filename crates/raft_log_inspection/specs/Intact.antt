@@ -32,8 +32,8 @@ id_of queue file = record { queue = queue; seq = file.seq }
 abbrev pub AreZeros : List ℕ → Type 0
 AreZeros bytes = All (λ byte. byte ≡ 0) bytes
 
--- A file that was read up to `end` (`None` if it has no header) is undamaged. Either no fault was found; or it is its
--- queue's last file (`last`), whose space is allocated ahead of the records, and it has only zeros from `end` on.
+-- A file that was read up to `end` (`None` if it has no header) is undamaged. Either no fault was found, or the file is
+-- its queue's last one (`last`) and has only zeros from `end` on: space that was allocated ahead of the records.
 abbrev pub IsUndamaged : Bool → List ℕ → Option ℕ → Option Error → Type 0
 IsUndamaged last content end fault =
     (fault ≡ None) ⊎ ((last ≡ true) × AreZeros (drop (unwrap_or end 0) content))

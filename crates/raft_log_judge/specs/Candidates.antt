@@ -1,6 +1,5 @@
--- The logs that the judge keeps. A candidate is a log that may explain the answers so far, as a list of its batches.
--- The first `durable` of them are durable, and the others are pending. Its standing says whether an engine has it
--- open.
+-- The logs that the judge keeps. A candidate lists the batches of a log that may explain the answers so far. The first
+-- `durable` of them are durable, and the others are pending. Its standing says whether an engine has the log open.
 use Rattle.std.specs.Prelude.{◌≡◌, ◌++◌, Bool, true, false, List, [], ◌∷◌, drop, map, take}
 use Rattle.raft_log_model_laws.specs.Groups.{taken}
 use Rattle.raft_log_world.specs.declared.event.Answer.{Answer}

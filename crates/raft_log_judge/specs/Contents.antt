@@ -1,4 +1,4 @@
--- What the judge checks of the contents after batches.
+-- What the judge checks of the contents that batches leave: which entries and keys are there.
 use Rattle.std.specs.Prelude.{◌≡◌, ◌≤◌, ◌<◌, ◌+◌, ◌⊎◌, ◌&&◌, ℕ, true, List, [], ◌∷◌, Option, Some, None, length, map, bytes_eq, is_some}
 use Rattle.std.specs.Map.{lookup}
 use Rattle.raft_log_model_laws.specs.Item.{Item, Tagged}
@@ -38,7 +38,7 @@ abbrev pub AllGone : Contents → ℕ → ℕ → Option ℕ → List (Tagged (L
 AllGone m group begin end [] = Unit {0}
 AllGone m group begin end (x ∷ xs) = (x.group ≡ group → IsGone m group begin end x.item) × AllGone m group begin end xs
 
--- If key `k` is at least `start` and below `end`, it has no value in the contents `m`, or one of the pairs has it.
+-- If key `k` is at least `start` and below `end`, it has no value in the contents `m`, or one of `pairs` has this key.
 -- Either bound may be missing.
 abbrev pub IsListed : Contents → ℕ → Option (List ℕ) → Option (List ℕ) → List (List ℕ × List ℕ) → List ℕ → Type 0
 IsListed m group start end pairs k = is_from start k && is_below end k ≡ true

@@ -1,4 +1,4 @@
--- Whether a slot of a log has some bytes, or none, decided change by change.
+-- Whether a slot of a log has certain bytes, or nothing, after batches: computed from one change after another.
 use Rattle.std.specs.Prelude.{◌-◌, ◌==◌, ◌||◌, ℕ, Bool, true, false, List, [], ◌∷◌, Option, Some, None, if◌then◌else◌, bytes_eq, length, map, nat_lt, slice_get}
 use Rattle.raft_log_model_laws.specs.Item.{Item, Tagged}
 use Rattle.raft_log_model_laws.specs.Item.Item.{Run, Clean, Compact, Put, Del}

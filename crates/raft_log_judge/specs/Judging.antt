@@ -1,4 +1,4 @@
--- What the judge decides.
+-- What the judge decides: whether the model log explains the answers to a list of events.
 use Rattle.std.specs.Prelude.{List, None}
 use Rattle.raft_log_world.specs.declared.event.Answer.{Answer}
 use Rattle.raft_log_world.specs.declared.event.Event.{Event}

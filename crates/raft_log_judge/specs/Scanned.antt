@@ -1,4 +1,4 @@
--- Pairs that a scan returned.
+-- Pairs of a key and its value that a scan returned: the order of their keys, and whether the contents have them.
 use Rattle.std.specs.Prelude.{◌≡◌, ◌&&◌, ℕ, true, List, [], ◌∷◌, Option, Some}
 use Rattle.std.specs.Cmp.Lexicographic.{slice_cmp}
 use Rattle.std.specs.List.{AllByRecursion}

@@ -117,7 +117,7 @@ batch_of says (Serve (Write batch sync)) = says batch
 batch_of says (Serve (Compact group index)) = compacts group index
 batch_of says event = Plain []
 
--- a read of the contents `m`, as this event asks, returns this answer
+-- the event is a read, and this answer is what the read returns if the contents are `m`
 abbrev pub IsRead : {B C : Type 0} → Contents → Event B C → Answer → Type 0
 IsRead m (Serve (Get group key)) (Found value) = m group (Key key.items) ≡ option_map Value (bytes_of value)
 IsRead m (Serve (GetEntry group index)) (Found entry) = m group (Index index) ≡ option_map Entry (bytes_of entry)
@@ -129,8 +129,8 @@ IsRead m (Serve (Scan group start end)) (Keys pairs) =
     Scans m group (bytes_of start) (bytes_of end) (pairs_of pairs.items)
 IsRead m event answer = ⊥
 
--- How `view` becomes `next` by an outcome. `read` says that a read's answer is right for the view. If a batch is added
--- without a sync, a crash may leave the contents with it, or what it might leave before.
+-- How `view` becomes `next` by an outcome. `read` says that a read's answer is right for the view. After a batch is
+-- added without a sync, a crash may leave all batches with this one, or what a crash could leave before it.
 abbrev pub Turned : Outcome → BatchRecord → Type 0 → View → View → Type 0
 Turned Never batch read view next = ⊥
 Turned Reads batch read view next = read × (next ≡ view)

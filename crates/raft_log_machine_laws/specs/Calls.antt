@@ -1,6 +1,6 @@
--- What a call of a pipe does to the numbered files of its queue; `s` is the pipe's state before it, and `t` after it.
--- `ties s f`: a running pipe in state `s` may have the files `f`. `allows s f`: `f` allow each image that a crash may
--- leave. Quiet events are syncs, rotations, and losses of files below the live range.
+-- What a call of a pipe does to the numbered files of its queue; `s` is the pipe's state before the call, and `t` after
+-- it. `ties s f`: a running pipe in state `s` may have the files `f`. `allows s f`: `f` allow each image that a crash
+-- may leave. Quiet events are syncs, rotations, and losses of files below the live range.
 use Rattle.std.specs.Prelude.{◌≡◌, ℕ, ◌⊎◌, List, [], ◌++◌}
 use Rattle.raft_log_model_laws.specs.Item.{Record, Tagged}
 use Rattle.raft_log_model_laws.specs.Groups.{Map, appended, directory_meaning}
@@ -53,8 +53,8 @@ abbrev pub LeavesOut : {S E V : Type 0} → (S → Files E V → Type 0) → Whi
 LeavesOut {S} {E} {V} ties which s t =
     (f : Files E V) → ties s f → (a : MovedIn which f) × ties t (put which f a.from a.queue)
 
--- The pipe fails, after some quiet events. The files then allow each image that a crash may leave, either with the
--- record or without it.
+-- The pipe fails, after some quiet events. Then the files with the record, or those without it, allow each image that a
+-- crash may leave.
 abbrev pub MayAppend : {S E V : Type 0} → (S → Files E V → Type 0) → (S → Files E V → Type 0) → Which
     → Record E V → S → S → Type 0
 MayAppend {S} {E} {V} ties allows which y s t =
@@ -67,19 +67,19 @@ abbrev pub Syncs : {S E V : Type 0} → (S → Files E V → Type 0) → Which �
 Syncs {S} {E} {V} ties which s t =
     (f : Files E V) → ties s f → ties t (put which f (from_at which f) (settled_files (queue_at which f)))
 
--- nothing in this queue is pending any more, after some quiet events: a sync, a rotation, or a sync after a truncation
+-- after some quiet events, such as a sync or a rotation, nothing in this queue is pending any more
 abbrev pub Settles : {S E V : Type 0} → (S → Files E V → Type 0) → Which → S → S → Type 0
 Settles {S} {E} {V} ties which s t =
     (f : Files E V) → ties s f
     → (a : MovedIn which f) × (a.queue.pending ≡ []) × ties t (put which f a.from a.queue)
 
--- the pipe fails, and the files that it had before allow each image that a crash may leave then
+-- the pipe fails; after that, the files that it had before still allow each image that a crash may leave
 abbrev pub FailsWhole : {S E V : Type 0} → (S → Files E V → Type 0) → (S → Files E V → Type 0) → S → S
     → Type 0
 FailsWhole {S} {E} {V} ties allows s t = (f : Files E V) → ties s f → allows t f
 
--- Files leave the live range of this queue at its beginning, and some quiet events may follow. These files, maybe none,
--- have numbers below `n`. `become t f`: the pipe may have the files `f` after the call.
+-- Some files, maybe none, leave the live range of this queue at its beginning. All of them have numbers below `n`.
+-- Quiet events may follow. `become t f`: the pipe may have the files `f` after the call.
 abbrev pub Raises : {S E V : Type 0} → (S → Files E V → Type 0) → (S → Files E V → Type 0) → Which → ℕ → S → S
     → Type 0
 Raises {S} {E} {V} ties become which n s t =
@@ -107,7 +107,7 @@ read_files q r =
 abbrev pub records_read : {E V : Type 0} → (q : FileQueue E V) → ReadAgain q → List (Record E V)
 records_read q r = records_of r.again ++ ((queue_of q).live ++ r.kept)
 
--- view `v` is built from these records of both queues, which are now in files `f`
+-- view `v` is built from these records of both queues, and its noted files are right for the files `f`
 pub record IsMadeOf {E V : Type 0} (v : View E V) (rewrite append : List (Record E V)) (f : Files E V)
     : Type 0 where
   pub map : v.map ≡ directory_meaning rewrite append

@@ -58,9 +58,9 @@ IsRising [] = Unit {0}
 IsRising (f ∷ []) = Unit {0}
 IsRising (f ∷ g ∷ fs) = (f.number < g.number) × IsRising (g ∷ fs)
 
--- A recovery can read both queues, from every file at which it may start, and for every prefix of the pending records.
--- File numbers rise, no run leaves a hole, and no record comes between those of an atomic group of Rewrite. The files
--- after the last gap are numbered from `n` on in Rewrite's files `r`, and from `k` on in Append's `a`.
+-- A recovery can read both queues from every file at which it may start, whatever prefix of the pending records a crash
+-- kept. File numbers rise, no run leaves a hole, and no record comes between those of an atomic group of Rewrite. The
+-- files after the last gap are numbered from `n` on in Rewrite's files `r`, and from `k` on in Append's `a`.
 pub record ReplaysInFiles {E V : Type 0} (n : ℕ) (r : FileQueue E V) (k : ℕ) (a : FileQueue E V)
     : Type 0 where
   pub append : (kept lost : List (Record E V)) → kept ++ lost ≡ a.pending
@@ -96,8 +96,8 @@ pub record CanBeOpened {E V : Type 0} (d : Directory E V) (r_kept r_lost a_kept 
   pub rewrite : span opened.rewrite [] ≡ r_files
   pub append : span opened.append [] ≡ a_files
 
--- After every crash of directory `d`, each choice of files that a recovery may read can be opened, for every prefix of
--- the pending records. The recovery reads Rewrite from number `s` on, and Append from number `t` on.
+-- A crash of directory `d` may keep any prefix of each queue's pending records. An open can then read each choice of
+-- files that a recovery may read: Rewrite's from number `s` on, and Append's from number `t` on.
 abbrev pub OpensInFiles : {E V : Type 0} → Directory E V → Type 0
 OpensInFiles {E} {V} d =
     (r_kept r_lost a_kept a_lost : List (Record E V)) → r_kept ++ r_lost ≡ d.rewrite.pending

@@ -8,14 +8,14 @@ use Rattle.raft_log_machine_laws.specs.Files.{LogFile, IsRead, records_of}
 use Rattle.raft_log_machine_laws.specs.Model.{Files}
 
 -- How the file systems `D` are read:
--- - `leaves`: a crash of the first may leave the second as its image, without CRC collisions;
+-- - `leaves`: a crash of the first file system may leave the second one as its image, without CRC collisions;
 -- - `rewrite`, `append`: a recovery may read these files of the queue, from the file with this number on.
 pub record Readings (D E V : Type 0) : Type 1 where
   pub leaves : D → D → Type 0
   pub rewrite : D → ℕ → List (LogFile E V) → Type 0
   pub append : D → ℕ → List (LogFile E V) → Type 0
 
--- The image may be one of files `f`. It kept a prefix of each queue's pending records. Whatever a recovery reads from
+-- Files `f` allow the image. It kept a prefix of each queue's pending records. Whatever files a recovery may read from
 -- the image, it may read from `f` with these records.
 pub record IsAllowed {D E V : Type 0} (r : Readings D E V) (f : Files E V) (image : D) : Type 0 where
   pub rewrite_kept : List (Record E V)
@@ -69,7 +69,7 @@ pub record ReadsNothing {D E V : Type 0} (r : Readings D E V) (image : D) : Type
   pub append : (s : ℕ) (files : List (LogFile E V)) → r.append image s files
       → (s ≡ 1) × (files ≡ empty_file ∷ [])
 
--- A crash of file system `d` may leave `d` itself. From each image that it may leave, a recovery reads nothing that it
--- may not read from `d`. This is so after a sync.
+-- A crash of file system `d` may leave `d` itself. From each image that such a crash may leave, a recovery reads
+-- nothing that it may not read from `d`.
 abbrev pub IsOwnImage : {D E V : Type 0} → Readings D E V → D → Type 0
 IsOwnImage {D} r d = r.leaves d d × ((image : D) → r.leaves d image → ReadsAsPartOf r image d)

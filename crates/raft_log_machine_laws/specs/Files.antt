@@ -1,4 +1,4 @@
--- The numbered files of a queue, at which of them a recovery may start, and what may happen to them.
+-- The numbered files of a queue: at which of them a recovery may start, and what may happen to them.
 use Rattle.std.specs.Prelude.{◌≡◌, ℕ, ◌+◌, ◌<◌, ◌≤◌, List, [], ◌∷◌, ◌++◌, length, take}
 use Rattle.raft_log_model_laws.specs.Item.{Record}
 use Rattle.raft_log_model_laws.specs.Meaning.{Slot}
@@ -14,7 +14,7 @@ pub record LogFile (E V : Type 0) : Type 0 where
 pub record FileQueue (E V : Type 0) : Type 0 where
   -- files before a gap in the numbers, which no recovery reads
   pub behind : List (LogFile E V)
-  -- files below the live range that are still on disk, without a gap up to it, as recycled ones are
+  -- files below the live range that are still on disk, such as recycled ones, without a gap up to the live range
   pub gone : List (LogFile E V)
   -- the live range: its files before the active one, and the active file's number, synced records and pending records
   pub full : List (LogFile E V)
@@ -78,7 +78,8 @@ store_of r a = record { rewrite = queue_of r; append = queue_of a }
 
 -- A crash of Rewrite's files `r` and Append's `a` loses at most a suffix of the pending `batches`. The prefixes of
 -- pending records that it leaves determine a number `count`. From every file at which it may start, a recovery then
--- gets map `m` after the first `count` batches. Files after the last gap are numbered from `n` and `k` on.
+-- gets map `m` after the first `count` batches. Rewrite's files after the last gap are numbered from `n` on, and
+-- Append's from `k` on.
 abbrev pub SurvivesInFiles : {E V : Type 0} → ℕ → FileQueue E V → ℕ → FileQueue E V → Map E V
     → List (Record E V) → Type 0
 SurvivesInFiles {E} {V} n r k a m batches =
@@ -99,10 +100,10 @@ pub data FileEvent (E V : Type 0) : Type 0 where
   Rotate : FileEvent E V
   -- the files `out` leave the live range at its beginning, and the files `stay` stay
   Raise : (out stay : List (LogFile E V)) → FileEvent E V
-  -- a file below the live range is deleted or renamed; the files before it are before a gap then
+  -- a file below the live range is deleted or renamed, so a gap now separates the files before it from the later ones
   Lose : (before : List (LogFile E V)) (file : LogFile E V) (rest : List (LogFile E V)) → FileEvent E V
-  -- an open reads an image that kept these of the pending records: the files `again` below the live range, and the
-  -- live range
+  -- An open reads an image that kept the records `kept` of the pending ones. It reads the live range, and of the files
+  -- below it `again`, but not `below`.
   Read : (below again : List (LogFile E V)) (kept : List (Record E V)) → FileEvent E V
 
 -- the event may happen to files `q`, and changes them into `p`
@@ -123,7 +124,7 @@ FileStep (Read below again kept) q p =
     (below ++ again ≡ q.gone)
     × (p ≡ record q { gone = below; full = again ++ q.full; synced = q.synced ++ kept; pending = [] })
 
--- the number of the first file after the last gap, after this event; before it, that number is `n`
+-- after this event, the number of the first file after the last gap; before the event, it was `n`
 abbrev pub numbered_from : {E V : Type 0} → ℕ → FileEvent E V → ℕ
 numbered_from n (Lose before file rest) = n + (length before + 1)
 numbered_from n _ = n

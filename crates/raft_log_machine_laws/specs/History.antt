@@ -23,6 +23,6 @@ abbrev pub history_from : {E V : Type 0} → History E V → List (Event E V) �
 history_from h [] = h
 history_from h (e ∷ es) = history_from (happened h e) es
 
--- the history after these events, starting with a new directory
+-- the history of a new directory after these events
 abbrev pub history : {E V : Type 0} → List (Event E V) → History E V
 history es = history_from (record { synced = []; pending = [] }) es

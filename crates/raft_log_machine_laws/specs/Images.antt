@@ -1,5 +1,5 @@
--- In each image that a crash may leave, the entries of each raft group are one run. This file also defines what a crash
--- and the recovery after it may choose.
+-- Each raft group's entries as one run, in each image that a crash may leave. Also what a crash and the recovery after
+-- it may choose.
 use Rattle.std.specs.Prelude.{◌≡◌, ℕ, ◌<◌, ◌≤◌, List, ◌++◌, Option, Some, None}
 use Rattle.raft_log_model_laws.specs.Item.{Record}
 use Rattle.raft_log_model_laws.specs.Meaning.{Slot, Content}

@@ -42,8 +42,8 @@ pub record Stands {E V : Type 0} (v : View E V) (f : Files E V) (m : Map E V) (p
   pub noted : AreNoted v.whereabouts v.noted f.append
   pub noted_in_rewrite : AreNotedInRewrite v.map v.whereabouts v.noted_in_rewrite f.rewrite
 
--- The view is still true after quiet events of Append, which change its files into `a`. A prefix of the pending batches
--- is now synced.
+-- The view is still true after quiet events (`IsQuiet`) changed Append's files into `a`. A prefix of the pending
+-- batches is now synced.
 pub record Follows {E V : Type 0} (v : View E V) (f : Files E V) (m : Map E V) (pending : List (Record E V))
     (a : Moved f.append_from f.append) : Type 0 where
   pub done : List (Record E V)

@@ -35,7 +35,7 @@ pub record Machine (E V : Type 0) : Type 0 where
   pub store : Store E V
   -- the map of Append's synced batches
   pub map : Map E V
-  -- where each entry and value of a raft group is stored, also of pending batches
+  -- where each entry and value of a raft group is stored, those of pending batches included
   pub whereabouts : ℕ → Whereabouts
   -- the engine has failed: the whereabouts may be wrong until the directory is opened again
   pub failed : Bool
@@ -44,8 +44,8 @@ pub record Machine (E V : Type 0) : Type 0 where
 pub data Event (E V : Type 0) : Type 0 where
   -- a batch is appended to Append
   Take : Record E V → Event E V
-  -- all pending records of a queue are synced: by a sync, by a rotation, or after a failed write was truncated and
-  -- synced
+  -- all pending records of a queue are synced: by a sync, by a rotation, or by the sync after a failed write was
+  -- truncated
   SyncAppend : Event E V
   SyncRewrite : Event E V
   -- a plain record is appended to Rewrite: tombstones, copies of Append's entries and keys, or copies of what Rewrite
@@ -79,7 +79,7 @@ pub record IsJoined {E V : Type 0} (parts items : List (Item E V)) : Type 0 wher
   pub same_words : (s : Slot) → says s parts ≡ says s items
   pub no_more_holes : (w : Window) → NoHole w items → NoHole w parts
 
--- This event may happen to machine `w`, and changes it into `v`. Its conditions on raft groups are stated with their
+-- This event may happen to machine `w`, and changes it into `v`. Its conditions on a raft group are about the group's
 -- whereabouts. While batches are pending in Append, Rewrite takes no plain record and no end of an atomic group.
 abbrev pub Step : {E V : Type 0} → Event E V → Machine E V → Machine E V → Type 0
 Step (Take y) w v =
@@ -156,8 +156,8 @@ abbrev pub Steps : {E V : Type 0} → Machine E V → List (Event E V) → Machi
 Steps w [] v = v ≡ w
 Steps {E} {V} w (e ∷ es) v = (next : Machine E V) × Step e w next × Steps next es v
 
--- what the records of each queue's live range, and all records of Rewrite that may be read, do to each slot of raft
--- group `g`
+-- what records do to each slot of raft group `g`: all records of Rewrite that a recovery may read, those of Rewrite's
+-- live range, and those of Append's
 abbrev pub said_of : {E V : Type 0} → ℕ → Store E V → SaysOfSlot E V
 said_of g q = record {
   lowest = λ s. says s (rewritten g (all_records q.rewrite));

@@ -9,16 +9,16 @@ use Rattle.raft_log_machine_laws.specs.Replay.{IsReplayable}
 use Rattle.raft_log_machine_laws.specs.Images.{HasRuns}
 use Rattle.raft_log_machine_laws.specs.Fresh.{nothing_stands, nowhere}
 
--- The files of both queues. After the last gap in its numbers, Rewrite's first file has the number `rewrite_from`, and
--- Append's has `append_from`.
+-- The files of both queues. `rewrite_from` is the number of Rewrite's first file after the last gap in its file
+-- numbers. `append_from` is that of Append's.
 pub record Files (E V : Type 0) : Type 0 where
   pub rewrite : FileQueue E V
   pub rewrite_from : ℕ
   pub append : FileQueue E V
   pub append_from : ℕ
 
--- The files, the map of their synced batches, and in which queue each entry and value is stored, also of pending
--- batches.
+-- The files of a log, the map of Append's synced batches, and whether the engine has failed. `whereabouts` says in
+-- which queue each entry and value of a raft group is stored, those of pending batches included.
 pub record Model (E V : Type 0) : Type 0 where
   pub files : Files E V
   pub map : Map E V

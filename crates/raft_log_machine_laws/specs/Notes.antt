@@ -1,6 +1,6 @@
 -- For each slot, an engine notes a file of the queue that stores the slot's content. In Append, a record of this file
--- touches the slot. In Rewrite, an item that touches the slot counts if only the files from this one on are read. The
--- queue's live range may begin at the lowest noted file, or before it.
+-- touches the slot. In Rewrite, an item that touches the slot still counts when only the files from this one on are
+-- read. The queue's live range may begin at the lowest noted file, or before it.
 use Rattle.std.specs.Prelude.{◌≡◌, ℕ, ◌<◌, ◌≤◌, ◌⊎◌, true, false, List, [], ◌∷◌, ◌++◌, None}
 use Rattle.raft_log_model_laws.specs.Item.{Record, Tagged, items_of}
 use Rattle.raft_log_model_laws.specs.Meaning.{Slot, says}
@@ -67,8 +67,8 @@ abbrev pub IsInRewrite : Whereabouts → Slot → Type 0
 IsInRewrite t (Index i) = (t.first ≤ i) × (i < t.split)
 IsInRewrite t (Key k) = t.appended k ≡ false
 
--- for each slot that isn't empty and whose content is stored in Rewrite, the files from the noted one on touch it, as
--- `SpeaksFrom` says
+-- The noted files of Rewrite are right: an item touches the slot even if only files from the noted one on are read
+-- (`SpeaksFrom`). Slots that are empty, or whose content is stored in Append, are left out.
 abbrev pub AreNotedInRewrite : {E V : Type 0} → Map E V → (ℕ → Whereabouts) → Notes → FileQueue E V → Type 0
 AreNotedInRewrite m whereabouts notes q =
     (g : ℕ) (s : Slot) → IsInRewrite (whereabouts g) s → (m g s ≡ None) ⊎ SpeaksFrom q g (notes g s) s

@@ -1,4 +1,4 @@
--- What a purge may do, and what may be read of the files after it.
+-- The events that a purge may consist of, and what may be read of both queues after it.
 use Rattle.std.specs.Prelude.{◌≡◌, List, [], ◌∷◌, ◌++◌}
 use Rattle.raft_log_model_laws.specs.Item.{Record}
 use Rattle.raft_log_model_laws.specs.Groups.{Map, directory_meaning}
@@ -17,7 +17,7 @@ abbrev pub AllOwn : {E V : Type 0} → List (Event E V) → Type 0
 AllOwn [] = Unit {0}
 AllOwn (e ∷ es) = IsOwn e × AllOwn es
 
--- a reading of all records of the files, pending ones too, from some start in each queue
+-- a reading of both queues, each from some start to its end; the pending records are read too
 pub record Reading {E V : Type 0} (q : Store E V) : Type 0 where
   pub r_cut : List (Record E V)
   pub r_back : List (Record E V)

@@ -4,8 +4,8 @@ use Rattle.raft_log_model_laws.specs.Item.{Record}
 
 -- the records of one queue, oldest first
 pub record Queue (E V : Type 0) : Type 0 where
-  -- records in files below the live range that may still be on disk, as recycled ones are; a recovery may start among
-  -- them
+  -- records in recycled or other files below the live range that may still be on disk; a recovery may start at one of
+  -- these records
   pub gone : List (Record E V)
   -- synced records in files of the live range
   pub live : List (Record E V)
@@ -33,8 +33,8 @@ synced q = record { gone = q.gone; live = q.live ++ q.pending; pending = [] }
 abbrev pub raised : {E V : Type 0} → Queue E V → List (Record E V) → List (Record E V) → Queue E V
 raised q n1 n2 = record { gone = q.gone ++ n1; live = n2; pending = q.pending }
 
--- the queue after all its records below the live range except `back` were lost: their files are deleted, renamed, or
--- before a gap
+-- the queue after the records below the live range were lost, except `back`: the files of the lost ones are deleted,
+-- renamed, or before a gap
 abbrev pub left : {E V : Type 0} → Queue E V → List (Record E V) → Queue E V
 left q back = record { gone = back; live = q.live; pending = q.pending }
 

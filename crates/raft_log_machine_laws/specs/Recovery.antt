@@ -1,4 +1,4 @@
--- The whereabouts of a raft group that an open makes from the files that it read.
+-- The whereabouts that an open makes for each raft group from the files that it read.
 use Rattle.std.specs.Prelude.{◌≡◌, ℕ, ◌+◌, ◌<◌, ◌≤◌, ◌⊎◌, nat_lt, Bool, true, false, ◌||◌, if◌then◌else◌, bytes_eq, List, [], ◌∷◌, length, Option, Some, None, is_some}
 use Rattle.raft_log_model_laws.specs.Item.{Item}
 use Rattle.raft_log_model_laws.specs.Item.Item.{Compact, Del}
@@ -23,7 +23,7 @@ has_del k (x ∷ xs) = has_del k xs
 
 -- Which tombstones are owed after an open read these items of Append. A Clean is owed exactly if they have one. If they
 -- have no Clean, each of their Compacts and Dels is owed. A Del is owed only if they have it. A Compact may be owed
--- without one, which does no harm.
+-- although they have none, which does no harm.
 pub record HasMarks {E V : Type 0} (append : List (Item E V)) (t : Whereabouts) : Type 0 where
   pub cleaned : t.cleaned ≡ has_clean append
   pub compacted : has_clean append ≡ false → has_compact append ≡ true → t.compacted ≡ true
@@ -31,8 +31,8 @@ pub record HasMarks {E V : Type 0} (append : List (Item E V)) (t : Whereabouts) 
   pub was_deleted : (k : List ℕ) → t.deleted k ≡ true → has_del k append ≡ true
 
 -- Whereabouts `t` are right for a raft group with content `m` if an open read the items `append` from Append. They
--- place in Append what these items leave there, and all else in Rewrite. The tombstones for Append's deletions are
--- owed, as `HasMarks` says.
+-- place in Append what these items leave, and all else in Rewrite. The tombstones for Append's deletions are owed, as
+-- `HasMarks` says.
 pub record IsRecovered {E V : Type 0} (m : Slot → Option (Content E V)) (append : List (Item E V))
     (t : Whereabouts) : Type 0 where
   pub in_order : (t.first ≤ t.split) × (t.split ≤ t.end) × (t.end ≤ top)
@@ -56,8 +56,8 @@ pub record IsReadOff {E V : Type 0} (rewrite : Table E V) (append : Summary E V)
   pub split : t.split ≡ (if nat_lt 0 (length append.table.entries) then append.table.first else t.end)
   pub appended : (k : List ℕ) → t.appended k ≡ is_some (append.table.values k)
 
--- Whereabouts `t` and `u` place entries and keys in the same queues. If there are no entries, the indexes may differ.
--- An owed Compact or Del may differ too.
+-- Whereabouts `t` and `u` place entries and keys in the same queues. If there are no entries, their indexes may differ.
+-- They may also differ in an owed Compact and in owed Dels.
 pub record StandAlike (t u : Whereabouts) : Type 0 where
   pub entries : t.first < t.end → (u.first ≡ t.first) × (u.split ≡ t.split) × (u.end ≡ t.end)
   pub no_entries : t.first ≡ t.end → u.first ≡ u.end

@@ -9,8 +9,8 @@ use Rattle.raft_log_machine_laws.specs.Queue.{Store, all_records}
 use Rattle.raft_log_machine_laws.specs.Whereabouts.{Whereabouts}
 use Rattle.raft_log_machine_laws.specs.Machine.{Machine}
 
--- Reading both queues succeeds from every start, for every prefix of the pending records. No run leaves a hole, and no
--- other record comes between those of an atomic group.
+-- Reading both queues succeeds from every record at which a recovery may start, whatever prefix of the pending records
+-- a crash kept. No run leaves a hole, and no other record comes between those of an atomic group.
 pub record ReadsThrough {E V : Type 0} (q : Store E V) : Type 0 where
   pub append : (g : ℕ) (kept lost cut back : List (Record E V)) → kept ++ lost ≡ q.append.pending
       → cut ++ back ≡ q.append.gone

@@ -6,8 +6,8 @@ use Rattle.raft_log_model_laws.specs.Meaning.{Slot, says, holds}
 use Rattle.raft_log_model_laws.specs.Groups.{of_group, counts, opened, none_open, appended, rewritten, Map, directory_meaning, taken}
 use Rattle.raft_log_machine_laws.specs.Queue.{Queue, Store}
 
--- The directory holds map `m`. A recovery that reads all synced records of Append, but no pending ones, gets `m`. This
--- is so from every start in both queues, and for every prefix of Rewrite's pending records.
+-- The directory holds map `m`. A recovery gets `m` if it reads Append's synced records and none of its pending ones.
+-- This is so from every start in both queues, and for every prefix of Rewrite's pending records.
 abbrev pub HoldsMap : {E V : Type 0} → Store E V → Map E V → Type 0
 HoldsMap {E} {V} q m =
     (g : ℕ) (s : Slot) (r_kept r_lost r_cut r_back a_cut a_back : List (Record E V))
@@ -27,7 +27,7 @@ Survives {E} {V} q m batches =
     → directory_meaning (r_back ++ (q.rewrite.live ++ r_kept)) (a_back ++ (q.append.live ++ a_kept)) g s
     ≡ taken m (take count batches) g s)
 
--- the slot is touched, even if it is only emptied
+-- the records that do `word` to a slot touch it, even if they only empty it
 abbrev pub IsSpoken : {C : Type 0} → Option (Option C) → Type 0
 IsSpoken {C} word = (value : Option C) × (word ≡ Some value)
 

@@ -11,8 +11,8 @@ use Rattle.raft_log_machine_laws.specs.Machine.{AllFit, IsJoined}
 use Rattle.raft_log_machine_laws.specs.Notes.{IsAppended, IsInRewrite}
 use Rattle.raft_log_machine_laws.specs.Log.{View}
 
--- Record `y` was appended to file `n` of Append. Each slot whose content is then stored in Append was stored there
--- before and has the same noted file. Or the record touches it, and file `n` is noted.
+-- Record `y` was appended to file `n` of Append. Each slot whose content is then stored in Append has one of two
+-- origins. It was stored there before, with the same noted file, or the record touches it, and file `n` is noted.
 abbrev pub NotesGrow : {E V : Type 0} → Record E V → ℕ → View E V → View E V → Type 0
 NotesGrow y n old new =
     (g : ℕ) (s : Slot) → IsAppended (new.whereabouts g) s
@@ -32,8 +32,9 @@ pub record GrowsTo {E V : Type 0} (y : Record E V) (n : ℕ) (old new : View E V
   pub noted : NotesGrow y n old new
   pub noted_in_rewrite : NotesStay old new
 
--- The items `xs` start to count in file `n` of Rewrite. Each slot whose content is then stored in Rewrite was stored
--- there before, and its noted file is no later. Or the items touch it, and its noted file is `n` or an earlier one.
+-- The items `xs` start to count in file `n` of Rewrite. Each slot whose content is then stored in Rewrite has one of
+-- two origins. It was stored there before, and its noted file is no later. Or the items touch it, and its noted file is
+-- `n` or an earlier one.
 abbrev pub NotesCarry : {E V : Type 0} → List (Tagged E V) → ℕ → View E V → View E V → Type 0
 NotesCarry xs n old new =
     (g : ℕ) (s : Slot) → IsInRewrite (new.whereabouts g) s
@@ -56,7 +57,7 @@ pub record CarriesTo {E V : Type 0} (xs : List (Tagged E V)) (n : ℕ) (old new 
   pub noted_in_rewrite : NotesCarry xs n old new
 
 -- How the view changes from `old` to `new` when an atomic group of Rewrite ends with the items `xs`. The group began in
--- file `n`, with the items `first`, and its middles have `more`. Several of its runs may count as one.
+-- file `n`, with the items `first`, and its middles have `more`. Several of its runs may count as one run (`IsJoined`).
 pub record EndsGroupTo {E V : Type 0} (first : List (Tagged E V)) (more : List (List (Tagged E V)))
     (xs : List (Tagged E V)) (n : ℕ) (old new : View E V) : Type 0 where
   pub fit : AllFit xs

@@ -9,18 +9,18 @@ use Rattle.raft_log_machine_laws.specs.Whereabouts.{Whereabouts, top}
 
 -- What the records do to each slot of a raft group:
 -- - `lowest`: all records of Rewrite that a recovery may read;
--- - `rewrite`, `append`: the records of this queue's live range.
+-- - `rewrite`, `append`: the records of Rewrite's live range, and of Append's.
 pub record SaysOfSlot (E V : Type 0) : Type 0 where
   pub lowest : Slot → Option (Option (Content E V))
   pub rewrite : Slot → Option (Option (Content E V))
   pub append : Slot → Option (Option (Content E V))
 
--- Rewrite's records alone leave in the slot what the map has there. This is so if all that may be read are read, and if
--- only the live range is read.
+-- Without Append's records, the slot has what the map has there. This is so after all records of Rewrite that a
+-- recovery may read, and also after those of the live range alone.
 abbrev pub IsRightInRewrite : {E V : Type 0} → SaysOfSlot E V → (Slot → Option (Content E V)) → Slot → Type 0
 IsRightInRewrite said m s = (unwrap_or (said.lowest s) None ≡ m s) × (unwrap_or (said.rewrite s) None ≡ m s)
 
--- Index `i` is settled in one of four ways:
+-- One of these is true of index `i`:
 -- - Rewrite alone is right about it;
 -- - a Clean is owed;
 -- - a Compact is owed that will remove the index: `i` is below the first entry, or no entry is in Rewrite;
@@ -33,7 +33,7 @@ IsSettledIndex said m t i =
     ⊎ (((t.compacted ≡ true) × ((i < t.first) ⊎ (t.first ≡ t.split)))
     ⊎ ((t.split ≤ i) × (t.split < t.end))))
 
--- Key `k` is settled in one of four ways:
+-- One of these is true of key `k`:
 -- - Rewrite alone is right about it;
 -- - a Clean is owed;
 -- - a Del of it is owed;
@@ -45,7 +45,8 @@ IsSettledKey said m t k =
 
 -- Whereabouts `t` are correct for a raft group with content `m`, if its records do `said` to each slot. The group's
 -- entries are exactly those from `first` to below `end`. Each entry and value is in the live range of the queue in
--- which `t` places it. Each index and key is settled.
+-- which `t` places it. For each index and key, Rewrite alone is right, a tombstone is owed, or Append overrides
+-- Rewrite.
 pub record AreCorrect {E V : Type 0} (said : SaysOfSlot E V) (m : Slot → Option (Content E V)) (t : Whereabouts)
     : Type 0 where
   pub in_order : (t.first ≤ t.split) × (t.split ≤ t.end) × (t.end ≤ top)

@@ -7,7 +7,7 @@ use Rattle.raft_log_model_laws.specs.Meaning.{Slot, Content, says}
 use Rattle.raft_log_model_laws.specs.Meaning.Slot.{Index, Key}
 use Rattle.raft_log_model_laws.specs.Meaning.Content.{Entry, Value}
 
--- above every index of an entry: a Compact with it removes all entries
+-- a number above every index of an entry, so that a Compact with this index removes all entries
 unfoldable pub top : ℕ
 top = 2 ^ 64 - 1
 
@@ -67,7 +67,7 @@ abbrev pub GrowsBy : {E V : Type 0} → Whereabouts → List (Item E V) → Wher
 GrowsBy t [] u = u ≡ t
 GrowsBy t (x ∷ xs) u = (next : Whereabouts) × AppendTakes t x next × GrowsBy next xs u
 
--- the run of entries `es` that starts at index `f` has the same entries as content `m`
+-- in content `m`, the indexes from `f` on have the entries `es`, one after another
 abbrev pub RunStands : {E V : Type 0} → (Slot → Option (Content E V)) → ℕ → List E → Type 0
 RunStands m f es = (i : ℕ) → f ≤ i → i < f + length es → option_map Entry (slice_get es (i - f)) ≡ m (Index i)
 
@@ -77,11 +77,11 @@ NothingRewritten m t = (t.first ≡ t.split) × ((k : List ℕ) → t.appended k
 
 -- Rewrite may take the item, and the whereabouts are `t` before and `u` after it. The raft group has the content `m`.
 -- Each item has its condition:
--- - A run has the entries of `m`. It starts at an index stored in Rewrite or at the first one in Append. It ends at the
---   last one in Rewrite or past it. To end past it, neither Clean nor Compact may be owed.
+-- - A run has the entries of `m`. It starts at an index in Rewrite or at Append's first one, and ends at Rewrite's last
+--   index or later. If it goes on into Append, no Clean and no Compact is owed.
 -- - A Clean is owed, or nothing of the group is stored in Rewrite.
 -- - A Compact has the first index if there are entries in Rewrite, otherwise `top`.
--- - A Put has the key's value. If that value is stored in Append, neither a Clean nor a Del of the key may be owed.
+-- - A Put has the key's value. If that value is stored in Append, neither a Clean nor a Del of the key is owed.
 -- - A Del is owed, or no value of the key is stored in Rewrite.
 -- An engine may write a tombstone twice, so it may count tombstones as owed until they are synced.
 abbrev pub Carries : {E V : Type 0} → (Slot → Option (Content E V)) → Whereabouts → Item E V → Whereabouts
@@ -113,14 +113,14 @@ CarriesAll m t (x ∷ xs) u = (next : Whereabouts) × Carries m t x next × Carr
 abbrev pub OwesNothing : Whereabouts → Type 0
 OwesNothing t = (t.cleaned ≡ false) × (t.compacted ≡ false) × ((k : List ℕ) → t.deleted k ≡ false)
 
--- these items of Append have each entry that these whereabouts place in Append, and touch each key that these place
+-- the items `kept` of Append have each entry that whereabouts `t` place in Append, and touch each key that `t` place
 -- there
 abbrev pub HasAppended : {E V : Type 0} → Whereabouts → List (Item E V) → Type 0
 HasAppended {E} {V} t kept =
     ((i : ℕ) → t.split ≤ i → i < t.end → (entry : Content E V) × (says (Index i) kept ≡ Some (Some entry)))
     × ((k : List ℕ) → t.appended k ≡ true → (value : Option (Content E V)) × (says (Key k) kept ≡ Some value))
 
--- these items of Rewrite have each entry and value of content `m` that these whereabouts place in Rewrite
+-- the items `kept` of Rewrite have each entry and value of content `m` that whereabouts `t` place in Rewrite
 abbrev pub HasRewritten : {E V : Type 0} → (Slot → Option (Content E V)) → Whereabouts → List (Item E V)
     → Type 0
 HasRewritten m t kept =

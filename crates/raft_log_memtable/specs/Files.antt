@@ -20,13 +20,14 @@ first_file Rewrite v =
 abbrev pub first_place : LogQueue → Raw → Option ℕ
 first_place queue t = first_file queue (shown t)
 
--- the lowest file of Rewrite that has an entry or value of the table, if file numbers never fall from one entry to the
--- next: only the first entry's file is looked at
+-- The file of the table's first entry in Rewrite, or the lowest file of a value there, whichever is lower. If file
+-- numbers never fall from one entry to the next, nothing of the table is in a lower file of Rewrite.
 abbrev pub least_rewritten : Raw → Option ℕ
 least_rewritten t = lesser (first_place Rewrite t) (least_value false t.keys)
 
--- The lowest file of `queue` that the table needs: that of its first entry there, or of a value if this is lower. For
--- Rewrite, it is the first file of the recorded atomic groups if they may reach into that file.
+-- The lowest file of `queue` that the table needs. It is the file of its first entry there, or the lowest file of a
+-- value there, whichever is lower. If Rewrite's recorded atomic groups reach from an earlier file into this one, it is
+-- their first file instead.
 abbrev pub min_file : LogQueue → Raw → Option ℕ
 min_file Append t = lesser (first_place Append t) (least_value true t.keys)
 min_file Rewrite t = option_map (λ n. start_of n t.noted) (least_rewritten t)
@@ -36,16 +37,17 @@ abbrev pub IsLeastRewritten : Shown → Option ℕ → Type 0
 IsLeastRewritten v least =
     (value : Option ℕ) × IsLeastValue false v.held value × (least ≡ lesser (first_file Rewrite v) value)
 
--- `file` is the lowest file of the queue that the table needs: that of its first entry there, or of a value if this is
--- lower. For Rewrite, it is the first file of the recorded atomic groups if they may reach into that file.
+-- `file` is the lowest file of the queue that the table needs. It is the file of its first entry there, or the lowest
+-- file of a value there, whichever is lower. If Rewrite's recorded atomic groups reach from an earlier file into this
+-- one, it is their first file instead.
 abbrev pub IsMinFile : LogQueue → Shown → Option ℕ → Type 0
 IsMinFile Append v file =
     (value : Option ℕ) × IsLeastValue true v.held value × (file ≡ lesser (first_file Append v) value)
 IsMinFile Rewrite v file =
     (least : Option ℕ) × IsLeastRewritten v least × (file ≡ option_map (λ n. start_of n v.noted) least)
 
--- The files of atomic groups to record after a group in the files `new` ended. `old` were recorded before, and `least`
--- is the lowest file of Rewrite with an entry or value of the table.
+-- Which files of atomic groups are recorded once a group in the files `new` has ended. `old` were recorded before. The
+-- first argument is the lowest file of Rewrite with an entry or value of the table, if there is one.
 abbrev pub noted_after : Option ℕ → Option GroupFiles → GroupFiles → GroupFiles
 noted_after None old new = new
 noted_after (Some least) old new = noting least old new
@@ -55,13 +57,13 @@ abbrev pub with_group : Raw → GroupFiles → Shown
 with_group t files = record (shown t) { noted = Some (noted_after (least_rewritten t) t.noted files) }
 
 -- `u` is the table `v` after it recorded an atomic group in these files. Files recorded before are dropped if the
--- table's lowest file of Rewrite is past them, or if it has nothing in Rewrite.
+-- table's lowest file of Rewrite is a later one, or if the table has nothing in Rewrite.
 abbrev pub NotesGroup : GroupFiles → Shown → Shown → Type 0
 NotesGroup files v u =
     (least : Option ℕ) × IsLeastRewritten v least
     × (u ≡ record v { noted = Some (noted_after least v.noted files) })
 
--- the result of a replay after an atomic group in these files was read: they are recorded in addition to those before
+-- the replay's result after it read an atomic group in these files; they are recorded with all files recorded before
 abbrev pub with_read_group : Replayed → GroupFiles → Replayed
 with_read_group z files =
     record z { table = record z.table { noted = both_noted z.table.noted (Some files) } }
@@ -81,7 +83,7 @@ IsLeastInAppend v least =
     ((i : ℕ) → v.first + v.rewritten ≤ i → i < v.first + length v.places → least ≤ file_at v (Index i))
     × ((k : List ℕ) (h : KeyValue) → v.held k ≡ Some h → h.appended ≡ true → least ≤ h.file)
 
--- the files recorded for atomic groups begin after file `n`, or end at or before it
+-- the files recorded for atomic groups, if any, begin after file `n`, or end at or before it
 abbrev pub ArePast : ℕ → Option GroupFiles → Type 0
 ArePast n None = Unit {0}
 ArePast n (Some files) = (n < files.from) ⊎ (files.to ≤ n)

@@ -9,8 +9,8 @@ use Rattle.raft_log_extents.specs.Counts.{passing}
 use Rattle.raft_log_memtable_index.specs.Shown.{KeyValue, Shown, with_held}
 use Rattle.raft_log_memtable_index.specs.Bridge.{moved_run}
 
--- The table has all entries of the run. The run starts at an entry in Rewrite or right after the last of these, and
--- doesn't end before the last of these. An empty run and other items qualify too.
+-- The table has all entries of the run. The run starts at an entry in Rewrite or right after Rewrite's last entry, and
+-- doesn't end before Rewrite's last entry. An empty run and other items qualify too.
 abbrev pub RunStandsIn : Shown → Item Place (List ℕ) → Type 0
 RunStandsIn v (Run f []) = Unit {0}
 RunStandsIn v (Run f (p ∷ ps)) =
@@ -18,7 +18,7 @@ RunStandsIn v (Run f (p ∷ ps)) =
     × (f + length (p ∷ ps) ≤ v.first + length v.places)
 RunStandsIn v x = Unit {0}
 
--- the table after the run's entries were copied to its places in Rewrite
+-- the table after the entries of a run were copied to the run's places in Rewrite; other items change nothing
 abbrev pub moved_by : Shown → Item Place (List ℕ) → Shown
 moved_by v (Run f []) = v
 moved_by v (Run f (p ∷ ps)) = moved_run v f (p ∷ ps)
@@ -29,8 +29,8 @@ moved_by v x = v
 abbrev pub owed_compact : Shown → Option ℕ
 owed_compact v = if v.compacted then Some (if nat_lt 0 v.rewritten then v.first else top) else None
 
--- How many of these places, from the front, may move to Rewrite. With a gate, it is those before the first place in a
--- file past the gate; without a gate, none.
+-- How many of the entries at these places in Append may be copied to Rewrite. With a gate, these are the entries before
+-- the first one in a file past the gate. Without a gate, there are none.
 abbrev pub gated : Option ℕ → List Place → ℕ
 gated None ps = 0
 gated (Some gate) ps = passing gate ps
@@ -41,15 +41,15 @@ abbrev pub movable : Shown → Option ℕ → ℕ → ℕ → ℕ
 movable v gate d count =
     min count (v.rewritten - d) + gated gate (take (count - (v.rewritten - d)) (drop v.rewritten v.places))
 
--- the table with the places `ps` instead of as many from position `d` on; these and all before them are in Rewrite
+-- the table after `ps` replaced as many places from position `d` on; the new places and all before them are in Rewrite
 abbrev pub rewritten_at : Shown → ℕ → List Place → Shown
 rewritten_at v d ps = record v {
   places = take d v.places ++ (ps ++ drop (d + length ps) v.places);
   rewritten = max v.rewritten (d + length ps);
 }
 
--- The table after copies of entries were written to Rewrite. Entries that the table still has, and that the gate
--- allows, move to the new places. If the copies begin past the entries in Rewrite, none move.
+-- The table after copies of entries were written to Rewrite. Entries that the table still has, and that may be copied
+-- (`movable`), move to the new places. If the copies begin past the entries in Rewrite, none move.
 abbrev pub rewritten_by : Option ℕ → Shown → Item Place (List ℕ) → Shown
 rewritten_by gate v (Run f ps) =
     if nat_lt v.rewritten (f - v.first) then v
@@ -57,18 +57,18 @@ rewritten_by gate v (Run f ps) =
     (take (movable v gate (f - v.first) (length (drop (v.first - f) ps))) (drop (v.first - f) ps))
 rewritten_by gate v x = v
 
--- whether a value may move to a new file of Rewrite: it is in Rewrite already, or there is a gate and it is in a file
--- up to the gate
+-- Whether a value may move to a new file of Rewrite. A value in Rewrite always may. A value in Append may if there is a
+-- gate, and its file isn't past the gate.
 abbrev pub may_move : Option ℕ → KeyValue → Bool
 may_move None h = not h.appended
 may_move (Some gate) h = not h.appended || nat_le h.file gate
 
--- the value in file `n` of Rewrite if it may move, else unchanged
+-- the value, moved to file `n` of Rewrite if it may move (`may_move`), else unchanged
 abbrev pub rewritten_to : Option ℕ → ℕ → Option KeyValue → Option KeyValue
 rewritten_to gate n None = None
 rewritten_to gate n (Some h) =
     if may_move gate h then Some (record { bytes = h.bytes; appended = false; file = n }) else Some h
 
--- the table after a copy of key `k` was written to file `n` of Rewrite: the key's value moves if the gate allows it
+-- the table after a copy of key `k` was written to file `n` of Rewrite: the key's value moves there if it may
 abbrev pub key_rewritten : Option ℕ → Shown → List ℕ → ℕ → Shown
 key_rewritten gate v k n = record v { held = with_held v.held k (rewritten_to gate n (v.held k)) }

@@ -39,14 +39,14 @@ entries_from v n (p ∷ ps) =
 abbrev pub places_between : Shown → ℕ → ℕ → List Place
 places_between v begin end = take (end - begin) (drop (begin - v.first) v.places)
 
--- the entries from index `begin` on, below `end`: always the first, and more as long as their total length is at most
--- `max`
+-- The entries from index `begin` on, below `end`: always the first one, and further ones as long as the total length is
+-- at most `max`. Without a limit (`None`), these are all of them.
 abbrev pub fetched : Shown → ℕ → ℕ → Option ℕ → List EntryIndex
 fetched v begin end max =
     entries_from v (begin - v.first)
     (take (sized max (places_between v begin end)) (places_between v begin end))
 
--- the entries in Append, up to the first one in a file past the gate
+-- the entries in Append that come before the first one in a file past the gate
 abbrev pub appended_entries : Shown → ℕ → List EntryIndex
 appended_entries v gate =
     entries_from v v.rewritten (take (passing gate (drop v.rewritten v.places)) (drop v.rewritten v.places))
@@ -60,13 +60,13 @@ abbrev pub is_up_to : FileId → LogQueue → Option Place → Bool
 is_up_to gate queue None = false
 is_up_to gate queue (Some p) = is_le (file_cmp (record { queue = queue; seq = p.file }) gate)
 
--- whether the table has at least `n` entries, and the last of the first `n` is in a file up to `gate`; true if `n` is 0
+-- whether the table has at least `n` entries, and the `n`th one is in a file up to `gate`; true if `n` is 0
 abbrev pub has_before : Shown → FileId → ℕ → Bool
 has_before v gate zero = true
 has_before v gate (suc n) = is_up_to gate (queue_of (nat_lt n v.rewritten)) (slice_get v.places n)
 
--- The call appended the entries from index `begin` on, below `end`, to `old`, as far as `max` allows, and returned
--- their number `count`.
+-- A read of the entries from index `begin` on, below `end`, appended them to `old`, as far as `max` allows. The result
+-- is `new`, and `count` is how many entries were appended.
 abbrev pub Fetches : Shown → ℕ → ℕ → Option ℕ → List EntryIndex → List EntryIndex → ℕ → Type 0
 Fetches v begin end max old new count =
     (new ≡ old ++ fetched v begin end max) × (count ≡ sized max (places_between v begin end))
@@ -76,7 +76,7 @@ abbrev pub AreIn : Shown → ℕ → ℕ → Type 0
 AreIn v begin end = begin < end → (v.first ≤ begin) × (end ≤ v.first + length v.places)
 
 -- Why reading entries from `begin` on, below `end`, fails. Reading an empty range never fails.
--- - `EntryNotFound`: the table has no entries, or its entries end before `end`.
+-- - `EntryNotFound`: the table has no entries, or its entries start at or before `begin` and end before `end`.
 -- - `EntryCompacted`: the table's first entry is after `begin`.
 -- - `Memory`: memory ran out, and the table has all these entries.
 abbrev pub FetchRefused : Shown → ℕ → ℕ → Error → Type 0

@@ -1,5 +1,5 @@
--- A replay applies runs of entries to a table, and joins the table of a later segment: of consecutive files that a
--- worker read by itself.
+-- The table of a group in a replay. A run of entries is applied to it, or the table of a later segment is joined to it.
+-- A segment is one file or several consecutive files that one worker reads.
 use Rattle.std.specs.Prelude.{◌≡◌, ℕ, ◌-◌, ◌≤◌, ◌⊎◌, min, Bool, true, false, not, ◌&&◌, [], length, take, if◌then◌else◌, nat_lt}
 use Rattle.raft_log_record_base.specs.declared.errors.Error.{Error}
 use Rattle.raft_log_record_base.specs.declared.errors.Error.TheVariants as errors
@@ -27,8 +27,8 @@ under v f =
       rewritten = min v.rewritten (f - v.first);
     }
 
--- The first index of the entries if nothing is before them. Without entries it is 0, unless a Clean is owed (a
--- tombstone); then it is unchanged.
+-- The table's first index if nothing was read before it. It is unchanged if the table has entries or owes a Clean (a
+-- tombstone), else 0.
 abbrev pub begin_alone : Shown → ℕ
 begin_alone v = if v.cleaned then v.first else (if nat_lt 0 (length v.places) then v.first else 0)
 

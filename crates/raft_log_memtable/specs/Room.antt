@@ -7,8 +7,8 @@ use Rattle.raft_log_machine_laws.specs.Whereabouts.{with_key}
 use Rattle.raft_log_memtable_index.specs.Shown.{Shown, nothing_shown, span, next_span, MayFollow, MayAllFollow}
 
 -- What a table reserved. `wanted` is how many more places it can take, and `moves` how many entries can move into
--- Rewrite. `ends` is the range of its indexes after everything that is reserved. `has` is the keys with a slot: they
--- can be put or deleted without more memory.
+-- Rewrite. `ends` is the range of its indexes after the items that it is prepared for. `has` is true for the keys with
+-- a slot: these can be put or deleted without more memory.
 pub record Promise : Type 0 where
   pub wanted : ℕ
   pub moves : ℕ
@@ -27,7 +27,7 @@ with_moves q n = record q { moves = q.moves + n }
 abbrev pub without_moves : Promise → ℕ → Promise
 without_moves q n = record q { moves = q.moves - n }
 
--- the reservation in which only keys with a value have a slot
+-- the reservation in which exactly the keys with a value have a slot
 abbrev pub with_room_of : Promise → Shown → Promise
 with_room_of q v = record q { has = λ k. is_some (v.held k) }
 

@@ -14,7 +14,7 @@ use Rattle.raft_log_memtable_index.specs.Keys.{keys_of, no_keys}
 use Rattle.raft_log_memtable.specs.Room.{Promise}
 
 -- The fields of a table:
--- - `ahead`: the range of its indexes after all that is prepared
+-- - `ahead`: the range of its indexes after the items that it is prepared for
 -- - `low`, `high`: of entries read before it, a replay keeps only those from `low` on and below `high`
 -- - all others: what callers see (`shown`); `places` and `keys` also have what is reserved
 pub record Raw : Type 0 where

@@ -1,4 +1,4 @@
--- Which contents of a group a table represents if the bytes at each place are known. Also how a table changes if its
+-- Which contents a group's table represents, if the bytes at each place are known. Also how a table changes if its
 -- entries or values are copied into Rewrite.
 use Rattle.std.specs.Prelude.{◌≡◌, ℕ, zero, suc, ◌+◌, ◌-◌, ◌≤◌, ◌⊎◌, Bool, true, false, List, [], ◌∷◌, ◌++◌, map, length, take, drop, Option, Some, None, option_map, if◌then◌else◌, nat_lt, bytes_eq}
 use Rattle.raft_log_model_laws.specs.Item.{Item}
@@ -51,14 +51,14 @@ IsMeant at v m = (s : Slot) → option_map (renamed_content at) (content (table_
 abbrev pub read : {E : Type 0} → (Located → E) → Shown → ℕ → ℕ → List E
 read at v f count = map at (take count (drop (f - v.first) (located v.rewritten v.places)))
 
--- One copy into Rewrite. `MoveRun` copies entries from an index on to new places, and `MoveKey` the value of a key
--- into a file.
+-- One copy into Rewrite. `MoveRun` copies entries to new places, the first one at this index. `MoveKey` copies the
+-- value of a key into a file.
 pub data Move : Type 0 where
   MoveRun : ℕ → List Place → Move
   MoveKey : List ℕ → ℕ → Move
 
--- The table after entries were copied to Rewrite: from index `f` on, one to each place in `ps`. All entries before
--- these are in Rewrite too.
+-- The table after entries were copied to Rewrite, one to each place in `ps`; the first has the index `f`. All entries
+-- before these are in Rewrite too.
 abbrev pub moved_run : Shown → ℕ → List Place → Shown
 moved_run v f ps = record v {
   places = take (f - v.first) v.places ++ (ps ++ drop ((f - v.first) + length ps) v.places);

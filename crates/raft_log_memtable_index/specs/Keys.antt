@@ -1,5 +1,5 @@
--- The keys of a group in its table: their values, the Dels that the table owes, and for which keys it has a slot
--- (`KeySlot`), that is, memory for a value and a Del.
+-- The keys of a group in its table: their values, and the Dels that the table owes. A key may have a slot (`KeySlot`),
+-- which is memory for a value and a Del.
 use Rattle.std.specs.Prelude.{◌≡◌, ℕ, Bool, true, false, ◌||◌, List, [], ◌∷◌, Option, Some, None, if◌then◌else◌, is_some, bytes_eq}
 use Rattle.std.specs.Option.{option_or}
 use Rattle.std.specs.Map.{lookup}
@@ -99,16 +99,16 @@ unmarked_keys ks = record ks { deleted = λ k. false }
 abbrev pub settled_keys : Keys → Keys
 settled_keys ks = record ks { deleted = λ k. false; has = λ k. is_some (ks.values k) }
 
--- the keys after `k` got a value that was read later, if there is one
+-- the keys after a later segment's value of `k` was applied, if there is one
 abbrev pub with_later : Keys → List ℕ → Option HeldValue → Keys
 with_later ks k None = ks
 with_later ks k (Some h) = with_value ks k (Some (value_of h))
 
--- the keys after `k` was read later with this slot: its Del, if owed, applies first, then its value, if any
+-- the keys after a later segment's slot of `k` was applied: first its Del, if owed, then its value, if any
 abbrev pub with_slot : Keys → List ℕ → KeySlot → Keys
 with_slot ks k slot = with_later (if slot.deleted then with_mark ks k else ks) k slot.held
 
--- the keys after these slots were read later, one after another
+-- the keys after these slots of a later segment were applied, one after another
 abbrev pub with_slots : Keys → List (List ℕ × KeySlot) → Keys
 with_slots ks [] = ks
 with_slots ks (e ∷ es) = with_slots (with_slot ks e.0 e.1) es

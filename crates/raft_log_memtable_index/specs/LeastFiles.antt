@@ -1,4 +1,4 @@
--- The lowest file of a queue that has the value of a key.
+-- In each queue, the lowest file that has the value of one of a table's keys.
 use Rattle.std.specs.Prelude.{◌≡◌, ℕ, ◌≤◌, min, Bool, not, List, [], ◌∷◌, Option, Some, None, map, if◌then◌else◌}
 use Rattle.raft_log_memtable_index.specs.Shown.{KeyValue}
 use Rattle.raft_log_memtable_index.specs.declared.key_map.HeldValue.{HeldValue}

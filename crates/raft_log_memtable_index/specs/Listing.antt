@@ -7,16 +7,16 @@ use Rattle.std.specs.Ordering.{is_le, is_lt, nat_cmp}
 use Rattle.raft_log_memtable_index.specs.Bridge.{AllOwed, bytes_held, without}
 use Rattle.raft_log_memtable_index.specs.Shown.{KeyValue, Shown}
 
--- `es` lists every key for which `values` has a value, with that value, once, in the order of the keys' bytes
+-- `es` lists each key that has a value in `values`, once and with that value, in the order of the keys' bytes
 pub record ListsAll {X : Type 0} (values : List ℕ → Option X) (es : List (List ℕ × X)) : Type 0 where
   pub rising : IsStrictlySortedBy (slice_cmp nat_cmp) (keys_of es)
   pub exact : (k : List ℕ) → lookup (bytes_eq k) es ≡ values k
 
--- `n` is the number of keys for which `values` has a value, at most 2 ^ 64 - 1
+-- `n` is the number of keys that have a value in `values`, or 2 ^ 64 - 1 if that is less
 abbrev pub CountsAll : {X : Type 0} → (List ℕ → Option X) → ℕ → Type 0
 CountsAll {X} values n = (es : List (List ℕ × X)) × ListsAll values es × (n ≡ min (length es) (2 ^ 64 - 1))
 
--- `new` is `old`, followed by every key for which `values` has a value, with that value, in the order of the keys'
+-- `new` is `old`, and then each key that has a value in `values`, once and with that value, in the order of the keys'
 -- bytes
 abbrev pub AddsAll : {X : Type 0} → (List ℕ → Option X) → List (List ℕ × X) → List (List ℕ × X) → Type 0
 AddsAll {X} values old new = (es : List (List ℕ × X)) × ListsAll values es × (new ≡ old ++ es)
@@ -27,8 +27,8 @@ pub record ListsMarked (marked : List ℕ → Bool) (ks : List (List ℕ)) : Typ
   pub owed : AllOwed marked ks
   pub all : (k : List ℕ) → without marked ks k ≡ false
 
--- Whether a value is to be listed. With a gate (a file number), these are the values of Append in files up to the gate.
--- Without one, these are the values of Rewrite.
+-- Whether a value is to be listed. With a gate (a file number), it must be in Append, in a file up to the gate. Without
+-- one, it must be in Rewrite.
 abbrev pub is_asked : Option ℕ → KeyValue → Bool
 is_asked None h = not h.appended
 is_asked (Some gate) h = h.appended && nat_le h.file gate

@@ -1,5 +1,5 @@
--- In which files a memtable's entries and values are. Those in Rewrite have also a first file that must be kept so that
--- they can be recovered. An atomic group may have records in several files.
+-- In which files a memtable's entries and values are. What is in Rewrite also has a first file that must be kept so
+-- that it can be recovered. That may be an earlier file, since an atomic group may have records in several.
 use Rattle.std.specs.Prelude.{◌≡◌, ℕ, ◌+◌, ◌-◌, ◌<◌, ◌≤◌, ◌⊎◌, min, max, false, List, [], ◌∷◌, length, Option, Some, None, if◌then◌else◌, nat_le, slice_get}
 use Rattle.raft_log_model_laws.specs.Item.{Item}
 use Rattle.raft_log_model_laws.specs.Item.Item.{Run}
@@ -13,23 +13,23 @@ use Rattle.raft_log_memtable_index.specs.Shown.{KeyValue, Shown, whereabouts}
 use Rattle.raft_log_memtable_index.specs.Bridge.{Move}
 use Rattle.raft_log_memtable_index.specs.Bridge.Move.{MoveRun, MoveKey}
 
--- the file number of a place, or 0
+-- the file number of a place, or 0 if there is no place
 abbrev pub place_file : Option Place → ℕ
 place_file None = 0
 place_file (Some p) = p.file
 
--- the file number of a value, or 0
+-- the file number of a value, or 0 if there is no value
 abbrev pub held_file : Option KeyValue → ℕ
 held_file None = 0
 held_file (Some h) = h.file
 
--- the file number of the entry or value in slot `s`, or 0
+-- the file number of the entry or value in slot `s`, if there is one; otherwise this number means nothing
 abbrev pub file_at : Shown → Slot → ℕ
 file_at v (Index i) = place_file (slice_get v.places (i - v.first))
 file_at v (Key k) = held_file (v.held k)
 
--- The first file that must be kept so that what is in file `n` of Rewrite can be recovered. If the last file of the
--- noted atomic groups is `n` or later, it is their first file, but at most `n`. Otherwise it is `n`.
+-- The first file that must be kept so that what is in file `n` of Rewrite can be recovered. If the noted atomic groups
+-- reach file `n` or a later one, it is their first file or `n`, whichever is lower. Otherwise it is `n`.
 abbrev pub start_of : ℕ → Option GroupFiles → ℕ
 start_of n None = n
 start_of n (Some files) = if nat_le n files.to then min files.from n else n
@@ -44,8 +44,8 @@ IsLeastInRewrite v least =
     ((i : ℕ) → v.first ≤ i → i < v.first + v.rewritten → least ≤ file_at v (Index i))
     × ((k : List ℕ) (h : KeyValue) → v.held k ≡ Some h → h.appended ≡ false → least ≤ h.file)
 
--- The files to note after an atomic group in the files `new` ended. The files that were noted before stay noted, unless
--- the last one is below `least`, so that nothing of Rewrite is in them.
+-- The files to note after the end of an atomic group whose records are in the files `new`. The files noted before stay
+-- noted, unless the last of them is below `least`, a file below which the table has nothing in Rewrite.
 abbrev pub noting : ℕ → Option GroupFiles → GroupFiles → GroupFiles
 noting least None new = new
 noting least (Some old) new =
@@ -94,7 +94,7 @@ pub record FilesRise (a r : ℕ) (v : Shown) : Type 0 where
       → file_at v (Index i) ≤ a
   pub in_rewrite : (i : ℕ) → v.first ≤ i → i < v.first + v.rewritten → file_at v (Index i) ≤ r
 
--- After items from file `n` changed the table `v` into `u`, each slot in Append has one of two origins. It was in
+-- Items from file `n` changed the table `v` into `u`. Each slot that is now in Append has one of two origins. It was in
 -- Append before, in the same file, or it is in file `n` and an item touches it.
 abbrev pub AppendedGrow : {E : Type 0} → List (Item E (List ℕ)) → ℕ → Shown → Shown → Type 0
 AppendedGrow xs n v u =
@@ -111,9 +111,9 @@ AppendedShrink v u =
 abbrev pub RewrittenStay : Shown → Shown → Type 0
 RewrittenStay v u = (s : Slot) → IsInRewrite (whereabouts u) s → noted_at u s ≤ noted_at v s
 
--- After items that count from file `n` on changed the table `v` into `u`, each slot in Rewrite has one of two
--- origins. It was in Rewrite before, and its first file to keep is not later. Or its first file to keep is at most
--- `n`, and an item touches it.
+-- Items that count from file `n` on changed the table `v` into `u`. Each slot that is now in Rewrite has one of two
+-- origins. It was in Rewrite before, and its first file to keep is not later. Or its first file to keep is at most `n`,
+-- and an item touches it.
 abbrev pub RewrittenCarry : {E : Type 0} → List (Item E (List ℕ)) → ℕ → Shown → Shown → Type 0
 RewrittenCarry xs n v u =
     (s : Slot) → IsInRewrite (whereabouts u) s

@@ -66,13 +66,13 @@ replayed q n z x = record {
   high = high_with x z.high;
 }
 
--- the table with only its entries below the index, if there is one
+-- the table with only its entries below the given index, or with all if no index is given
 abbrev pub below : Shown → Option ℕ → Shown
 below v None = v
 below v (Some h) =
     record v { places = take (h - v.first) v.places; rewritten = min v.rewritten (h - v.first) }
 
--- the table with only its entries from `low` on, below `high`
+-- the table with only its entries from `low` on, below `high` if there is one
 abbrev pub left : Shown → ℕ → Option ℕ → Shown
 left v low high =
     below
@@ -113,7 +113,7 @@ joined a z =
     if z.table.cleaned then z
     else record { table = with_newer a.table z; low = max z.low a.low; high = lesser z.high a.high }
 
--- The table that was read of Rewrite, with the result of Append applied. The tombstones of Rewrite's table are no
+-- The table that was read from Rewrite, with the result of Append applied. The tombstones of Rewrite's table are no
 -- longer owed, since they were read from Rewrite itself. If Append has a Clean, only Append's table is left.
 abbrev pub merged : Shown → Replayed → Shown
 merged v z = if z.table.cleaned then z.table else with_newer (unmarked v) z

@@ -16,8 +16,8 @@ use Rattle.raft_log_memtable.specs.Room.{Promise, kept, promised, IsForgotten, I
 use Rattle.raft_log_memtables.specs.declared.mem_tables.MemTables.{MemTables}
 use Rattle.raft_log_memtables.specs.Tables.{counts, shown_of, promise_of, has_table}
 
--- in each group `g`, its items of `xs` can be applied to the table `v g` one after another: they leave no hole and no
--- index too high
+-- In each group `g`, the group's items of `xs` can be applied to the table `v g`, one after another. They leave no hole
+-- and no index too high.
 abbrev pub MayFollowAll : {E V : Type 0} → (ℕ → Shown) → List (Tagged E V) → Type 0
 MayFollowAll v xs = (g : ℕ) → MayAllFollow (span (v g)) (of_group g xs)
 
@@ -26,8 +26,7 @@ abbrev pub GroupsPass : {E V : Type 0} → (ℕ → Bool) → List (Tagged E V) 
 GroupsPass test [] = Unit {0}
 GroupsPass test (x ∷ xs) = (test x.group ≡ true) × GroupsPass test xs
 
--- The items can be applied, and this can't fail: each of their groups has a table, whose reservations suffice for the
--- items of the group.
+-- Applying the items can't fail: each of their groups has a table, and the table is prepared for the group's items.
 pub record IsReadyFor {E V : Type 0} (m : MemTables) (xs : List (Tagged E V)) : Type 0 where
   pub tables : GroupsPass (has_table m) xs
   pub groups : (g : ℕ) → IsReady (shown_of m g) (promise_of m g) (of_group g xs)
@@ -50,8 +49,8 @@ abbrev pub speaks_of : {E V : Type 0} → ℕ → List (Tagged E V) → Bool
 speaks_of g [] = false
 speaks_of g (x ∷ xs) = (x.group == g) || speaks_of g xs
 
--- In each group, its items were prepared, in addition to what was reserved before. Groups of the items that had no
--- table got one.
+-- The items were prepared: each group reserved for its own items, in addition to what it had reserved before. If a
+-- group of an item had no table, it got one. No other group got a table.
 pub record PromisesAll {E V : Type 0} (old new : MemTables) (xs : List (Tagged E V)) : Type 0 where
   pub tables : (g : ℕ) → has_table new g ≡ speaks_of g xs || has_table old g
   pub promises : (g : ℕ) → promise_of new g ≡ all_promised (promise_of old g) (of_group g xs)
@@ -97,16 +96,16 @@ pub record IsTakenBack (old new : MemTables) (items : List LogItem) : Type 0 whe
   pub others : (g : ℕ) → mentions g items ≡ false → promise_of new g ≡ promise_of old g
   pub tables : (g : ℕ) → mentions g items ≡ false → has_table new g ≡ has_table old g
 
--- Why an item isn't applied to entries with the range `w`. The error is `Hole` only if its run leaves a hole or an
--- index too high. Else it is `Memory`.
+-- Why an item isn't applied to entries with the range `w`. The error is `Hole` or `Memory`, and `Hole` only if the
+-- item's run leaves a hole or an index too high.
 abbrev pub ItemRefused : {E V : Type 0} → Window → Item E V → Error → Type 0
 ItemRefused w x error = ((error ≡ errors.Hole) × (MayFollow w x → ⊥)) ⊎ (error ≡ errors.Memory)
 
--- Why the batch `xs` isn't applied to the tables `v`. The error is `Hole` only if a run leaves a hole or an index too
--- high. Else it is `Memory`.
+-- Why the batch `xs` isn't applied to the tables `v`. The error is `Hole` or `Memory`, and `Hole` only if a run leaves
+-- a hole or an index too high.
 abbrev pub BatchRefused : {E V : Type 0} → (ℕ → Shown) → List (Tagged E V) → Error → Type 0
 BatchRefused v xs error = ((error ≡ errors.Hole) × (MayFollowAll v xs → ⊥)) ⊎ (error ≡ errors.Memory)
 
--- the items with the entries that they write in Append, if `at` gives the bytes at each place
+-- the items as they are written to Append: with the bytes of their entries, which `at` gives for each place
 abbrev pub all_written : {E : Type 0} → (Located → E) → List (Tagged Place (List ℕ)) → List (Tagged E (List ℕ))
 all_written at xs = map (renamed_tagged (λ p. at (in_queue true p))) xs

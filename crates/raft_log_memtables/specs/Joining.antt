@@ -1,6 +1,6 @@
--- How the tables of two consecutive segments are joined, and how what was read of Append is applied over what was
--- read of Rewrite. `old` and `new` are the tables before and after. `newer` is what was read of the later segment,
--- `append` what was read of Append.
+-- How the tables of two consecutive segments are joined, and how the tables read from Append are applied over those
+-- read from Rewrite. `old` and `new` are the tables before and after. `newer` are the tables read from the later
+-- segment, `append` those read from Append.
 use Rattle.std.specs.Prelude.{◌≡◌, ℕ, ◌==◌, ◌⊎◌, Bool, false, ◌&&◌, ◌||◌, not, Option, Some, None}
 use Rattle.raft_log_record_base.specs.declared.errors.Error.{Error}
 use Rattle.raft_log_record_base.specs.declared.errors.Error.TheVariants as errors
@@ -15,8 +15,8 @@ use Rattle.raft_log_memtables.specs.declared.mem_tables.MemTables.{MemTables}
 use Rattle.raft_log_memtables.specs.Tables.{counts, replayed_of, shown_of}
 use Rattle.raft_log_memtables.specs.Replaying.{StaysAt}
 
--- Whether a group counts after two segments: it counts in the later one, or it counted in the earlier one and has no
--- Clean in the later one.
+-- Whether a group counts after two segments. It does if it counts in the later one, or if it counted in the earlier one
+-- and has no Clean in the later one.
 abbrev pub counts_with : MemTables → MemTables → ℕ → Bool
 counts_with old newer g = counts newer g || (counts old g && not (shown_of newer g).cleaned)
 
@@ -35,7 +35,7 @@ pub record JoinsOne (old new : MemTables) (group : ℕ) (newer : GroupTable) : T
   pub others : (g : ℕ) → (group == g) ≡ false → StaysAt old new g
 
 -- Why the later segment's table of a group, with the replay's result `z`, isn't joined to the earlier table `v`. The
--- error is `Hole` only if the later entries leave a hole. Else it is `Memory`.
+-- error is `Hole` or `Memory`, and `Hole` only if the later entries leave a hole.
 abbrev pub TableRefused : Shown → Replayed → Error → Type 0
 TableRefused v z error = ((error ≡ errors.Hole) × LeavesHole v z) ⊎ (error ≡ errors.Memory)
 
@@ -47,14 +47,14 @@ JoinsAll old newer new = (g : ℕ) → JoinsAt old newer new g
 abbrev pub JoinsSome : MemTables → MemTables → MemTables → Type 0
 JoinsSome old newer new = (g : ℕ) → StaysAt old new g ⊎ JoinsAt old newer new g
 
--- Why the later segment isn't joined. The error is `Hole` only if its entries leave a hole in some group. Else it is
--- `Memory`.
+-- Why the later segment isn't joined. The error is `Hole` or `Memory`, and `Hole` only if the segment's entries leave a
+-- hole in some group.
 abbrev pub JoinRefused : MemTables → MemTables → Error → Type 0
 JoinRefused old newer error =
     ((error ≡ errors.Hole) × ((g : ℕ) × LeavesHole (shown_of old g) (replayed_of newer g)))
     ⊎ (error ≡ errors.Memory)
 
--- in group `g`, what was read of Append was applied over what was read of Rewrite
+-- in group `g`, the table read from Append was applied over the table read from Rewrite
 pub record MergesAt (old append new : MemTables) (g : ℕ) : Type 0 where
   pub shows : shown_of new g ≡ merged (shown_of old g) (replayed_of append g)
   pub counting : counts new g ≡ counts_with old append g
@@ -69,7 +69,7 @@ pub record MergesOne (old new : MemTables) (group : ℕ) (append : GroupTable) :
   pub counting : counts new group ≡ append.counts || (counts old group && not (shown append.table).cleaned)
   pub others : (g : ℕ) → (group == g) ≡ false → SameAt old new g
 
--- in every group, what was read of Append was applied over what was read of Rewrite
+-- in every group, the table read from Append was applied over the table read from Rewrite
 abbrev pub MergesAll : MemTables → MemTables → MemTables → Type 0
 MergesAll old append new = (g : ℕ) → MergesAt old append new g
 
@@ -77,19 +77,20 @@ MergesAll old append new = (g : ℕ) → MergesAt old append new g
 abbrev pub UnmarkedAt : MemTables → MemTables → ℕ → Type 0
 UnmarkedAt old new g = (shown_of new g ≡ unmarked (shown_of old g)) × (counts new g ≡ counts old g)
 
--- In some groups, what was read of Append was applied over what was read of Rewrite. The other groups only lost their
--- owed tombstones.
+-- In some groups, the table read from Append was applied over the table read from Rewrite. The other groups only lost
+-- their owed tombstones.
 abbrev pub MergesSome : MemTables → MemTables → MemTables → Type 0
 MergesSome old append new = (g : ℕ) → UnmarkedAt old new g ⊎ MergesAt old append new g
 
--- What was replayed into a group's table, after an atomic group in these files was read. Files that were noted before
--- stay noted. Without a table, it is nothing.
+-- The result of a raft group's replay after an atomic group in these files was read. Files that were noted before stay
+-- noted. Without a table, the result is that of no items.
 abbrev pub read_noted_in : GroupFiles → Option Raw → Replayed
 read_noted_in files None = nothing_replayed
 read_noted_in files (Some t) = with_read_group (replay_of t) files
 
--- What was replayed into a group's table, after an atomic group in these files ended. Files that were noted before stay
--- noted only while the group still has something in Rewrite up to the last of them. Without a table, it is nothing.
+-- The result of a raft group's replay after an atomic group in these files ended. Files that were noted before stay
+-- noted only if they reach up to the raft group's lowest file of Rewrite. Without a table, the result is that of no
+-- items.
 abbrev pub noted_in : GroupFiles → Option Raw → Replayed
 noted_in files None = nothing_replayed
 noted_in files (Some t) = record (replay_of t) { table = with_group t files }

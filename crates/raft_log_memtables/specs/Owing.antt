@@ -32,7 +32,7 @@ owed_commands g v =
 abbrev pub delete_item : ℕ → List ℕ → LogItem
 delete_item g k = item_of g (contents.Kv (del_of k))
 
--- the tombstones that group `g` owes, as items: the Clean, the Compact, and a Del for each key in `ks`
+-- the Clean and the Compact that group `g` owes, as items, and then a Del for each key in `ks`
 abbrev pub owed_items : ℕ → Shown → List (List ℕ) → List LogItem
 owed_items g v ks = owed_commands g v ++ map (delete_item g) ks
 

@@ -18,12 +18,12 @@ abbrev pub all_replayed : Bool → ℕ → Replayed → List (Item Place (List �
 all_replayed q n z [] = z
 all_replayed q n z (x ∷ xs) = all_replayed q n (replayed q n z x) xs
 
--- in Append, the item leaves no hole and no index too high after entries with the range `w`
+-- if the item is from Append, it leaves no hole and no index too high after entries with the range `w`
 abbrev pub MayBeRead : {E V : Type 0} → Bool → Window → Item E V → Type 0
 MayBeRead q w x = q ≡ true → MayFollow w x
 
--- Why an item isn't replayed onto entries with the range `w`. The error is `Hole` only in Append, if the run leaves a
--- hole or an index too high. Else it is `Memory`.
+-- Why an item isn't replayed onto entries with the range `w`. The error is `Hole` or `Memory`. It is `Hole` only if the
+-- item is from Append, and leaves a hole or an index too high.
 abbrev pub ReadRefused : {E V : Type 0} → Bool → Window → Item E V → Error → Type 0
 ReadRefused q w x error =
     ((error ≡ errors.Hole) × (q ≡ true) × (MayFollow w x → ⊥)) ⊎ (error ≡ errors.Memory)
@@ -32,7 +32,7 @@ ReadRefused q w x error =
 abbrev pub StaysAt : MemTables → MemTables → ℕ → Type 0
 StaysAt old new g = (replayed_of new g ≡ replayed_of old g) × (counts new g ≡ counts old g)
 
--- nothing is reserved ahead in group `g`: the reserved range is that of its entries
+-- in group `g`, the reserved range of indexes is that of its entries
 abbrev pub RestsAt : MemTables → ℕ → Type 0
 RestsAt m g = (promise_of m g).ends ≡ span (shown_of m g)
 
@@ -51,7 +51,8 @@ pub record ReadsAll (q : Bool) (n : ℕ) (old new : MemTables) (xs : List (Tagge
   pub read : (g : ℕ) → replayed_of new g ≡ all_replayed q n (replayed_of old g) (of_group g xs)
   pub counting : (g : ℕ) → counts new g ≡ counts_at_end (counts old g) (of_group g xs)
 
--- the items of `xs` before one of them, read in file `n`, were applied, and that one failed with `error`
+-- Of the items `xs`, which were read in file `n`, those in `front` were applied. The next one, `stop`, failed with
+-- `error`.
 pub record ReadsUpTo (q : Bool) (n : ℕ) (old new : MemTables) (xs : List (Tagged Place (List ℕ)))
     (error : Error) : Type 0 where
   pub front : List (Tagged Place (List ℕ))

@@ -14,9 +14,9 @@ use Rattle.raft_log_memtable.specs.Room.{Promise, count_of, needs, with_moves, w
 use Rattle.raft_log_memtables.specs.declared.mem_tables.MemTables.{MemTables}
 use Rattle.raft_log_memtables.specs.Tables.{counts, has_table, promise_of, shown_of}
 
--- The table after this item was written to file `n` of Rewrite. A run moves the entries that the table still has and
--- the gate allows to the run's places (`rewritten_by`). A put moves the key's value to file `n`, if the table still has
--- it and the gate allows it. A Clean, Compact or Del is a tombstone that was owed, and changes nothing.
+-- The table after this item was written to file `n` of Rewrite. A run moves entries to its places, if the table still
+-- has them and the gate allows it (`rewritten_by`). A put moves the key's value to file `n`, if there is one and the
+-- gate allows it (`key_rewritten`). A Clean, Compact or Del is a tombstone that was owed, and changes nothing.
 abbrev pub rewritten_item : Option ℕ → ℕ → Shown → Item Place (List ℕ) → Shown
 rewritten_item gate n v (Run f ps) = rewritten_by gate v (Run f ps)
 rewritten_item gate n v (Put k w) = key_rewritten gate v k n
@@ -59,8 +59,8 @@ pub record PromisesMove {E V : Type 0} (old new : MemTables) (x : Tagged E V) : 
       ≡ moving (has_table old x.group) (promise_of old x.group) (count_of x.item)
   pub others : (g : ℕ) → (x.group == g) ≡ false → promise_of new g ≡ promise_of old g
 
--- The item `x` was written to file `n` of Rewrite. Its group's table changed as `rewritten_item` says, and used up
--- its moves. No other group changed, and no range of indexes did.
+-- The item `x` was written to file `n` of Rewrite. Its group's table changed as `rewritten_item` says, and used up the
+-- moves that were reserved for `x`. No other group changed. Each group's entries keep their range of indexes.
 pub record RewritesOne (gate : Option ℕ) (n : ℕ) (old new : MemTables) (x : Tagged Place (List ℕ))
     : Type 0 where
   pub stay : GroupsStay old new
@@ -71,7 +71,7 @@ pub record RewritesOne (gate : Option ℕ) (n : ℕ) (old new : MemTables) (x : 
       → (shown_of new g ≡ shown_of old g) × (promise_of new g ≡ promise_of old g)
 
 -- The items `xs` were written to file `n` of Rewrite. Their groups' tables changed as `all_rewritten` says, and used
--- up their moves. No range of indexes changed.
+-- up the moves that were reserved for `xs`. Each group's entries keep their range of indexes.
 pub record TakesRewritten (gate : Option ℕ) (n : ℕ) (old new : MemTables) (xs : List (Tagged Place (List ℕ)))
     : Type 0 where
   pub stay : GroupsStay old new
@@ -80,9 +80,9 @@ pub record TakesRewritten (gate : Option ℕ) (n : ℕ) (old new : MemTables) (x
   pub promise : (g : ℕ) → promise_of new g ≡ without_moves (promise_of old g) (entries_of g xs)
 
 -- The item is an allowed copy of what the table `v` has; `at` gives the bytes at each place.
--- - A run has the bytes of the table's entries. It starts at an entry in Rewrite or right after the last of these,
---   and ends at or after that one. Past it, it has only entries that the gate allows, and none if a Clean or Compact
---   is owed.
+-- - A run has the bytes of the table's entries. It starts at an entry in Rewrite or right after the last of these, and
+--   has all later entries in Rewrite. It has only those entries in Append that the gate allows, and none if a Clean or
+--   Compact is owed.
 -- - A put has the key's value, which the gate allows. If it is in Append, neither a Clean nor the key's Del is owed.
 abbrev pub IsCopy : {E : Type 0} → (Located → E) → Option ℕ → Shown → Item Place (List ℕ) → Type 0
 IsCopy at gate v (Run f ps) =
@@ -108,6 +108,6 @@ moves_of n (Run f ps ∷ xs) = MoveRun f ps ∷ moves_of n xs
 moves_of n (Put k w ∷ xs) = MoveKey k n ∷ moves_of n xs
 moves_of n (x ∷ xs) = moves_of n xs
 
--- the items with the entries that they write in Rewrite, if `at` gives the bytes at each place
+-- the items as they are written to Rewrite: with the bytes of their entries, which `at` gives for each place
 abbrev pub copied_items : {E : Type 0} → (Located → E) → List (Item Place (List ℕ)) → List (Item E (List ℕ))
 copied_items at xs = map (renamed (λ p. at (in_queue false p))) xs

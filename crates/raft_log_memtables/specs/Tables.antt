@@ -68,7 +68,7 @@ pub record ShowsSame (old new : MemTables) : Type 0 where
   pub shown : (g : ℕ) → shown_of new g ≡ shown_of old g
   pub counts : (g : ℕ) → counts new g ≡ counts old g
 
--- nothing is reserved for a batch of Append: in every group, the reserved range is that of the entries
+-- in every group, the reserved range of indexes is that of the entries
 abbrev pub IsAtRest : MemTables → Type 0
 IsAtRest m = (g : ℕ) → (promise_of m g).ends ≡ span (shown_of m g)
 

@@ -14,8 +14,8 @@ use Rattle.raft_log_memtable_index.specs.Noted.{AreInFile, AreUpTo, IsLeastInRew
 use Rattle.raft_log_memtable_index.specs.Bridge.{AllOwed, CanAllMove, IsMeant, Located, Move, all_moved, items_of as copies_of, marks, unmarked, without}
 use Rattle.raft_log_memtables.specs.Batch.{MayFollowAll, all_shown, all_written}
 
--- The view of an engine with the tables `v` and the contents `m`. `noted` has the file of each slot's content. If this
--- is in Rewrite, `noted_in_rewrite` has the first file of Rewrite that must be kept to recover it.
+-- The view of an engine with the tables `v` and the contents `m`. `noted` has the file of each slot's content. If the
+-- content is in Rewrite, `noted_in_rewrite` has the first file of Rewrite that must be kept to recover it.
 abbrev pub view_of : {E : Type 0} → (ℕ → Shown) → Map E (List ℕ) → View E (List ℕ)
 view_of v m = record {
   whereabouts = λ g. whereabouts (v g);
@@ -33,37 +33,37 @@ pub record AreMeant {E : Type 0} (at : Located → E) (v : ℕ → Shown) (m : M
 abbrev pub LieIn : ℕ → List (Tagged Place (List ℕ)) → Type 0
 LieIn n xs = (g : ℕ) → AreInFile n (of_group g xs)
 
--- Applying the items `xs` to the tables changes the view as appending the record `y` to file `n` of Append does. The
--- tables then represent the contents after `y`.
+-- Applying the items `xs` to the tables `v` changes the view as appending the record `y` to file `n` of Append does.
+-- The tables then represent what `y` makes of the contents `m`.
 pub record ViewGrows {E : Type 0} (at : Located → E) (n : ℕ) (v : ℕ → Shown) (m : Map E (List ℕ))
     (xs : List (Tagged Place (List ℕ))) (y : Record E (List ℕ)) : Type 0 where
   pub grows : GrowsTo y n (view_of v m) (view_of (all_shown n v xs) (taken m (y ∷ [])))
   pub meant : AreMeant at (all_shown n v xs) (taken m (y ∷ []))
 
--- Suppose the items `xs` leave no hole and no index too high, and their entries are in file `n`. Then applying them
--- to the tables changes the view as the record with these items and their bytes does.
+-- Suppose the tables represent the contents, the items `xs` leave no hole and no index too high, and their entries are
+-- in file `n`. Then applying `xs` changes the view as appending a record of these items, with their bytes, does.
 abbrev pub BatchGrowsTheView : Type 0 → Type 0
 BatchGrowsTheView E = (at : Located → E) (n : ℕ) (v : ℕ → Shown) (m : Map E (List ℕ))
     (xs : List (Tagged Place (List ℕ))) (y : Record E (List ℕ)) → AreMeant at v m → MayFollowAll v xs
     → LieIn n xs → items_of y ≡ all_written at xs → ViewGrows at n v m xs y
 
--- Changing the tables from `v` to `u` changes the view as a record with the items `xs` in file `n` of Rewrite does.
--- The new tables represent the same contents `m`.
+-- Changing the tables from `v` to `u` changes the view as writing a record with the items `xs` to file `n` of Rewrite
+-- does. The new tables represent the same contents `m`.
 pub record ViewCarries {E : Type 0} (at : Located → E) (n : ℕ) (v u : ℕ → Shown) (m : Map E (List ℕ))
     (xs : List (Tagged E (List ℕ))) : Type 0 where
   pub carries : CarriesTo xs n (view_of v m) (view_of u m)
   pub meant : AreMeant at u m
 
--- Suppose the copies are allowed in each group and go to files up to `n`. Then applying them to the tables changes
--- the view as their record does.
+-- Suppose the tables represent the contents, and the copies are allowed in each group and go to files up to `n`. Then
+-- applying the copies changes the view as writing their items `xs` to file `n` of Rewrite does.
 abbrev pub CopiesCarryTheView : Type 0 → Type 0
 CopiesCarryTheView E = (at : Located → E) (n : ℕ) (v : ℕ → Shown) (m : Map E (List ℕ)) (moves : ℕ → List Move)
     (xs : List (Tagged E (List ℕ))) → AreMeant at v m → ((g : ℕ) → CanAllMove at (v g) (moves g))
     → ((g : ℕ) → AreUpTo n (moves g)) → ((g : ℕ) → of_group g xs ≡ copies_of at (v g) (moves g))
     → ViewCarries at n v (λ g. all_moved (v g) (moves g)) m xs
 
--- If `xs` are all tombstones that the tables owe, dropping them from the tables changes the view as their record
--- does.
+-- Suppose the tables represent the contents, and `xs` are all tombstones that they owe. Then dropping these from the
+-- tables changes the view as writing `xs` to file `n` of Rewrite does.
 abbrev pub MarksCarryTheView : Type 0 → Type 0
 MarksCarryTheView E = (at : Located → E) (n : ℕ) (v : ℕ → Shown) (m : Map E (List ℕ))
     (keys : ℕ → List (List ℕ)) (xs : List (Tagged E (List ℕ))) → AreMeant at v m
@@ -71,8 +71,9 @@ MarksCarryTheView E = (at : Located → E) (n : ℕ) (v : ℕ → Shown) (m : Ma
     → ((g : ℕ) (k : List ℕ) → without (v g).deleted (keys g) k ≡ false)
     → ((g : ℕ) → of_group g xs ≡ marks (v g) (keys g)) → ViewCarries at n v (λ g. unmarked (v g)) m xs
 
--- How the end of an atomic group of Rewrite changes the tables: the group's files, the raft groups that it changes,
--- and the copies in each. `least` is a file below which the raft group then has nothing in Rewrite.
+-- How the end of an atomic group of Rewrite changes the tables. `files` are those of the atomic group, and `about` is
+-- true for the raft groups that it changes. `moves` has the copies in each of these. After the copies, the raft group
+-- has nothing of Rewrite in a file below `least`.
 pub record GroupEnd : Type 0 where
   pub files : GroupFiles
   pub about : ℕ → Bool
@@ -83,9 +84,9 @@ pub record GroupEnd : Type 0 where
 abbrev pub ended : GroupEnd → (ℕ → Shown) → ℕ → Shown
 ended e v g = if e.about g then with_note (all_moved (v g) (e.moves g)) (e.least g) e.files else v g
 
--- In raft group `g`, with the table `v g`, the copies of the end `e` are allowed, and are in files up to its last
--- one. After them, the raft group has nothing of Rewrite below file `e.least g`. The items of all records of the
--- atomic group have the same effect as these copies.
+-- In raft group `g`, with the table `v g`, the copies of the end `e` are allowed, and go to files up to `e.files.to`.
+-- After the copies, the raft group has nothing of Rewrite below file `e.least g`. The copies may replace `items`, those
+-- of all records of the atomic group.
 pub record MayEndIn {E : Type 0} (at : Located → E) (e : GroupEnd) (v : ℕ → Shown)
     (items : List (Tagged E (List ℕ))) (g : ℕ) : Type 0 where
   pub can : CanAllMove at (v g) (e.moves g)
@@ -109,8 +110,9 @@ pub record ViewEnds {E : Type 0} (at : Located → E) (n : ℕ) (v u : ℕ → S
   pub ends : EndsGroupTo first more xs n (view_of v m) (view_of u m)
   pub meant : AreMeant at u m
 
--- If the end of an atomic group is allowed, applying its copies to the tables changes the view as the end does. Here
--- `first` and `more` are the items of the group's earlier records, and `xs` those of the last one.
+-- Suppose the tables represent the contents, the end `e` of an atomic group is allowed, and no index in `xs` is too
+-- high. Then the change from `v` to `ended e v` changes the view as the end does. Here `first` and `more` are the items
+-- of the group's earlier records, and `xs` those of the last one.
 abbrev pub GroupEndsTheView : Type 0 → Type 0
 GroupEndsTheView E = (at : Located → E) (e : GroupEnd) (v : ℕ → Shown) (m : Map E (List ℕ))
     (first : List (Tagged E (List ℕ))) (more : List (List (Tagged E (List ℕ)))) (xs : List (Tagged E (List ℕ)))

@@ -1,4 +1,4 @@
--- Lists of groups, and numbers that are summed over all groups.
+-- Lists of groups, a sum over all groups, and the lowest file that any group needs.
 use Rattle.std.specs.Prelude.{◌≡◌, ◌⊎◌, ◌≤◌, ◌-◌, ◌^◌, ℕ, ◌==◌, min, Bool, false, ◌||◌, List, [], ◌∷◌, Option, Some, None, sum_by}
 use Rattle.std.specs.BTreeMap.{get}
 use Rattle.std.specs.List.{list_any}
@@ -18,12 +18,13 @@ pub record ListsGroups (test : ℕ → Bool) (gs : List ℕ) : Type 0 where
   pub rising : IsStrictlySortedBy nat_cmp gs
   pub exact : (g : ℕ) → list_any (λ k. k == g) gs ≡ test g
 
--- whether a group with this table is listed: with `all`, each group that has a table, else those that count
+-- whether a group with this table, or with none, is listed: if `all` is true, each group with a table is, otherwise
+-- only those that count
 abbrev pub listed_in : Bool → Option GroupTable → Bool
 listed_in all None = false
 listed_in all (Some t) = all || t.counts
 
--- whether group `g` is listed: with `all`, if it has a table, else if it counts
+-- whether group `g` is listed: if `all` is true, each group with a table is, otherwise only those that count
 abbrev pub is_listed : Bool → MemTables → ℕ → Bool
 is_listed all m g = listed_in all (get nat_cmp m.groups g)
 
@@ -43,13 +44,11 @@ abbrev pub least_in : LogQueue → Option Raw → Option ℕ
 least_in queue None = None
 least_in queue (Some t) = min_file queue t
 
--- `n` is the lowest file of `queue` that the table needs, both as `min_file` computes it and by the table's entries
--- and values
+-- `n` is the lowest file of `queue` that the table needs, as `min_file` computes it and as `IsMinFile` says
 abbrev pub IsLeastInTable : LogQueue → Raw → ℕ → Type 0
 IsLeastInTable queue t n = (min_file queue t ≡ Some n) × IsMinFile queue (shown t) (Some n)
 
--- `n` is the lowest file of `queue` that group `g` needs, both as `min_file` computes it and by the table's entries
--- and values
+-- `n` is the lowest file of `queue` that group `g` needs, as `min_file` computes it and as `IsMinFile` says
 abbrev pub IsLeastIn : LogQueue → MemTables → ℕ → ℕ → Type 0
 IsLeastIn queue m g n = (least_in queue (raw_of m g) ≡ Some n) × IsMinFile queue (shown_of m g) (Some n)
 

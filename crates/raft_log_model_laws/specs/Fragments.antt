@@ -15,7 +15,7 @@ pub data Head (E V : Type 0) : Type 0 where
   -- another group of its number begins before it ends, so its items are dropped
   BeginsAnew : Head E V
 
--- what these records do with atomic group `n`, to which the items `xs` were added before
+-- what a segment does with atomic group `n`, if its earlier records added the items `xs` and these records follow
 abbrev pub head : {E V : Type 0} → ℕ → List (Tagged E V) → List (Record E V) → Head E V
 head n xs [] = GoesOn xs
 head n xs (Plain ys ∷ rs) = head n xs rs

@@ -27,7 +27,7 @@ none_open n = None
 abbrev pub set_open : {E V : Type 0} → Open E V → ℕ → Option (List (Tagged E V)) → Open E V
 set_open o n v k = if n == k then v else o k
 
--- an open atomic group with more items; one that isn't open stays so
+-- an atomic group with the items `ys` added, if it is open; `None` if it isn't
 abbrev pub onto : {E V : Type 0} → Option (List (Tagged E V)) → List (Tagged E V) → Option (List (Tagged E V))
 onto None ys = None
 onto (Some xs) ys = Some (xs ++ ys)

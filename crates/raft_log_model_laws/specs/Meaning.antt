@@ -45,7 +45,7 @@ says s xs = last_word (write s) xs
 abbrev pub holds : {E V : Type 0} → Slot → List (Item E V) → Option (Content E V)
 holds s xs = unwrap_or (says s xs) None
 
--- what is in the slot of a directory: Append's items decide if they touch it, otherwise Rewrite's
+-- what is in the slot of a directory: if Append's items touch it, what they leave there; otherwise what Rewrite's leave
 abbrev pub directory : {E V : Type 0} → Slot → List (Item E V) → List (Item E V) → Option (Content E V)
 directory s rewrite append = unwrap_or (says s append) (holds s rewrite)
 

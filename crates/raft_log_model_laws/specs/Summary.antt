@@ -56,11 +56,12 @@ word z (Key k) =
     option_or (option_map (λ v. Some (Value v)) (z.table.values k))
     (if z.cleaned || z.deleted k then Some None else None)
 
--- the values of keys after an earlier table `t` and the later items of summary `z`
+-- the values of keys, if `t` is the table of earlier items, and `z` the summary of the items after them
 abbrev pub values_over : {E V : Type 0} → Table E V → Summary E V → List ℕ → Option V
 values_over t z k = option_or (z.table.values k) (if z.cleaned || z.deleted k then None else t.values k)
 
--- the table's entries after an earlier table `t` and the later items of summary `z`
+-- a table with the entries, if `t` is the table of earlier items, and `z` the summary of the items after them; its
+-- values don't count
 abbrev pub entries_over : {E V : Type 0} → Table E V → Summary E V → Table E V
 entries_over t z =
     if z.cleaned then z.table
@@ -96,7 +97,8 @@ join_all (Both s t) = join (join_all s) (join_all t)
 abbrev pub IsSummarySound : {E V : Type 0} → Summary E V → Type 0
 IsSummarySound z = 0 < length z.table.entries → is_below z.table.first z.high ≡ false
 
--- `z` is a summary of the items `xs`, however it was made: it does to each slot what they do
+-- `z` is a summary of the items `xs`, however it was made: it is sound (`IsSummarySound`), and does to each slot what
+-- they do
 pub record IsSummary {E V : Type 0} (z : Summary E V) (xs : List (Item E V)) : Type 0 where
   pub sound : IsSummarySound z
   pub says : (s : Slot) → word z s ≡ says s xs

@@ -1,5 +1,5 @@
--- Tidy records. An atomic group has items of some raft groups. Between its begin and its end, no other item of these
--- raft groups starts to count.
+-- Tidy records. An atomic group has items of some raft groups. Of the records between its begin and its end, no other
+-- item of these raft groups starts to count before the end.
 use Rattle.std.specs.Prelude.{ℕ, List, [], ◌∷◌, ◌++◌, ◌≡◌, ◌⊎◌, ◌==◌, MatchBool, ⊤}
 use Rattle.raft_log_model_laws.specs.Item.{Tagged, Record}
 use Rattle.raft_log_model_laws.specs.Item.Record.{Plain, Part}
@@ -10,9 +10,9 @@ use Rattle.raft_log_model_laws.specs.Groups.{of_group, Open, none_open, counts, 
 abbrev pub Apart : {E V : Type 0} → List (Tagged E V) → List (Tagged E V) → Type 0
 Apart xs ys = (g : ℕ) → (of_group g xs ≡ []) ⊎ (of_group g ys ≡ [])
 
--- Atomic group `n` has the items `xs` so far. Since its begin the items `said` started to count, and `o` are the other
--- atomic groups that began and are open. If group `n` ends in these records, no raft group has items both in it and in
--- what started to count since its begin.
+-- Atomic group `n` has the items `xs` so far. Of the records since its begin, the items `said` started to count, and
+-- `o` are the other atomic groups that are open. If group `n` ends in these records, no raft group has items both in it
+-- and in what started to count since its begin.
 abbrev pub Undisturbed : {E V : Type 0} → ℕ → List (Tagged E V) → List (Tagged E V) → Open E V
     → List (Record E V) → Type 0
 Undisturbed n xs said o [] = ⊤
@@ -26,8 +26,9 @@ Undisturbed n xs said o (Part (End k) ys ∷ rs) =
     MatchBool (k == n) (Apart (xs ++ ys) said)
     (Undisturbed n xs (said ++ counts o (Part (End k) ys)) (opens o (Part (End k) ys)) rs)
 
--- Take each atomic group that begins and ends in these records. No raft group has items both in it and in what starts
--- to count between its begin and its end.
+-- Take each atomic group that begins and ends in these records, and the records between its begin and its end. No raft
+-- group has items both in the atomic group and in what counts of the records between. Another atomic group that began
+-- before this one isn't considered.
 abbrev pub Tidy : {E V : Type 0} → List (Record E V) → Type 0
 Tidy [] = ⊤
 Tidy (Plain xs ∷ rs) = Tidy rs

@@ -27,7 +27,7 @@ told_over first second group = option_or (first group) (second group)
 abbrev pub found_among : BTreeMap ℕ ℕ → ℕ → Option ℕ
 found_among found group = get nat_cmp found group
 
--- if there is a finding `end`, it replaced that of the group in the map; the other groups are unchanged
+-- if there is a finding `end`, it replaced the group's finding in the map; the other groups are unchanged
 pub record NotesFinding (group : ℕ) (end : Option ℕ) (old new : BTreeMap ℕ ℕ) : Type 0 where
   pub one : found_among new group ≡ option_or end (found_among old group)
   pub others : (other : ℕ) → (group == other) ≡ false → found_among new other ≡ found_among old other

@@ -1,4 +1,4 @@
--- A fork: the files of a log that no engine has open are copied to another directory.
+-- A fork copies the files of a log to another directory. No engine has the log open.
 use Rattle.std.specs.Prelude.{◌≡◌, ℕ, ◌⊎◌, true, false, None, List, [], ◌∷◌, ◌++◌, codes, map, Contains}
 use Rattle.std.specs.String.{string_bytes}
 use Rattle.raft_log_record_base.specs.declared.errors.Error.{Error}
@@ -39,8 +39,8 @@ pub record MayBeCopied (s : Settings) : Type 0 where
   pub recycle : s.enable_log_recycle ≡ false
   pub mode : s.recovery_mode ≡ TolerateAnyCorruption → ⊥
 
--- Why a fork to `target` is not allowed, and the message of its error. If there are several reasons, it is the first
--- of these.
+-- Why a fork to `target` is not allowed, and the message of its error. If there are several reasons, the first one of
+-- this list counts.
 pub data Forbids (s : Settings) (target : List ℕ) (d : Disk) (text : List ℕ) : Type 0 where
   recycles : s.enable_log_recycle ≡ true → text ≡ codes "enable_log_recycle should be false"
       → Forbids s target d text

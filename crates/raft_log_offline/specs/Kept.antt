@@ -31,8 +31,8 @@ kept (run ∷ runs) = Some (record {
 abbrev pub hole_between : GroupRuns → GroupRuns → Option ℕ
 hole_between earlier later = if nat_lt (earlier.last + 1) later.first then Some earlier.last else None
 
--- What is kept of earlier and then later runs. The finding is that of the earlier ones; if they have none, the hole
--- between; if there is none, the finding of the later ones.
+-- What is kept of earlier and then later runs. The finding is that of the earlier runs. If they have none, it is the
+-- hole between the two, and without such a hole the finding of the later runs.
 abbrev pub followed : GroupRuns → GroupRuns → GroupRuns
 followed earlier later = record {
   first = earlier.first;
@@ -40,7 +40,7 @@ followed earlier later = record {
   hole_after = option_or earlier.hole_after (option_or (hole_between earlier later) later.hole_after);
 }
 
--- what is kept of earlier and then later runs, if there may be none of either
+-- what is kept of earlier and then later runs; there may be no earlier ones, no later ones, or neither
 abbrev pub both_kept : Option GroupRuns → Option GroupRuns → Option GroupRuns
 both_kept None later = later
 both_kept (Some earlier) None = Some earlier

@@ -20,8 +20,8 @@ abbrev pub IsNoLater : FoundFile → FoundFile → Type 0
 IsNoLater a b = (a.path_id < b.path_id)
     ⊎ ((a.path_id ≡ b.path_id) × (a.signed ≡ true → b.signed ≡ true))
 
--- Of the files in `found` that have its number, `file` is the one that counts: the one in the last directory. If two
--- files there have the number, it is the one whose name has a plus sign.
+-- Among the files in `found` that have the number of `file`, it is the one that counts: the one in the last directory.
+-- If two files in that directory have this number, it is the one whose name has a plus sign.
 pub record IsLastOf (found : List FoundFile) (file : FoundFile) : Type 0 where
   pub there : Contains found file
   pub last : (other : FoundFile) → Contains found other → other.seq ≡ file.seq → IsNoLater other file

@@ -31,7 +31,7 @@ abbrev pub Fills : ℕ → List ℕ → Disk → Disk → Type 0
 Fills id bytes old new =
     ((bytes ≡ []) × (new ≡ old)) ⊎ Changes id (after_change (Wrote 0 bytes)) old new
 
--- the path names a new file with these bytes, all of them synced, and nothing else changed
+-- the path names a file with these bytes, all of them synced, and nothing else changed
 pub record MakesFile (path bytes : List ℕ) (old new : Disk) : Type 0 where
   pub adds : (target : List ℕ) → AddsOnly target (λ other. other ≡ path) old new
   pub copy : ℕ

@@ -42,8 +42,8 @@ abbrev pub joined : List (List ℕ) → List ℕ
 joined [] = []
 joined (bytes ∷ more) = bytes ++ joined more
 
--- The last whole record of `content` ends at `end`, and `rest` is what follows it in the bytes without padding. If only
--- padding is left there, it is empty. If the next record is broken, it is all bytes from `end` on, unchanged.
+-- The last record of `content` ends at `end`. In the bytes without padding, `rest` follows that record. If only padding
+-- is left at `end`, `rest` is empty. If the next record is broken, `rest` is all bytes from `end` on, unchanged.
 abbrev pub IsRest : OpenFile → List ℕ → ℕ → List ℕ → Type 0
 IsRest file content end rest = (HasNoMore file content end × (rest ≡ []))
     ⊎ ((fault : Fault) × IsBroken file content end fault × (rest ≡ drop end content))

@@ -1,4 +1,4 @@
--- An open finds a log's files. If one of them has an alignment, it first writes the files without padding.
+-- An open finds a log's files. If one of them has an alignment, it writes the files without padding and scans again.
 use Rattle.std.specs.Prelude.{◌≡◌, List, String}
 use Rattle.std.specs.declared.alloc.Global.{Global}
 use Rattle.raft_log_record_base.specs.declared.errors.Error.{Error}

@@ -45,8 +45,8 @@ RecordsReadTheSame =
 abbrev pub placed_bytes : FileBlockHandle → List ℕ → List ℕ
 placed_bytes block content = take block.len (drop block.offset content)
 
--- `others` are the same items as `items`, with their entry block at another offset of the same file, and the same
--- bytes in it
+-- `others` are the same items as `items`; their entry block is in the same file, perhaps at another offset, and has the
+-- same bytes
 pub record AreMoved (content new : List ℕ) (items others : List LogItem) : Type 0 where
   pub plain : List LogItem
   pub from : FileBlockHandle
@@ -57,9 +57,9 @@ pub record AreMoved (content new : List ℕ) (items others : List LogItem) : Typ
   pub same_len : to.len ≡ from.len
   pub same : placed_bytes to new ≡ placed_bytes from content
 
--- `old` was read from the bytes `content`, and `read` from `new`. Both have the same batches in the same order, with
--- entry blocks at other offsets. The format of `read` has the same version, and no alignment. `read` ends with a fault
--- exactly if `old` does.
+-- `old` was read from the bytes `content`, and `read` from `new`. Both have the same batches in the same order, perhaps
+-- with entry blocks at other offsets. The format of `read` has the same version, and no alignment. `read` ends with a
+-- fault exactly if `old` does.
 pub record ReadsMoved (content new : List ℕ) (old read : FileReading) : Type 0 where
   pub plain : read.format ≡ plain_format old.format
   pub batches : AllZip (AreMoved content new) old.batches read.batches

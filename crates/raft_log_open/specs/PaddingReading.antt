@@ -1,4 +1,4 @@
--- Reading a log file for the bytes that it gets if its padding is removed.
+-- Reading a log file, to find the bytes that it will have without its padding.
 use Rattle.std.specs.Prelude.{◌≡◌, ℕ, ◌<◌, ◌++◌, List, Some}
 use Rattle.raft_log_record_base.specs.Fault.{Fault}
 use Rattle.raft_log_record_items.specs.declared.item.LogItem.{LogItem}
@@ -17,7 +17,7 @@ use Rattle.raft_log_open.specs.declared.content.Next.TheVariants as nexts
 abbrev pub content_of : ListedFile → Disk → List ℕ
 content_of file d = bytes_in (d.files file.handle.file)
 
--- the file has no alignment, no header, or is a last file without a whole record (`IsUnpadded`), so it isn't rewritten
+-- the file isn't rewritten: it has no alignment or no header, or is a last file without a whole record (`IsUnpadded`)
 abbrev pub NeedsNothing : Disk → ListedFile → Type 0
 NeedsNothing d file = IsUnpadded file.is_last file.id (content_of file d)
 

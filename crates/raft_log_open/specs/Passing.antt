@@ -1,4 +1,5 @@
--- The contract of a replay machine that keeps nothing. It is for calls that only need to know how the files end.
+-- The contract of a replay machine that keeps nothing. Calls use such a machine if they only need to know how the files
+-- end.
 use Rattle.std.specs.Prelude.{List}
 use Rattle.raft_log_record_base.specs.declared.pipe_log.LogQueue.{LogQueue}
 use Rattle.raft_log_replay.specs.Machines.{Batch}

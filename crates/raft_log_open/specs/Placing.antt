@@ -17,7 +17,7 @@ abbrev pub kind_of : LogQueue → FileKind
 kind_of Append = kinds.Append
 kind_of Rewrite = kinds.Rewrite
 
--- the path of the temporary file in a directory, before it is renamed to the file that it replaces
+-- the path that a temporary file has in a directory, until it is renamed to the file that it replaces
 abbrev pub temporary_in : List ℕ → List ℕ
 temporary_in directory = directory ++ 47 ∷ codes "unpadded"
 

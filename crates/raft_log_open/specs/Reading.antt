@@ -1,4 +1,4 @@
--- An open reads the queues of a log into contexts, and merges these into the tables.
+-- An open reads the queues of a log into replay contexts, and merges these into the tables.
 use Rattle.std.specs.Prelude.{◌≡◌, ◌-◌, ◌^◌, ℕ, min, List, length}
 use Rattle.raft_log_record_base.specs.declared.pipe_log.LogQueue.{LogQueue}
 use Rattle.raft_log_record_base.specs.declared.pipe_log.LogQueue.TheVariants.{Append, Rewrite}
@@ -65,7 +65,7 @@ pub record AreMergedOf (append rewrite : MemTableRecoverContext) (tables : MemTa
   pub rest : IsAtRest tables
 
 -- Both queues were read and merged into these tables, and then the reserved files were readied, as the settings want.
--- The builder has all that opening the pipes needs. `disk` gives the disk of a file system's state, and `tells` the
+-- The builder has a result for each file of the queues. `disk` gives the disk of a file system's state, and `tells` the
 -- free space that it may return for a directory.
 pub record ReadsLog {F : Type 0} (disk : F → Disk) (tells : F → List ℕ → ℕ → Type 0) (config : Config)
     (tables : MemTables) (b : DualPipesBuilder) (old new : F) : Type 0 where

@@ -1,4 +1,4 @@
--- Writing the files of a log without padding: each file that has some is replaced.
+-- Writing the files of a log without padding: each file that has padding is replaced.
 use Rattle.std.specs.Prelude.{◌≡◌, ℕ, ◌⊎◌, true, Option, None, Some, List, [], ◌∷◌, ◌++◌, Contains}
 use Rattle.std.specs.String.{string_bytes}
 use Rattle.std.specs.declared.io.ErrorKind.{ErrorKind}
@@ -88,8 +88,8 @@ pub record WritesAnew (file : PlacedFile) (old new : Disk) : Type 0 where
   pub needs : NeedsBytes old (listed_as file handle) bytes
   pub replaces : Replaces (string_bytes file.temporary) (string_bytes file.path) bytes old new
 
--- Why writing a file without padding fails, and the disk after it. If it wasn't opened or read, nothing changed. If it
--- has padding and wasn't replaced, its path has the old file unchanged, or the whole new one.
+-- Why writing a file without padding fails, and the disk after it. If the file wasn't opened or read, nothing changed.
+-- If it has padding and replacing it failed, its path names the old file unchanged, or the whole new one.
 pub data FailsToUnpadOne (file : PlacedFile) (error : Error) (old new : Disk) : Type 0 where
   unopened : FailsToLookAt (string_bytes file.path) old error → new ≡ old → FailsToUnpadOne file error old new
   unread : (handle : Handle) → IsOpened (string_bytes file.path) ReadOnly handle old

@@ -33,7 +33,7 @@ FailsToCopy place target (Log error) old new = FailsToFork (kept_settings place)
 FailsToCopy place target (Output _) old new = Copies place target old new
 FailsToCopy place target _ old new = ⊥
 
--- the files of the log in these directories that have padding were rewritten without it
+-- in the log of these directories, the files that have padding were rewritten without it
 abbrev pub TakesPadding : Place → Disk → Disk → Type 0
 TakesPadding place old new =
     (written : List FileId) × Unpads (directories_of (kept_settings place)) written old new
@@ -45,13 +45,13 @@ FailsToTakePadding place (Log error) old new = FailsToUnpad (directories_of (kep
 FailsToTakePadding place (Output _) old new = TakesPadding place old new
 FailsToTakePadding place _ old new = ⊥
 
--- what a task that succeeds did to the disk: only `Fork` and `Unpad` change it
+-- what a task did to the disk if it succeeded: only `Fork` and `Unpad` change it
 abbrev pub Does : Place → Task → Disk → Disk → Type 0
 Does place (Fork target) old new = Copies place target old new
 Does place Unpad old new = TakesPadding place old new
 Does place _ old new = new ≡ old
 
--- what a task that failed with this fault did to the disk: only `Fork` and `Unpad` may change it
+-- what a task did to the disk if it failed with this fault: only `Fork` and `Unpad` may change it
 abbrev pub FailsToDo : Place → Task → CommandFault → Disk → Disk → Type 0
 FailsToDo place (Fork target) fault old new = FailsToCopy place target fault old new
 FailsToDo place Unpad fault old new = FailsToTakePadding place fault old new

@@ -42,7 +42,7 @@ abbrev pub words_of : Command → List (List ℕ)
 words_of Help = codes "--help" ∷ []
 words_of (On place task) = task_words place task
 
--- this word is the decimal number of no group
+-- this word isn't the decimal number of any group
 abbrev pub NamesNoGroup : List ℕ → Type 0
 NamesNoGroup word = (group : ℕ) → group < 2 ^ 64 → word ≢ decimal group
 

@@ -57,8 +57,8 @@ abbrev pub AreRewrittenTo : ℕ → EngineState → Type 0
 AreRewrittenTo gate s = (g : ℕ) → IsRewrittenTo gate (s.tables g)
 
 -- Each group that passes the test was rewritten up to the gate. Rewrite was synced at the end. It was also synced
--- before a record whenever 512 KiB or more had been written since the last sync. If no tombstone was owed and no batch
--- pending, the log has the same contents, and nothing is pending in either queue.
+-- before a record whenever this rewrite had written 512 KiB or more since its last sync. If no tombstone was owed and
+-- no batch pending, the log has the same contents, and nothing is pending in either queue.
 pub record RewritesSynced (test : ℕ → Bool) (gate : ℕ) (s t : EngineState) : Type 0 where
   pub copied : EngineState
   pub copies : Rewrites test gate s copied
@@ -127,8 +127,8 @@ GoesOnBehindMarks exit gate m s t = MatchBool (ends_after 1 exit) (t ≡ s)
 
 -- Append was rewritten. It was synced, rotated if its active file was the gate, and the owed tombstones were written.
 -- Then all groups were rewritten and files left the live range, unless `exit` requested an earlier end. The log has the
--- same contents, nothing is pending, and no tombstone is owed. If no watermark and no last step was requested, Append
--- has one file left.
+-- same contents, nothing is pending, and no tombstone is owed. If neither a watermark nor an earlier end was requested,
+-- Append has one file left.
 pub record RewritesAppend (watermark exit : Option ℕ) (m : MemTables) (s t : EngineState) : Type 0 where
   pub synced : LogPipes
   pub syncs : SyncsQueue InAppend s.pipes synced
@@ -164,7 +164,7 @@ pub record FailsToLoseTo (gate : ℕ) (error : Error) (s t : EngineState) : Type
   pub cause : gate < last_of InAppend s.pipes → (home : LogDirectories) (log : LogMap) → HoldsSettled home s log
       → HasFileReason error s t
 
--- A step after the owed tombstones were written failed.
+-- The owed tombstones were written, and a later step failed.
 -- - `remains`: the contents are kept as `StaysOrIsLeftSettled` says.
 -- - `cause`: if the gate was before Append's active file, no tombstone was owed and nothing pending, `HasReason` gives
 --   the reason.

@@ -23,8 +23,8 @@ pub record PurgesAndCounts (hold_back : LogPipes → Option ℕ → Type 0) (thr
   pub purges : PurgesExpired hold_back thresholds before after counted purged groups s t
   pub second : CountsIf past after purged new
 
--- The counts after a purge of expired files failed. They were updated before it if a queue was past its threshold;
--- then the step that failed decides which are kept.
+-- The counts after a purge of expired files failed. If a queue was past its threshold, they were updated before the
+-- purge. Which counts are left after that depends on the step that failed (`KeepsCounts`).
 pub record CountsIfPast (thresholds : Thresholds) (before : MemTables) (old new : PurgeCounts) (s t : EngineState)
     : Type 0 where
   pub past : Bool
@@ -41,8 +41,8 @@ pub record CountsAndResets (before : MemTables) (old new : PurgeCounts) : Type 0
   pub stats : new.stats ≡ reset_counts counted.stats
   pub rounds : new.rounds ≡ old.rounds
 
--- the counts after a rewrite of Rewrite failed: they were updated before it, and then the step that failed decides
--- which are kept
+-- The counts after a rewrite of Rewrite failed. They were updated before the rewrite. Which counts are left after that
+-- depends on the step that failed (`StopsAtRewrite`).
 pub record CountsAndKeeps (before : MemTables) (old new : PurgeCounts) (s t : EngineState) : Type 0 where
   pub counted : PurgeCounts
   pub first : CountsStanding before old counted

@@ -31,13 +31,13 @@ use Rattle.raft_log_purge.specs.Append.{RewritesSynced, StaysOrIsLeftSettled, up
 
 -- The groups.
 
--- each group's count of purges in a row that asked for it was updated for one more purge (`round_behind`)
+-- for each group, the count of purges in a row that asked for it was updated for one more purge (`round_behind`)
 abbrev pub CountsRound : Watermarks → MemTables → Rounds → Rounds → Type 0
 CountsRound marks m old new =
     (g : ℕ) → count_of new g ≡ round_behind (asks_at marks m g) (count_of old g)
 
--- What a purge of Append picks, by the tables `m`, the watermarks `marks` and the counts `old` of purges in a row that
--- asked for each group. `restated` says whether Rewrite was compacted before.
+-- What a purge of Append picks, by the tables `m` and the watermarks `marks`. `old` has for each group the count of
+-- purges in a row that asked for it. `restated` says whether this purge has compacted Rewrite.
 -- - `answered`: the groups that the purge returns to its caller.
 -- - `rewritten`: the groups that the purge rewrites itself.
 -- - `rounds`, `owed`: the counts with this purge, and all tombstones that are owed.

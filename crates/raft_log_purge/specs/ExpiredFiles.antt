@@ -21,8 +21,8 @@ use Rattle.raft_log_purge.specs.Append.{FailsToRewriteAppend}
 use Rattle.raft_log_purge.specs.Expired.{PurgesIfPast}
 use Rattle.raft_log_purge.specs.Garbage.{CountsRefused}
 
--- Rewrite was rewritten exactly if it is past its threshold and enough of it is garbage; the flag says whether it was.
--- `old` and `new` are the counts, and `before` and `after` the tables, before and after this.
+-- Rewrite was rewritten exactly if it was past its threshold and enough of it was garbage; the flag says whether it
+-- was. The counts were `old` and are `new` now. The tables were `before` and are `after` now.
 abbrev pub RewritesIfPast : Thresholds → GlobalStats → GlobalStats → MemTables → MemTables → Bool → EngineState
     → EngineState → Type 0
 RewritesIfPast thresholds old new before after true s t =
@@ -42,8 +42,8 @@ pub record SyncsAndRewrites (m : MemTables) (s t : EngineState) : Type 0 where
       → HoldsSettled home t (taken log pending)
 
 -- Expired files were purged, and `groups` are returned. Append was synced, Rewrite was rewritten if that was due, and
--- then Append was purged if that was due. All files from the first pinned one (`held`) on stay. The log has the same
--- contents, and no batch is pending.
+-- then Append was purged if that was due. Append keeps all files from the first pinned one (`held`) on. The log has the
+-- same contents, and no batch is pending.
 pub record PurgesExpired (hold_back : LogPipes → Option ℕ → Type 0) (thresholds : Thresholds)
     (before after : MemTables) (old new : PurgeCounts) (groups : List ℕ) (s t : EngineState) : Type 0 where
   pub synced : LogPipes

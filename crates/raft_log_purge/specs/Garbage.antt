@@ -23,7 +23,7 @@ abbrev pub CountsFrom : ℕ → Option ℕ → Shown → ℕ → Type 0
 CountsFrom file None v n = n ≡ 0
 CountsFrom file (Some least) v n = ((file < least) × StandIn v n) ⊎ ((least ≤ file) × (n ≡ 0))
 
--- `n` live entries and values of the group are in Rewrite, all in files after `file`; `n` is 0 if not all are
+-- if all live entries and values that the group has in Rewrite are in files after `file`, `n` is their number, else 0
 abbrev pub StandsPast : ℕ → Shown → ℕ → Type 0
 StandsPast file v n = (least : Option ℕ) × IsMinFile Rewrite v least × CountsFrom file least v n
 

@@ -30,8 +30,8 @@ BoundedBatchesAreNotFull = (b : Batch) (error : Error) (s t : EngineState) → H
 abbrev pub ModestLogsMakeRecords : Type 0
 ModestLogsMakeRecords = (m : LogMap) → AreModest m → HasLongGroup m → ⊥
 
--- The groups of a log's contents are modest in size, if all their keys and values are known (`AreKnown`). By their
--- bound, those known of each group must take less than 2 ^ 54 bytes together.
+-- The groups of a log's contents are modest in size, if all their keys and values are known (`AreKnown`). The known
+-- ones of each group must take less than 2 ^ 54 bytes together, by the bound `pairs_bound`.
 abbrev pub KnownLogsAreModest : Type 0
 KnownLogsAreModest = (m : LogMap) (known : ℕ → List (List ℕ × List ℕ)) → AreKnown m known
     → ((g : ℕ) → pairs_bound (known g) < 2 ^ 54) → AreModest m

@@ -25,8 +25,8 @@ abbrev pub every : ℕ → Bool
 every g = true
 
 -- All groups were restated: what they have live in Rewrite is in new records there. Rewrite was synced at the end. It
--- was also synced before a record whenever 512 KiB or more had been written since the last sync. If no batch was
--- pending, the log has the same contents, and nothing is pending in either queue.
+-- was also synced before a record whenever 512 KiB or more of the new records had been written since the last sync. If
+-- no batch was pending, the log has the same contents, and nothing is pending in either queue.
 pub record RestatesAll (s t : EngineState) : Type 0 where
   pub restated : EngineState
   pub restates : Restates every s restated
@@ -74,7 +74,7 @@ pub record FailsToRewriteRewrite (error : Error) (s t : EngineState) : Type 0 wh
   pub remains : StaysOrIsLeft error s t
   pub cause : GivesReason error s t
 
--- the counts after Rewrite was rewritten: the garbage is subtracted from the number that was written, and is 0 then
+-- the counts after Rewrite was rewritten: what was counted as garbage no longer counts as written, nor as garbage
 abbrev pub reset_counts : GlobalStats → GlobalStats
 reset_counts s = record s {
   rewrite_entries = s.rewrite_entries - s.deleted_rewrite_entries;

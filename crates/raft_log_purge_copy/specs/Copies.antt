@@ -15,8 +15,8 @@ use Rattle.raft_log_purge_copy.specs.Reasons.{HasReason}
 use Rattle.raft_log_purge_copy.specs.Refusals.{IsOverlong}
 
 -- The batch was written to Rewrite at `block`, and the tables locate its entries and values there now. The copies are
--- of items in files of Append up to the gate, or in Rewrite if there is no gate. The log has the same contents if no
--- batch was pending, and the items are copies (`HasCopies`) and no part of an atomic group.
+-- of items in files of Append up to the gate, or in Rewrite if there is no gate. If no batch was pending, and the items
+-- are copies (`HasCopies`) without a mark of an atomic group, the log has the same contents.
 pub record MovesCopies (gate : Option ℕ) (b : Batch) (s t : EngineState) : Type 0 where
   pub block : FileBlockHandle
   pub alive : has_failed t ≡ false
@@ -32,7 +32,7 @@ pub record MovesCopies (gate : Option ℕ) (b : Batch) (s t : EngineState) : Typ
 abbrev pub WritesCopies : Option ℕ → Batch → EngineState → EngineState → Type 0
 WritesCopies gate b s t = ((b.items ≡ []) × (t ≡ s)) ⊎ (((b.items ≡ []) → ⊥) × MovesCopies gate b s t)
 
--- The batch wasn't written, and the tables are unchanged. If it is no part of an atomic group, and no batch was
+-- The batch wasn't written, and the tables are unchanged. If it has no mark of an atomic group, and no batch was
 -- pending:
 -- - Its record would be too long, or the error has a reason that any part of a purge may have.
 -- - If its items are copies, the log has the same contents; or the error is `Failed`, and an open finds them.

@@ -40,7 +40,7 @@ pub record LosesFiles (queue : LogQueue) (limit : ℕ) (m : MemTables) (count : 
   pub keeps : (home : LogDirectories) (log : LogMap) → HoldsSettled home s log
       → MayLoseFiles (which_of queue) s.tables → HoldsSettled home t log
 
--- What is left after files failed to leave the live range, by the error:
+-- What is left after taking files out of the live range failed, by the error:
 -- - `Failed`: an open of the log's files finds the contents `m`, no batch pending
 -- - any other: the engine's log has the contents `m`, nothing pending in either queue
 abbrev pub RemainsSettled : LogDirectories → LogMap → EngineState → Error → Type 0
@@ -53,8 +53,8 @@ IsNoLimit queue limit (errors.Other fault) s =
     IsInSpan limit (pipe_at (which_of queue) (files_of s.pipes)) → ⊥
 IsNoLimit queue limit _ s = ⊥
 
--- Files below `limit` failed to leave the queue's live range: the error says why, or `limit` isn't in that range. A
--- log with nothing pending keeps its contents, or an open finds them if the error is `Failed`. For Append, this
+-- Taking files below `limit` out of the queue's live range failed: the error says why, or `limit` isn't in that range.
+-- A log with nothing pending keeps its contents, or an open finds them if the error is `Failed`. For Append, this
 -- requires that no tombstone is owed.
 pub record FailsToLoseFiles (queue : LogQueue) (limit : ℕ) (error : Error) (s t : EngineState) : Type 0 where
   pub tells : has_failed s ≡ false → IsTrue (has_failed t) ↔ (error ≡ errors.Failed)

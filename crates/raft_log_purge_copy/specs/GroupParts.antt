@@ -1,4 +1,4 @@
--- The parts of an atomic group in which a group is restated.
+-- The parts of an atomic group of records, by which one Raft group is restated.
 use Rattle.std.specs.Prelude.{◌≡◌, ◌+◌, ◌<◌, ◌≤◌, ℕ, false, List, [], ◌∷◌, ◌++◌, length}
 use Rattle.raft_log_fs.specs.Causes.{IsLater}
 use Rattle.raft_log_record_items.specs.declared.item.LogItem.{LogItem}
@@ -50,7 +50,7 @@ pub record IsMarkedPiece (g f number : ℕ) (status : AtomicGroupStatus) (bytes 
   pub some : b.items ≡ [] → ⊥
 
 -- Atomic group `number` is open in `t`, and its parts have the first `done` of the entries that group `g` has in
--- Rewrite. None of its parts counts yet: the tables are those of `s`, from before it began.
+-- Rewrite. None of these parts counts yet: the tables are those of `s`, from before the atomic group began.
 pub record HasParts (g number done : ℕ) (parts : List RestatedPart) (s t : EngineState) : Type 0 where
   pub group : UnendedGroup
   pub numbered : group.number ≡ number

@@ -1,4 +1,4 @@
--- The records that a purge writes: those of what one group has, and that of the owed tombstones. When is one too long?
+-- When a record that a purge writes is too long. It has entries and keys of one group, or the owed tombstones.
 use Rattle.std.specs.Prelude.{◌≡◌, ◌⊎◌, ◌<◌, ◌≤◌, ◌^◌, ℕ, List, [], ◌∷◌, ◌++◌, length, map, Some}
 use Rattle.std.specs.Cmp.Lexicographic.{slice_cmp}
 use Rattle.std.specs.List.Sorted.{IsStrictlySortedBy}
@@ -29,7 +29,7 @@ abbrev pub IsOneMark : List LogItem → Type 0
 IsOneMark mark = (mark ≡ [])
     ⊎ ((number : ℕ) × (status : AtomicGroupStatus) × (mark ≡ mark_item number status ∷ []))
 
--- `items` are these of group `g`, in this order, and `entries` are the bytes of all its entries, joined:
+-- `entries` are the bytes `bytes` of some entries, joined. `items` are the following items of group `g`, in this order:
 -- - entries from index `first` on, one after another, with the bytes `bytes`
 -- - the keys `pairs` with their values
 -- - the mark
@@ -48,7 +48,7 @@ AreOnePiece bytes = (length bytes ≤ 1) ⊎ (bytes_len bytes ≤ max_piece)
 abbrev pub HasOnePiece : Batch → Type 0
 HasOnePiece b = AreOnePiece (bytes_in b)
 
--- The items are those of one record of what a group has in the contents `m`:
+-- The items are those of one record that has only what one group has in the contents `m`:
 -- - entries from some index on, no more than one record may have
 -- - keys with their values, none of them twice
 -- - at most one mark of an atomic group

@@ -6,7 +6,8 @@ use Rattle.raft_log_memtable_index.specs.Shown.{KeyValue, Shown}
 use Rattle.raft_log_memtable_index.specs.Bridge.{moved_run}
 use Rattle.raft_log_memtable_index.specs.Listing.{is_asked}
 
--- the value of a key: one in Append, in a file up to the gate, moves to file `n` of Rewrite; any other is unchanged
+-- the value of a key after the copy: if it was in a file of Append up to the gate, it is in file `n` of Rewrite now;
+-- any other value is unchanged
 abbrev pub copied_value : ℕ → ℕ → Option KeyValue → Option KeyValue
 copied_value gate n None = None
 copied_value gate n (Some h) =

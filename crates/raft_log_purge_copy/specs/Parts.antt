@@ -19,17 +19,17 @@ abbrev pub Remains : LogDirectories → LogMap → EngineState → Error → Typ
 Remains home m t errors.Failed = IsRecoverableAs home t.pipes.disk m []
 Remains home m t _ = Represents home t m []
 
--- The part that writes the owed tombstones failed, and `error` says why. If the engine hadn't failed before, it has
--- failed now exactly if the error is `Failed`. If no batch was pending, the log, or an open of its files, has the same
--- contents.
+-- The part of a purge that writes the owed tombstones failed, and `error` says why. If the engine hadn't failed before,
+-- it has failed now exactly if the error is `Failed`. If no batch was pending, the log has the same contents, or an
+-- open of its files finds them (`Remains`).
 pub record PartIsRefused (error : Error) (s t : EngineState) : Type 0 where
   pub tells : has_failed s ≡ false → IsTrue (has_failed t) ↔ (error ≡ errors.Failed)
   pub later : IsLater s.pipes.disk t.pipes.disk
   pub remains : (home : LogDirectories) (m : LogMap) → Represents home s m [] → Remains home m t error
   pub cause : (home : LogDirectories) (m : LogMap) → Represents home s m [] → HasPurgeReason home m error s t
 
--- `made` has the items and entries of batch `b`. Unless `b` is empty, its bytes for any file are read there as one
--- record with its contents.
+-- `made` has the items and entries of batch `b`. Unless `b` is empty, its record, signed for any file, is read in that
+-- file as one record with the contents of `b`.
 pub record IsRecordMade (b made : Batch) : Type 0 where
   pub items : made.items ≡ b.items
   pub entries : made.entries ≡ b.entries

@@ -15,8 +15,8 @@ use Rattle.raft_log_purge_copy.specs.GroupParts.{items_of_all}
 abbrev pub PromisesNoMoves : MemTables → Type 0
 PromisesNoMoves m = (g : ℕ) → (promise_of m g).moves ≡ 0
 
--- If the tables `old` before a call have no room reserved for moves, the tables `new` after it have none. This holds if
--- the call succeeded, or if the pipes `w` haven't failed.
+-- If the tables had no room reserved for moves before a call (`old`), they have none after it (`new`). This is claimed
+-- only if the call succeeded, or if the pipes `w` haven't failed.
 abbrev pub LeavesNoMoves : {A E : Type 0} → Result A E → LogPipes → MemTables → MemTables → Type 0
 LeavesNoMoves result w old new = OnErr result (is_failed w ≡ false) → PromisesNoMoves old → PromisesNoMoves new
 
@@ -25,7 +25,7 @@ abbrev pub AllMention : ℕ → List RestatedPart → Type 0
 AllMention g [] = Unit {0}
 AllMention g (x ∷ xs) = (mentions g x.items.items ≡ true) × AllMention g xs
 
--- group `g` has an item in each of the parts and among `items`; or it has no entries in any of them
+-- group `g` has an item in each of the parts and among `items`; or it has no entries in the parts, nor among `items`
 abbrev pub IsInAllOrNone : ℕ → List RestatedPart → List LogItem → Type 0
 IsInAllOrNone g parts items = (AllMention g parts × (mentions g items ≡ true))
     ⊎ (entries_of g (tagged_items {E = EntryIndex} (λ e. e) (items_of_all parts ++ items)) ≡ 0)

@@ -23,7 +23,7 @@ use Rattle.raft_log_purge_copy.specs.Lengths.{HasLongGroup, OwesTooMuch}
 abbrev pub EndsItsNumbers : LogPipes → Type 0
 EndsItsNumbers v = (which : Which) × HasLastNumber which v
 
--- the engine's log has the contents `m`, and reading an entry that its tables show fails with `error`
+-- the engine's log has the contents `m`, and a read of one of its entries fails with `error`
 abbrev pub IsOneUnread : LogDirectories → LogMap → EngineState → Error → Type 0
 IsOneUnread home m t error =
     Represents home t m [] × (g : ℕ) × (i : ℕ) × IsUntold as_bytes g i t m error
@@ -33,8 +33,8 @@ IsOneUnread home m t error =
 abbrev pub HasMarkValue : LogMap → Type 0
 HasMarkValue m = (value : List ℕ) × (m 0 (Key mark_key) ≡ Some (Value value))
 
--- The last step from `s` to `t` was an append of a batch's record to Rewrite, which failed with `error`. If that is
--- `Io` or `TryAgain`, what was written of the record was truncated away.
+-- The last step from `s` to `t` was an append of a batch's record to Rewrite, and it failed with `error`. After `Io` or
+-- `TryAgain`, what was written of the record was truncated away.
 -- - `Io` has the error kind of the file system.
 -- - `TryAgain`: space was lacking, and the pipe rotated.
 pub record RecordIsRefused (error : Error) (s t : EngineState) : Type 0 where
@@ -77,8 +77,8 @@ GivesReason error s t = (home : LogDirectories) (m : LogMap) → Represents home
 abbrev pub HasPurgeReason : LogDirectories → LogMap → Error → EngineState → EngineState → Type 0
 HasPurgeReason home m error s t = HasReason home m error s t ⊎ ((error ≡ errors.Full) × OwesTooMuch s.tables)
 
--- Why a queue doesn't rotate, or its files don't leave the live range. `Failed`: a file system call failed.
--- `NumberRange`: a queue has the last file number. `Memory`: memory ran out.
+-- Why rotating a queue, or taking its files out of the live range, failed. `Failed`: a file system call failed.
+-- `NumberRange`: a queue has the last number that a file name can have. `Memory`: memory ran out.
 abbrev pub HasFileReason : Error → EngineState → EngineState → Type 0
 HasFileReason errors.Failed s t = Fails s.pipes.disk t.pipes.disk
 HasFileReason errors.NumberRange s t = EndsItsNumbers t.pipes

@@ -51,8 +51,8 @@ abbrev pub StaysOrIsLeft : Error → EngineState → EngineState → Type 0
 StaysOrIsLeft error s t = (home : LogDirectories) (m : LogMap) → Represents home s m []
     → Represents home t m [] ⊎ ((error ≡ errors.Failed) × IsRecoverableAs home t.pipes.disk m [])
 
--- Each group that passes the test was restated. All that it has in Rewrite is in the file that was active in `s`, or in
--- later ones. Other groups are unchanged.
+-- Each group that passes the test was restated; other groups are unchanged. If no batch was pending, the log has the
+-- same contents. Then all that these groups have in Rewrite is in the file that was active in `s`, or in later ones.
 pub record Restates (test : ℕ → Bool) (s t : EngineState) : Type 0 where
   pub others : (g : ℕ) → test g ≡ false → t.tables g ≡ s.tables g
   pub counts : t.counts ≡ s.counts

@@ -35,7 +35,7 @@ pub record TurnsAndLoses (queue : LogQueue) (m : MemTables) (count : ℕ) (s t :
   pub keeps : (home : LogDirectories) (log : LogMap) → HoldsSettled home s log
       → MayLoseFiles (which_of queue) s.tables → HoldsSettled home t log
 
--- The queue's rotation failed, or its files failed to leave the live range; the error says why. A log with nothing
+-- The queue's rotation failed, or taking its files out of the live range did; the error says why. A log with nothing
 -- pending keeps its contents, or an open finds them if the error is `Failed`. For Append, this requires that no
 -- tombstone is owed.
 pub record FailsToTurn (queue : LogQueue) (error : Error) (s t : EngineState) : Type 0 where

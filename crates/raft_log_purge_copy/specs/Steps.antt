@@ -28,8 +28,8 @@ BeginsParts g number es count part v old w new = (m : MemTables)
     → es ≡ rewritten_entries ((shows v m old).tables g)
     → HasParts g number count (part ∷ []) (shows v m old) (shows w m new)
 
--- No atomic group was begun for the entries that group `g` has in Rewrite, so the group isn't restated. The first
--- `count` of them must fit in one record.
+-- No atomic group was begun for the entries that group `g` has in Rewrite, so group `g` isn't restated. The first
+-- `count` of these entries must fit in one record.
 abbrev pub FailsToBeginGroup : ℕ → List EntryIndex → ℕ → Error → LogPipes → BlockCache → LogPipes → BlockCache
     → Type 0
 FailsToBeginGroup g es count error v old w new = (m : MemTables)

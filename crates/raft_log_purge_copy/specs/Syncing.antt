@@ -26,13 +26,13 @@ abbrev pub SyncsIfDue : ℕ → ℕ → LogPipes → LogPipes → Type 0
 SyncsIfDue old new v w = ((old < max_unsynced) × (new ≡ old) × (w ≡ v))
     ⊎ ((max_unsynced ≤ old) × (new ≡ 0) × SyncsQueue InRewrite v w)
 
--- If `old` bytes of Rewrite are unsynced: how many of them still are right before the next record is written. None, if
--- a sync is due, since it is made before the record.
+-- how many of the `old` unsynced bytes of Rewrite are left when the next record is written: none if a sync is due, as
+-- it comes before the record
 abbrev pub left_unsynced : ℕ → ℕ
 left_unsynced old = if nat_lt old max_unsynced then old else 0
 
--- Rewrite was synced if that was due, and then the batch's record was written. The count of unsynced bytes was `old`
--- before, and is `new` after. The count stops at 2 ^ 64 - 1.
+-- How the count of unsynced bytes goes from `old` to `new` when the record of batch `b` is written. A sync that is due
+-- comes before the record. The count stops at 2 ^ 64 - 1.
 abbrev pub CountsRecord : Batch → ℕ → ℕ → Type 0
 CountsRecord b old new = (len : ℕ) × IsReadyForEach len b.items b.entries
     × (new ≡ min (left_unsynced old + len) (2 ^ 64 - 1))
@@ -62,8 +62,8 @@ WritesInTurn [] old new v w = (new ≡ old) × (w ≡ v)
 WritesInTurn (b ∷ bs) old new v w =
     HasOnePiece b × (count : ℕ) × (next : LogPipes) × WritesOne b old count v next × WritesInTurn bs count new next w
 
--- Records were written to Rewrite, one after another, and nothing else was done to the pipes. The count of unsynced
--- bytes is passed from each to the next, so at most 512 KiB and one record are ever unsynced.
+-- Records were written to Rewrite, one after another, each after a sync if that was due. Nothing else was done to the
+-- pipes. Each record continues the count of unsynced bytes: from `old` before the first to `new` after the last.
 abbrev pub HandsCountOn : ℕ → ℕ → LogPipes → LogPipes → Type 0
 HandsCountOn old new v w = (bs : List Batch) × WritesInTurn bs old new v w
 

@@ -43,7 +43,7 @@ asks_by None t = false
 asks_by (Some marks) t = asks marks t
 
 -- Whether the group with this table is returned to the purge's caller. It is if the caller is asked to compact it. It
--- also is if Rewrite was compacted before (`restated`) and the group has more than 32 entries there.
+-- also is if this purge has compacted Rewrite (`restated`), and the group has more than 32 entries in Rewrite.
 abbrev pub answers_in : Option Watermarks → Bool → Option Raw → Bool
 answers_in marks restated None = false
 answers_in marks restated (Some t) = asks_by marks t || (restated && nat_lt 32 (shown t).rewritten)
@@ -53,7 +53,7 @@ abbrev pub answers_at : Option Watermarks → Bool → MemTables → ℕ → Boo
 answers_at marks restated m g = answers_in marks restated (raw_of m g)
 
 -- `picked` lists the groups that a purge of Append up to these watermarks picks. `counts` says in how many purges in a
--- row each group was asked for before; `restated` says whether Rewrite was compacted before.
+-- row each group was asked for before; `restated` says whether this purge has compacted Rewrite.
 pub record ListsPicked (marks : Watermarks) (counts : ℕ → ℕ) (restated : Bool) (m : MemTables) (picked : GroupLists)
     : Type 0 where
   pub asked : ListsGroups (asks_at marks m) picked.asked.items

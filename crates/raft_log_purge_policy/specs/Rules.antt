@@ -6,7 +6,7 @@ use Rattle.raft_log_memtable.specs.Reads.{has_before}
 use Rattle.raft_log_memtable.specs.Table.{Raw, shown}
 use Rattle.raft_log_purge_policy.specs.declared.watermarks.Watermarks.{Watermarks}
 
--- the least file of Append in which a group has an entry or value, `least` if there is one, is below `file`
+-- whether `least`, the lowest file of Append in which a group has an entry or value, is below `file`; false without one
 abbrev pub is_below : ℕ → Option ℕ → Bool
 is_below file None = false
 is_below file (Some least) = nat_lt least file

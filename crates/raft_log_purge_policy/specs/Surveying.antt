@@ -18,8 +18,7 @@ pub record Surveys (marks : Watermarks) (counts : ℕ → ℕ) (restated : Bool)
   pub owed : AreOwed m seen.marks.items
   pub stands : Stand m seen.standing
 
--- If there is a survey, it was made of the tables `m` with these counts, for a purge that hasn't compacted Rewrite
--- before.
+-- if there is a survey, it was made of the tables `m` with these counts, for a purge that hasn't compacted Rewrite
 abbrev pub SurveysIfTold : (ℕ → ℕ) → MemTables → Option Survey → Type 0
 SurveysIfTold counts m None = Unit {0}
 SurveysIfTold counts m (Some seen) = Surveys seen.watermarks counts false m seen

@@ -19,8 +19,8 @@ first_at which v = (pipe_at which (files_of v)).first_seq
 abbrev pub watermark : ℕ → LogPipes → ℕ
 watermark thousandths v = min (seq_at InAppend v thousandths 1000) (last_of InAppend v - 1)
 
--- The watermarks of a purge of Append. Files up to the one after 70 percent of its live range are rewritten. Those
--- below the one after 20 percent are old.
+-- The watermarks of a purge of Append. Files up to `rewrite`, the file after 70 percent of the live range, are
+-- rewritten. Files below `compact`, the file after 20 percent, are old.
 abbrev pub watermarks_of : LogPipes → Watermarks
 watermarks_of v = record { rewrite = watermark 700 v; compact = watermark 200 v }
 

@@ -45,37 +45,37 @@ IsInvalidSize fault errors.Memory = Unit {0}
 IsInvalidSize fault (errors.InvalidArgument text) = size_fault_text fault ≡ Some (string_bytes text)
 IsInvalidSize fault _ = ⊥
 
--- A decoder returned this result and left the bytes `new` of `old`, exactly as `reading` does, unless memory ran out.
--- If the decoder fails, it consumes nothing.
+-- A decoder returned the value of `reading` and left its remaining bytes as `new`, or failed with its fault, unless
+-- memory ran out. If the decoder fails, it consumes nothing of `old`.
 abbrev pub ReadsOrMemory :
     {X : Type 0} → Result X Error → List ℕ → List ℕ → Result (X × List ℕ) Fault → Type 0
 ReadsOrMemory (Ok x) old new reading = reading ≡ Ok (x, new)
 ReadsOrMemory (Err e) old new reading = FailsOrMemory e reading × (new ≡ old)
 
--- A decoder of a whole slice returned what `reading` returns, unless memory ran out.
+-- A decoder of a whole slice returned the value of `reading`, or failed with its fault, unless memory ran out.
 abbrev pub GivesOrMemory : {X : Type 0} → Result X Error → Result X Fault → Type 0
 GivesOrMemory (Ok x) reading = reading ≡ Ok x
 GivesOrMemory (Err e) reading = FailsOrMemory e reading
 
--- A decoder of the grammar `P` consumed the front of `old` and left `new`. The bytes it consumed spell the value that
--- it returned. If a spelling is at the front of `old`, the decoder consumes exactly it and returns its value, unless
--- memory ran out. If the decoder fails, it consumes nothing.
+-- A decoder of the grammar `P` left `new` of the bytes `old`. The bytes it consumed spell the value that it returned.
+-- If `old` begins with a spelling, the decoder consumes exactly that and returns its value, unless memory ran out. If
+-- the decoder fails, it consumes nothing.
 pub record DecodesOrMemory {X : Type 0} (P : List ℕ → X → Type 0)
     (result : Result X Error) (old new : List ℕ) : Type 0 where
   pub found : MatchResult result (λ x. (text : List ℕ) × P text x × (old ≡ text ++ new)) (λ e. new ≡ old)
   pub only : (text rest : List ℕ) (x : X) → P text x → old ≡ text ++ rest
       → MatchResult result (λ y. (y ≡ x) × (new ≡ rest)) (λ e. e ≡ errors.Memory)
 
--- A decoder of a vector returned the items of `reading` and left the bytes that `reading` leaves, unless memory ran
--- out. If the decoder fails, it consumes nothing.
+-- A decoder returned the items of `reading` as a vector, leaving its remaining bytes as `new`, or failed with its
+-- fault, unless memory ran out. If the decoder fails, it consumes nothing of `old`.
 abbrev pub ReadsItemsOrMemory :
     {X : Type 0} → Result (Vec X) Error → List ℕ → List ℕ → Result (List X × List ℕ) Fault → Type 0
 ReadsItemsOrMemory (Ok x) old new reading = reading ≡ Ok (x.items, new)
 ReadsItemsOrMemory (Err e) old new reading = FailsOrMemory e reading × (new ≡ old)
 
--- A decoder of a vector by the grammar `P` consumed the front of `old` and left `new`. The bytes it consumed spell the
--- items that it returned. If a spelling is at the front of `old`, the decoder consumes exactly it and returns its
--- items, unless memory ran out. If the decoder fails, it consumes nothing.
+-- A decoder of a vector by the grammar `P` left `new` of the bytes `old`. The bytes it consumed spell the items that it
+-- returned. If `old` begins with a spelling, the decoder consumes exactly that and returns its items, unless memory ran
+-- out. If the decoder fails, it consumes nothing.
 pub record DecodesItemsOrMemory {X : Type 0} (P : List ℕ → List X → Type 0)
     (result : Result (Vec X) Error) (old new : List ℕ) : Type 0 where
   pub found : MatchResult result

@@ -1,4 +1,4 @@
--- The order of log files, of both queues, and the signatures of their records.
+-- The order of the log files of both queues, and the signatures of their records.
 use Rattle.std.specs.Prelude.{◌≡◌, ◌↔◌, ℕ, ◌%◌, ◌^◌, Bool, true, false, Option, Some, None}
 use Rattle.std.specs.declared.cmp.Ordering.{Ordering}
 use Rattle.std.specs.declared.cmp.Ordering.TheVariants.{Equal, Greater}

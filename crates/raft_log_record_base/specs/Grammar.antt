@@ -61,15 +61,15 @@ Choice b P Q bytes x = MatchBool b (P bytes x) (Q bytes x)
 abbrev pub choice_at : {A E : Type 0} → Bool → Reader A E → Reader A E → Reader A E
 choice_at b p q bytes = if b then p bytes else q bytes
 
--- A decoder returned this result and left the bytes `new` of `old`, exactly as `reading` does. If the decoder fails,
--- it consumes nothing.
+-- A decoder returned the value of `reading` and left its remaining bytes as `new`, or failed with its error. If the
+-- decoder fails, it consumes nothing of `old`.
 abbrev pub ReadsAs : {X E : Type 0} → Result X E → List ℕ → List ℕ → Result (X × List ℕ) E → Type 0
 ReadsAs (Ok x) old new reading = reading ≡ Ok (x, new)
 ReadsAs (Err e) old new reading = (reading ≡ Err e) × (new ≡ old)
 
--- A decoder of the grammar `P` consumed the front of `old` and left `new`. The bytes it consumed spell the value that
--- it returned. If a spelling is at the front of `old`, the decoder consumes exactly it and returns its value. If the
--- decoder fails, it consumes nothing.
+-- A decoder of the grammar `P` left `new` of the bytes `old`. The bytes it consumed spell the value that it returned.
+-- If `old` begins with a spelling, the decoder consumes exactly that and returns its value. If the decoder fails, it
+-- consumes nothing.
 pub record Decodes {X E : Type 0} (P : List ℕ → X → Type 0)
     (result : Result X E) (old new : List ℕ) : Type 0 where
   pub found : MatchResult result (λ x. (text : List ℕ) × P text x × (old ≡ text ++ new)) (λ e. new ≡ old)

@@ -82,8 +82,8 @@ IsI32Le = Mapped (cast_signed w32) IsU32Le
 
 -- Numbers of variable length.
 
--- Base 128: seven bits of the number a byte, the lowest first. Each byte but the last is 128 or more; the last is
--- below 128.
+-- Base 128: each byte has seven bits of the number, the lowest first. Each byte but the last is 128 or more; the last
+-- is below 128.
 abbrev pub IsBase128 : List ℕ → ℕ → Type 0
 IsBase128 [] n = ⊥
 IsBase128 (b ∷ []) n = (b < 128) × (n ≡ b)
@@ -138,11 +138,11 @@ u16_le_bytes n = to_le_bytes w16 n
 abbrev pub u64_desc_bytes : ℕ → List ℕ
 u64_desc_bytes n = u64_bytes (bit_not w64 n)
 
--- `v` plus 2 ^ 63, as 64 bits, big-endian
+-- the sum of `v` and 2 ^ 63, as 64 bits, big-endian
 abbrev pub i64_bytes : ℤ → List ℕ
 i64_bytes v = u64_bytes (steps_above_least v)
 
--- `v` plus 2 ^ 63 with every bit flipped, as 64 bits, big-endian
+-- the sum of `v` and 2 ^ 63, then every bit flipped, as 64 bits, big-endian
 abbrev pub i64_desc_bytes : ℤ → List ℕ
 i64_desc_bytes v = u64_desc_bytes (steps_above_least v)
 
@@ -254,11 +254,11 @@ FindsNumber (Err e) bytes reading = reading ≡ Err e
 abbrev pub IsWriteFault : Error → Type 0
 IsWriteFault e = (kind : ErrorKind) × (e ≡ Io kind)
 
--- the call fails with `UnexpectedEof`: the bytes end too early
+-- the call fails with `UnexpectedEof`, the error for bytes that end too early
 abbrev pub IsShort : {X : Type 0} → Result X Error → Type 0
 IsShort result = result ≡ Err (Io UnexpectedEof)
 
--- the call fails with `InvalidData`: the varint is longer than ten bytes, or its number is 2 ^ 64 or more
+-- the call fails with `InvalidData`, the error for a varint of more than ten bytes, or a number of 2 ^ 64 or more
 abbrev pub IsInvalid : {X : Type 0} → Result X Error → Type 0
 IsInvalid result = result ≡ Err (Io InvalidData)
 

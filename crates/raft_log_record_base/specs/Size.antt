@@ -22,8 +22,7 @@ size_text n =
 
 -- Parsing.
 
--- the number whose decimal digits are those of `n` and then the digits at the front of the text, and the text after
--- these
+-- `n` continued by the decimal digits at the front of the text, and the text that follows them
 unfoldable pub number_in : ℕ → List ℕ → ℕ × List ℕ
 number_in n [] = (n, [])
 number_in n (c ∷ cs) = if is_ascii_digit c then number_in (n * 10 + (c - 48)) cs else (n, c ∷ cs)
@@ -43,7 +42,7 @@ power_of letter =
     else (if letter == 80 then Some (2 ^ 50)
     else None))))
 
--- The number of bytes in the unit with this name. No name and B are one byte. K, M, G, T and P may be followed by
+-- The number of bytes in the unit with this name. B, or no name, is one byte. K, M, G, T and P may be followed by
 -- nothing, B or iB.
 unfoldable pub unit_size : List ℕ → Option ℕ
 unit_size [] = Some 1

@@ -112,7 +112,7 @@ AddsItem old new item = Becomes (with_item old item) new
 abbrev pub Puts : Batch → Batch → ℕ → List ℕ → List ℕ → Type 0
 Puts old new group key value = AddsItem old new (put_item group key value)
 
--- the bytes of a batch with these items and entries in a file with this signature: its record, or nothing without
+-- the bytes of a batch with these items and entries in a file with this signature: its record, or nothing if it has no
 -- items
 abbrev pub batch_bytes : Option ℕ → List LogItem → List ℕ → List ℕ
 batch_bytes signature [] entries = []
@@ -182,14 +182,15 @@ signature_in Populated = None
 signature_in (Signed signature) = signature
 signature_in Written = None
 
--- In every file, whatever its signature, the batch has `len` bytes. Unless the batch is empty, these bytes are a
--- record of its items and entries, if the signature is below 2 ^ 32.
+-- In every file, whatever its signature, the batch has `len` bytes. If the signature is below 2 ^ 32 and the batch
+-- isn't empty, these bytes are a record. It has the batch's entries, and its items without their places.
 pub record IsReadyForEach (len : ℕ) (items : List LogItem) (entries : List ℕ) : Type 0 where
   pub size : (signature : Option ℕ) → length (batch_bytes signature items entries) ≡ len
   pub whole : (signature : Option ℕ) → unwrap_or signature 0 < 2 ^ 32 → (items ≡ [] → ⊥)
       → IsRecord signature (batch_bytes signature items entries) (map plain_item items) entries
 
--- Unless the batch is empty, `bytes` is a record of its items and entries with the signature that the batch has.
+-- Unless the batch is empty, `bytes` is a record with the signature that the batch has. It has the batch's entries, and
+-- its items without their places.
 abbrev pub IsRecordOf : Batch → List ℕ → Type 0
 IsRecordOf b bytes =
     (b.items ≡ [] → ⊥) → IsRecord (signature_in b.state) bytes (map plain_item b.items) b.entries

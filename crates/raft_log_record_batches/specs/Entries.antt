@@ -63,8 +63,8 @@ with_entries b group indexes entries =
 abbrev pub AddsEntries : Batch → Batch → ℕ → List ℕ → List (List ℕ) → Type 0
 AddsEntries old new group indexes entries = Becomes (with_entries old group indexes entries) new
 
--- These `entries` of group `group` were added to the batch: each with its `index` and the bytes that `spelling` gives
--- for it.
+-- These `entries` of group `group` were added to the batch. `index` and `spelling` give the index and the bytes of
+-- each.
 abbrev pub AddsRun : {E : Type 0} → (E → ℕ) → (E → List ℕ) → Batch → Batch → ℕ → List E → Type 0
 AddsRun index spelling old new group entries =
     AddsEntries old new group (map index entries) (map spelling entries)
@@ -85,8 +85,8 @@ spelled_len spelling entries = bytes_len (map spelling entries)
 abbrev pub MayHold : Batch → List (List ℕ) → Type 0
 MayHold b entries = length b.entries + bytes_len entries ≤ max_entries_len
 
--- The text of the error for `indexes` many indexes and `entries` many entries, if these indexes aren't a run with one
--- for each entry.
+-- The text of the error if indexes aren't a run with one for each entry. `indexes` and `entries` say how many indexes
+-- and entries there are.
 abbrev pub run_refusal : ℕ → ℕ → List ℕ
 run_refusal indexes entries =
     if indexes == entries
@@ -105,7 +105,7 @@ IsEntriesRefusal errors.Full held indexes entries =
 IsEntriesRefusal _ held indexes entries = ⊥
 
 -- Why adding these `entries` to a batch with `held` bytes of entries fails. Their indexes aren't a run, the bytes would
--- exceed the limit, or memory ran out. Each entry has its `index` and the bytes that `spelling` gives for it.
+-- exceed the limit, or memory ran out. `index` and `spelling` give the index and the bytes of each entry.
 abbrev pub IsMessagesRefusal : {E : Type 0} → (E → ℕ) → (E → List ℕ) → Error → ℕ → List E → Type 0
 IsMessagesRefusal index spelling e held entries =
     IsEntriesRefusal e held (map index entries) (map spelling entries)

@@ -12,7 +12,7 @@ abbrev pub indexes_from : ℕ → ℕ → List ℕ
 indexes_from first zero = []
 indexes_from first (suc n) = first ∷ indexes_from (first + 1) n
 
--- as many indexes as there are texts, which rise by one from `first`
+-- indexes that rise by one from `first`, as many as there are texts
 abbrev pub indexes_at : ℕ → List (List ℕ) → List ℕ
 indexes_at first texts = indexes_from first (length texts)
 
@@ -26,15 +26,16 @@ pub record AppendsText (texts : List (List ℕ)) (place : ℕ) (old new : List �
 abbrev pub AddsFrom : Batch → Batch → ℕ → ℕ → List (List ℕ) → Type 0
 AddsFrom old new group first texts = AddsEntries old new group (indexes_at first texts) texts
 
--- Why adding entries with these bytes, the first at index `first`, to a batch with `held` bytes of entries fails.
+-- Why adding entries with these bytes to a batch with `held` bytes of entries fails. The first new entry has the index
+-- `first`.
 abbrev pub IsRefusalFrom : Error → ℕ → ℕ → List (List ℕ) → Type 0
 IsRefusalFrom e held first texts = IsEntriesRefusal e held (indexes_at first texts) texts
 
--- why adding entries with these bytes, the first at index `first`, to the batch `b` fails
+-- why adding entries with these bytes to the batch `b` fails; the first new entry has the index `first`
 abbrev pub FailsToAddFrom : Error → Batch → ℕ → List (List ℕ) → Type 0
 FailsToAddFrom e b first texts = IsRefusalFrom e (length b.entries) first texts
 
--- the entries with these bytes, the first at index `first`, which are not written to a file yet
+-- entries with these bytes that aren't written to a file yet; the first has the index `first`
 abbrev pub entries_at : ℕ → List (List ℕ) → List EntryIndex
 entries_at first texts = entries_of (indexes_at first texts) texts
 

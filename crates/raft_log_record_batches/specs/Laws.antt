@@ -1,5 +1,6 @@
 -- Laws of the upper bound for a record's length. No record is longer than its bound. Each addition to a batch raises
--- the bound by at most what it counts for the added items. If the bound is below 2 ^ 56, the record is not too long.
+-- the bound by at most a sum that depends only on what is added. If the bound is below 2 ^ 56, the record is not too
+-- long.
 use Rattle.std.specs.Prelude.{◌≡◌, ◌≢◌, ℕ, ◌+◌, ◌*◌, ◌≤◌, ◌<◌, ◌^◌, List, [], ◌∷◌, length}
 use Rattle.raft_log_record_base.specs.declared.errors.Error.{Error}
 use Rattle.raft_log_record_base.specs.declared.errors.Error.TheVariants as errors
@@ -20,8 +21,8 @@ NoRecordIsLonger =
     (items : List LogItem) (entries : List ℕ) → record_len items entries ≤ record_bound items entries
 
 -- How much each addition raises the upper bound of a batch. An empty batch has the bound 34. Adding entries raises it
--- by at most the given sum, and any other addition by exactly that. Merging another batch adds that one's bound, less
--- 34.
+-- by at most the given sum, and any other addition by exactly the given sum. Merging another batch adds that batch's
+-- bound, less 34.
 pub record AdditionsRaise : Type 0 where
   pub nothing : (capacity buffer : ℕ) → batch_bound (empty_batch capacity buffer) ≡ 34
   pub entries : (old new : Batch) (g : ℕ) (indexes : List ℕ) (entries : List (List ℕ))

@@ -6,7 +6,7 @@ use Rattle.std.specs.Prelude.{ℕ, zero, suc, ◌/◌, ◌%◌, List, [], ◌∷
 abbrev pub crc_bit : ℕ → ℕ
 crc_bit register = if register % 2 == 1 then bit_xor (register / 2) 0xEDB88320 else register / 2
 
--- the register after `n` such steps
+-- the register after `n` steps (`crc_bit`)
 unfoldable pub crc_bits : ℕ → ℕ → ℕ
 crc_bits zero register = register
 crc_bits (suc n) register = crc_bits n (crc_bit register)

@@ -7,9 +7,9 @@ use Rattle.raft_log_record_checksum.specs.Checksum.{crc_bits, crc_after}
 abbrev pub ending : ℕ → List ℕ → List ℕ
 ending n xs = drop (length xs - n) xs
 
--- What `folded`, the bytes folded so far, still contribute to the register 300 bytes later. It is the xor of the
--- registers after their last 145, 183, 211 and 300 bytes. The first three then make the steps of 155, 117 and 89 more
--- bytes, so each has made 300.
+-- What `folded`, the bytes folded so far, still contribute to the register 300 bytes later. It is the xor of four
+-- registers, which start at 0 and take the last 145, 183, 211 and 300 bytes of `folded`. The first three then make the
+-- steps of 155, 117 and 89 more bytes, so that each has made those of 300.
 unfoldable pub owed : List ℕ → ℕ
 owed folded =
     bit_xor (bit_xor (crc_bits 1240 (crc_after 0 (ending 145 folded))) (crc_bits 936 (crc_after 0 (ending 183 folded))))

@@ -42,7 +42,7 @@ OneRecordAtAPlace =
     → IsRecord s a items entries → IsRecord t b others more
     → a ++ x ≡ b ++ y → (a ≡ b) × (items ≡ others) × (entries ≡ more)
 
--- Bytes are a record if and only if they are a frame whose block is a valid entry block with these entries.
+-- Bytes are a record with `entries` if and only if they are a frame whose block is a valid entry block with `entries`.
 abbrev pub RecordIsFrameAndBlock : Type 0
 RecordIsFrameAndBlock =
     (signature : Option ℕ) (bytes entries : List ℕ) (items : List LogItem)
@@ -80,16 +80,16 @@ PlacedFooterIsRead =
 
 -- What begins at the front of any bytes.
 
--- Reading a frame from `input` succeeds with `front` exactly if the first `front.len` bytes are a frame with its
--- items and block.
+-- Reading a frame from `input` succeeds with `front` exactly if the first `front.len` bytes are a frame with the items
+-- and the block of `front`.
 abbrev pub FrameIsRead : Type 0
 FrameIsRead =
     (signature : Option ℕ) (input : List ℕ) (front : Front)
     → ((frame_at signature input ≡ Ok front)
     ↔ ((front.len ≤ length input) × IsFrame signature (take front.len input) front.items front.bytes))
 
--- Reading a record from `input` succeeds with `front` exactly if the first `front.len` bytes are a record with its
--- items and entries.
+-- Reading a record from `input` succeeds with `front` exactly if the first `front.len` bytes are a record with the
+-- items and the entries of `front`.
 abbrev pub RecordIsRead : Type 0
 RecordIsRead =
     (signature : Option ℕ) (input : List ℕ) (front : Front)

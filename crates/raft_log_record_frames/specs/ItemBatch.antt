@@ -49,8 +49,8 @@ run_item group entries = record { raft_group_id = group; content = contents.Entr
 abbrev pub command_item : ℕ → Command → LogItem
 command_item group command = record { raft_group_id = group; content = contents.Command command }
 
--- the approximate size of a content in bytes: of a run 16, and eight for each entry; of a command eight; of a key 16,
--- and the bytes of the key and its value
+-- the approximate size of a content in bytes: a run counts 16, plus eight for each entry; a command eight; a key 16,
+-- plus the bytes of the key and its value
 abbrev pub content_size : LogItemContent → ℕ
 content_size (contents.EntryIndexes es) = 16 + 8 * length es
 content_size (contents.Command c) = 8
@@ -75,7 +75,7 @@ AreRead bytes items =
     (block : FileBlockHandle) → AddsUp items block.len
     → placed_footer_of None block bytes ≡ Ok (placed block (map plain_item items))
 
--- the items; from item number `first` on, their entries get offsets one after another, the first one `offset`
+-- the items, in which the entries from item number `first` on get offsets one after another, beginning at `offset`
 abbrev pub laid_from : ℕ → ℕ → List LogItem → List LogItem
 laid_from first offset items = take first items ++ laid_out offset (drop first items)
 
@@ -119,7 +119,7 @@ OnlyPlaced result signature handle bytes =
     (items : List LogItem) → IsFooterOf signature handle.len bytes items
     → MatchResult result (λ batch. batch.items ≡ placed handle items) (λ e. e ≡ errors.Memory)
 
--- the call returned what `reading` does, with the same error if it fails, or failed with `Memory`
+-- the call returned the items of `reading`, or failed with its error, or failed with `Memory`
 abbrev pub GivesPlaced : Result ItemBatch Error → Result (List LogItem) Fault → Type 0
 GivesPlaced (Ok batch) reading = reading ≡ Ok batch.items
 GivesPlaced (Err e) reading = FailsOrMemory e reading

@@ -69,8 +69,8 @@ abbrev pub BecomesPart : List LogItem → List LogItem → ℕ → AtomicGroupSt
 BecomesPart old new id status =
     record_of (λ e. e) new ≡ Some (Part (part_of id status) (tagged_items (λ e. e) old))
 
--- Items that are written and read back encode the same record as before, if of each entry only its length counts. The
--- place of an entry depends on where the batch is in the file.
+-- Items that are written and read back encode the same record as before, with each entry replaced by its length. The
+-- entry's place isn't compared, because it depends on where the batch is in the file.
 abbrev pub ReadMeansWritten : Type 0
 ReadMeansWritten =
     (items : List LogItem)

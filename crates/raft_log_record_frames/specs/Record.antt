@@ -269,7 +269,7 @@ record_at signature input =
     frame_at signature input >>= λ front.
     block_of front.bytes >>= λ entries. Ok (record front { bytes = entries })
 
--- a decoder returned what `reading` finds at the front of its bytes, unless memory ran out
+-- a decoder returned what `reading` found at the front of the bytes, or failed with its fault, unless memory ran out
 abbrev pub GivesFront : Result (ℕ × Vec LogItem × Bor (List ℕ)) Error → Result Front Fault → Type 0
 GivesFront (Ok x) reading = reading ≡ Ok (record { len = x.0; items = x.1.items; bytes = x.2.now })
 GivesFront (Err e) reading = FailsOrMemory e reading

@@ -11,6 +11,6 @@ Parses (Err errors.Memory) reading = Unit {0}
 Parses (Err (errors.Message text)) reading = reading ≡ None
 Parses (Err _) reading = ⊥
 
--- `reading` reads the bytes that `spelling` writes for `message` as `message` again
+-- `reading` returns `message` for the bytes that `spelling` writes for it
 abbrev pub IsReadBack : {M : Type 0} → (M → List ℕ) → (List ℕ → Option M) → M → Type 0
 IsReadBack spelling reading message = reading (spelling message) ≡ Some message

@@ -1,5 +1,5 @@
--- The lengths of the entries of items, and where each entry is stored. The entries of a record are stored in one
--- block, and an entry's place is the handle of that block and an offset in it.
+-- The lengths of items' entries, and where each entry is stored. The entries of a record are in one block. An entry's
+-- place is the handle of that block, and the entry's offset in it.
 use Rattle.std.specs.Prelude.{◌≡◌, ℕ, ◌+◌, ◌-◌, ◌<◌, ◌^◌, List, [], ◌∷◌, Some, map, min, sum_by, Result, Ok, Err}
 use Rattle.std.specs.Global.{Vec}
 use Rattle.raft_log_record_base.specs.declared.errors.Error.{Error}

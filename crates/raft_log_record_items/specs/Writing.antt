@@ -87,8 +87,8 @@ plain_content (contents.Kv kv) = contents.Kv (plain_key_value kv)
 abbrev pub plain_item : LogItem → LogItem
 plain_item item = record { raft_group_id = item.raft_group_id; content = plain_content item.content }
 
--- by the grammar, the bytes that the encoder writes for `content`, with the byte for its kind, encode it without its
--- places
+-- by the grammar, the bytes that the encoder writes for `content` (with the byte for its kind) encode what
+-- `plain_content` leaves of it
 abbrev pub IsSpelledContent : LogItemContent → Type 0
 IsSpelledContent content =
     Then IsByte (λ kind. IsContentOf kind) (content_bytes content) (plain_content content)

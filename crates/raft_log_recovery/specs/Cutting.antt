@@ -6,8 +6,8 @@ use Rattle.raft_log_active_file.specs.TakingUp.{TrimMakes, Trims}
 use Rattle.raft_log_active_file.specs.declared.format.File.{File}
 use Rattle.raft_log_recovery_read.specs.declared.file_ending.FileEnding.{FileEnding}
 
--- If the first argument is true, the file was truncated and synced. It now ends after its last good record, or is empty
--- if it had no header. If the first argument is false, nothing changed.
+-- If the first argument is true, the file was truncated and synced. It now ends after its last good record, or after
+-- its header; it is empty if it had no header or a torn one. If the first argument is false, nothing changed.
 abbrev pub CutsIf : Bool → File → FileEnding → Disk → Disk → Type 0
 CutsIf true file ending old new = Trims file.handle (unwrap_or ending.end 0) old new
 CutsIf false file ending old new = new ≡ old

@@ -1,5 +1,5 @@
--- Reserved files are made and filled: files kept for recycling, under names of their own. `disk` gives the disk of a
--- file system's state. `tells` says which sizes the file system may return as a directory's free space.
+-- How reserved files are made and filled. They are kept for recycling, under names of their own. `disk` gives the disk
+-- of a file system's state. `tells` says which sizes the file system may return as a directory's free space.
 use Rattle.std.specs.Prelude.{◌≡◌, ◌+◌, ◌<◌, ◌≤◌, ◌^◌, ℕ, suc, Bool, true, false, ◌||◌, List, [], ◌∷◌, length}
 use Rattle.raft_log_record_base.specs.declared.errors.Error.{Error}
 use Rattle.raft_log_record_base.specs.declared.errors.Error.TheVariants as errors

@@ -51,8 +51,8 @@ module _ {F : Type 0} (disk : F → Disk) (tells : F → List ℕ → ℕ → Ty
   FailsToMakeMissing paths size wanted files error old new = FailsToMakeEach disk tells paths (piece size)
       size (next_number files) (wanted - length files) error old new
 
-  -- all wanted files were made, and then no name was made for one that was to be deleted: its number has more than
-  -- sixteen digits, or memory ran out
+  -- all wanted files were made, and then no name could be made for a file that was to be deleted: its number has more
+  -- than sixteen digits, or memory ran out
   pub record FailsToDropSurplus (paths : FilePaths) (size wanted : ℕ) (files : List File) (error : Error)
       (old new : F) : Type 0 where
     pub all : List File
@@ -62,7 +62,7 @@ module _ {F : Type 0} (disk : F → Disk) (tells : F → List ℕ → ℕ → Ty
     pub fails : FailsToDropEach paths (reverse (drop (kept_of full wanted) all)) error
         (disk between) (disk new)
 
-  -- why readying the reserved files fails: one couldn't be made, or no name was made for one that was to be deleted
+  -- why readying the reserved files fails: a file couldn't be made, or no name could be made for one to be deleted
   abbrev pub FailsToReady : FilePaths → ℕ → ℕ → List File → Error → F → F → Type 0
   FailsToReady paths size wanted files error old new =
       FailsToMakeMissing paths size wanted files error old new

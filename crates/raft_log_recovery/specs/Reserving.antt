@@ -27,8 +27,8 @@ pub record ReadiesLog {F : Type 0} (disk : F → Disk) (tells : F → List ℕ �
       (wanted_files b) b.reserved.items after.reserved.items old new
   pub same : (after.config ≡ b.config) × (after.append ≡ b.append) × (after.rewrite ≡ b.rewrite)
 
--- why readying the reserved files fails: memory ran out, and nothing was done; or one couldn't be made; or no name was
--- made for one that was to be deleted
+-- why readying the reserved files fails: memory ran out, and nothing was done; or a file couldn't be made; or no name
+-- could be made for a file that was to be deleted
 abbrev pub FailsToReadyLog : {F : Type 0} → (F → Disk) → (F → List ℕ → ℕ → Type 0) → DualPipesBuilder → Error
     → F → F → Type 0
 FailsToReadyLog disk tells b error old new = ((error ≡ errors.Memory) × (disk new ≡ disk old))

@@ -16,8 +16,8 @@ use Rattle.raft_log_recovery_scan.specs.Found.{AreDistinct}
 use Rattle.raft_log_recovery_scan.specs.Scanned.{IsQueueIn}
 use Rattle.raft_log_recovery_laws.specs.Scanned.{AreSpanned, kind_of}
 
--- `files` ends with the queue's last file, which has the number `number`. The numbers of `files` have no gap, and each
--- file is at the path of its number. No file has the number before the first of them.
+-- `files` ends with the queue's last file, of number `number`. Their numbers have no gap, and each file is at the path
+-- of its number. The first of them comes after a gap: no file of the queue has the number before it.
 pub record AreAllFound (queue : LogQueue) (directories : List (List ℕ)) (number : ℕ) (d : Disk)
     (files : List Listed) : Type 0 where
   pub earlier : List Listed
@@ -28,7 +28,7 @@ pub record AreAllFound (queue : LogQueue) (directories : List (List ℕ)) (numbe
   pub begins : (m : ℕ) → suc m ≡ first_number earlier last → IsAbsent (log_format queue directories) m d
 
 -- If the queue `q` is at rest in distinct directories, a scan of them returns its files from the last gap in their
--- numbers on. On disk `d`, whose names are `N`, its last file is at `path` and has the node number `id`.
+-- numbers on. On disk `d`, whose names are `N`, the queue's last file is at `path` and has the node number `id`.
 abbrev pub ScannedFilesAreAll : Type 0
 ScannedFilesAreAll = (queue : LogQueue) (directories : List (List ℕ)) → AreDistinct directories
     → (mode : RecoveryMode) (d : Disk) → IsSound d

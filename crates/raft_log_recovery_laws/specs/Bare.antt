@@ -1,4 +1,5 @@
--- Opening a log's directories for the first time.
+-- Opening a log's directories for the first time. `disk` gives the disk of a file system's state, and `tells` which
+-- sizes it may return as a directory's free space.
 use Rattle.std.specs.Prelude.{◌≡◌, ◌⊎◌, ℕ, None, List, [], Contains}
 use Rattle.raft_log_record_base.specs.declared.errors.Error.{Error}
 use Rattle.raft_log_record_base.specs.declared.pipe_log.LogQueue.{LogQueue}
@@ -27,8 +28,9 @@ pub record IsBare (config : Config) (d : Disk) : Type 0 where
       → IsPathWith (reserved_suffix_of Append) (paths_of config) n path → d.names path ≡ None
   pub unnamed : (path : List ℕ) → Contains (paths_of config) path → d.names path ≡ None
 
--- If the open succeeds, the engine's log is empty. If it fails, for any reason, either the directories still have no
--- log, or their log is empty and can be opened.
+-- An open with the settings `config`; `old` is the file system's state before it. If the open succeeds, the engine's
+-- log is empty. If it fails, for any reason, either the directories still have no log, or their log is empty and can be
+-- opened.
 pub record OpensFirst {F : Type 0} (disk : F → Disk) (tells : F → List ℕ → ℕ → Type 0) (config : Config)
     (old : F) : Type 0 where
   pub answered : (v : LogPipes) (tables : MemTables) → OpensDirectory disk tells config old v tables

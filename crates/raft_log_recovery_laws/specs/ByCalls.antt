@@ -1,5 +1,5 @@
--- Opening a log that is at rest on a disk (no engine has it open, and all of it is synced). These are the steps in
--- which an engine does it: scan, recover, prepare files for recycling, sync, open.
+-- Opening a log that is at rest on a disk (no engine has it open, and all of it is synced). An engine does this in five
+-- steps: scan, recover, prepare files for recycling, sync, open.
 use Rattle.std.specs.Prelude.{◌≡◌, ℕ, List}
 use Rattle.raft_log_record_base.specs.declared.pipe_log.LogQueue.{LogQueue}
 use Rattle.raft_log_record_base.specs.declared.pipe_log.LogQueue.TheVariants.{Append, Rewrite}
@@ -67,8 +67,9 @@ pub record LogIsRecovered {F : Type 0} (disk : F → Disk) (tells : F → List �
   pub recovers : RecoversLog reads append rewrite found read scanned cut
   pub readies : ReadiesOn disk tells read ready cut readied
 
--- Pipes `v` and `tables` were made of the log of the settings `config` on disk `d`. The log was recovered, all its
--- files were synced, and the pipes were opened. What was read from Append was merged over what was read from Rewrite.
+-- The pipes `v` and `tables` were made from the log of the settings `config` on disk `d`. The log was recovered, all
+-- its files were synced, and the pipes were opened. What was read from Append was merged over what was read from
+-- Rewrite.
 pub record OpensByCalls {F : Type 0} (disk : F → Disk) (tells : F → List ℕ → ℕ → Type 0) (config : Config)
     (d : Disk) (v : LogPipes) (tables : MemTables) : Type 0 where
   pub ready : DualPipesBuilder

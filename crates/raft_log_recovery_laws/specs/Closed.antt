@@ -53,7 +53,7 @@ pub record EndsWithOwnBytes (F : Format LogRecord) (files : PipeFiles) (old new 
   pub alone : (path : List ℕ) (id : ℕ) → F.IsPath files.active.seq path → new.names path ≡ Some id
       → id ≡ files.writer.handle.file
 
--- the queue's last file has exactly its header and the queue's records, all synced
+-- the queue's last file has exactly its header and its records, all synced
 abbrev pub HoldsRecordsAlone : {R : Type 0} → QueueLayout R → LogFiles R → Disk → Type 0
 HoldsRecordsAlone layout q d =
     HasNumbered layout.format q.last (IsPast layout.format q.last (finished q)) d
@@ -62,7 +62,7 @@ HoldsRecordsAlone layout q d =
 -- collisions:
 -- - `left`: its files can be opened, with nothing pending.
 -- - `stands`: there is no CRC collision in its active files as they are. An open in place and a copy have this premise.
--- - `spared`: there is none in any crash image of them.
+-- - `spared`: there is no CRC collision in any crash image of these files.
 -- - `rests`: in each crash image the log is at rest, with the same contents.
 pub record AsksNothing (home : LogDirectories) (d : Disk) (m : LogMap) : Type 0 where
   pub left : IsRecoverableAs home d m []
@@ -78,7 +78,7 @@ RestingLogsAskNothing = (home : LogDirectories) → 0 < length home.append → 0
 -- What a proper close of pipes `v` leaves on disk `d`. `m` are the log's contents after all its batches.
 -- - `append`, `rewrite`: the bytes of both active files.
 -- - `rests`: the log is at rest with these contents.
--- - `append_alone`, `rewrite_alone`: the last files have exactly their headers and the records of their queues.
+-- - `append_alone`, `rewrite_alone`: the last file of each queue has exactly its header and its records.
 -- - `asks`: an open of the log needs no premise on CRC collisions.
 pub record IsClosedAs (home : LogDirectories) (v : LogPipes) (d : Disk) (m : LogMap) : Type 0 where
   pub append : EndsWithOwnBytes (log_in home).append.format v.append.files v.disk d

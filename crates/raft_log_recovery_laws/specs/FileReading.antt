@@ -1,4 +1,4 @@
--- What reading a log file returns, compared with the records that its pipe knows. All of this is for files without an
+-- What reading a log file returns, compared with the records in the file. All of this is for files without an
 -- alignment, since no file of a pipe has one.
 use Rattle.std.specs.Prelude.{◌≡◌, ℕ, ◌+◌, Bool, Option, Some, None, true, false, List, [], length}
 use Rattle.raft_log_record_base.specs.declared.pipe_log.FileId.{FileId}
@@ -53,8 +53,8 @@ HeaderIsWritten = (directories : List (List ℕ)) (last : Bool) (id : FileId) (c
     (read : FileReading) (end : ℕ) → ReadsBytes last id content read → read.format.alignment ≡ 0
     → read.end ≡ Some end → HasHeader (log_format id.queue directories) (header_bytes read.format) content
 
--- `read` has one batch for each record of the finished file `past`, and no fault was found. Its end is that of these
--- records.
+-- `read` has one batch for each record of the finished file `past`, and no fault was found. The end in `read` is where
+-- these records end.
 pub record ReadsWhole (id : FileId) (past : Past LogRecord) (read : FileReading) : Type 0 where
   pub sound : read.fault ≡ None
   pub end : read.end ≡ Some (length past.header + length (spelled past.records))

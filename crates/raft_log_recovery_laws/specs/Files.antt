@@ -19,7 +19,7 @@ use Rattle.raft_log_engine_laws.specs.raft_log_block_cache.specs.Stored.{Each}
 use Rattle.raft_log_recovery_laws.specs.Found.{AreListed}
 
 -- The files of the queue `q` on disk `d` are `earlier` and then `last`, which is open for writing. Each is at its path,
--- as a stop left it. No file has the number before the first one.
+-- as a stop left it. The first of them comes after a gap: no file of the queue has the number before it.
 pub record AreAll (layout : QueueLayout LogRecord) (q : Spanned LogRecord) (d : Disk) (earlier : List File)
     (last : File) : Type 0 where
   pub stops : IsStopped layout q.files d
@@ -43,9 +43,9 @@ pub record ReadsAsTold (layout : QueueLayout LogRecord) (q : Spanned LogRecord) 
   pub headed : (end : ℕ) → ending.end ≡ Some end
       → HandleBeginsWith layout.format last.handle (header_bytes ending.format) d
 
--- `files` are the files of a queue at rest, from the last gap in their numbers on. `endings` has an ending for each:
--- none before the last says that its file is damaged, and the last one is right (`ReadsAsTold`). There are no files if
--- none was created yet.
+-- `files` are the files of a queue at rest, from the last gap in their numbers on. There are none if none was created
+-- yet. `endings` has one ending for each file. By these, no file before the last is damaged, and the last ending is
+-- right (`ReadsAsTold`).
 pub data AreToldOf (layout : QueueLayout LogRecord) (q : Spanned LogRecord) (d : Disk) (files : List File)
     (endings : List FileEnding) : Type 0 where
   some_told : (earlier : List File) (last : File) (front : List FileEnding) (ending : FileEnding)

@@ -16,8 +16,9 @@ abbrev pub HoldsNoDirectory : List ℕ → Disk → Type 0
 HoldsNoDirectory target d = (name : List ℕ) → IsPlain name → IsFileName name
     → d.directories (target ++ 47 ∷ name) ≡ false
 
--- No directory in `target` has the name of a log file. If the target doesn't exist, no file in it has such a name
--- either. If it exists, the fork itself checks for files. An empty directory is clear.
+-- No directory in `target` has the name of a log file. If `target` doesn't exist, no file is at the path of a log file
+-- in it either; on a sound disk that is always so. If `target` exists, the fork itself checks for files. An empty
+-- directory is clear.
 pub record IsClear (target : List ℕ) (d : Disk) : Type 0 where
   pub absent : d.directories target ≡ false → (name : List ℕ) → IsPlain name → IsFileName name
       → d.names (target ++ 47 ∷ name) ≡ None

@@ -57,8 +57,8 @@ TellsLast endings format =
     (front : List FileEnding) (ending : FileEnding) → endings ≡ front ++ ending ∷ []
     → (end : ℕ) → ending.end ≡ Some end → ending.format ≡ format
 
--- If the files of the queue `was` are at rest, the batches that are read from them are those of the records of `now`.
--- `now` is the queue after recovery.
+-- The queue `was` is at rest, and `now` is the queue after recovery. The batches that are read from the files of `was`
+-- are those of the records of `now`.
 abbrev pub ReadFilesAreTheQueue : Type 0
 ReadFilesAreTheQueue = (queue : LogQueue) (directories : List (List ℕ)) → 0 < length directories
     → (mode : RecoveryMode) (d : Disk) (was : LogFiles LogRecord)
@@ -69,8 +69,7 @@ ReadFilesAreTheQueue = (queue : LogQueue) (directories : List (List ℕ)) → 0 
     → (format : LogFileFormat) → TellsLast endings format → (now : Spanned LogRecord)
     → QueueGoesOnWith (first_number earlier last) format was now → AreOfQueue queue now batches
 
--- If a queue has no files, no batch is read. The queue `now`, which begins with one file and no records, has none
--- either.
+-- If a queue has no files, no batch is read. This fits the queue `now`, which begins with one file and no records.
 abbrev pub NoFilesAreTheQueue : Type 0
 NoFilesAreTheQueue = (queue : LogQueue) (mode : RecoveryMode) (d : Disk) (batches : List Batch)
     (endings : List FileEnding) → ReadsQueue mode queue [] d batches endings → (now : Spanned LogRecord)

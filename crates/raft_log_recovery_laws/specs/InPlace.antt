@@ -103,7 +103,7 @@ StandingDirectoriesOpen {F} disk tells = (home : LogDirectories) → 0 < length 
     → RestsAfterSome home (as_it_stands (disk old)) m pending
     (λ now. ForAllNaming home (λ config. OpensStanding disk tells config old m pending now))
 
--- How far an open came that truncated nothing:
+-- How far an open came, if it ended before it truncated anything:
 -- - `undone`: nothing was done.
 -- - `unscanned`: the scan of the directories failed.
 -- - `unread`: the scan succeeded, and nothing was done after it.
@@ -113,8 +113,8 @@ pub data StopsUncut (config : Config) (d new : Disk) : Type 0 where
       → StopsUncut config d new
   unread : (found : DualPipesBuilder) → FindsLog config found d new → StopsUncut config d new
 
--- If an open truncated nothing, the log's files can be opened as before, with the same pending batches. This needs no
--- premise on CRC collisions.
+-- If an open ended before it truncated anything (`StopsUncut`), the log's files can be opened as before, with the same
+-- pending batches. This needs no premise on CRC collisions.
 abbrev pub UncutLogsStay : Type 0
 UncutLogsStay = (config : Config) (d : Disk) (m : LogMap) (pending : List LogRecordValue)
     → IsRecoverableAs (home_of config) d m pending → (new : Disk) → StopsUncut config d new

@@ -1,5 +1,5 @@
--- If calls leave the files of both queues unchanged, a log at rest stays at rest, and a log that can be opened still
--- can.
+-- If calls leave the files of both queues unchanged, a log at rest stays at rest. A log that could be opened can still
+-- be opened.
 use Rattle.std.specs.Prelude.{◌≡◌, ℕ, ◌<◌, Some, List}
 use Rattle.raft_log_model_laws.specs.Item.{Record}
 use Rattle.raft_log_model_laws.specs.Groups.{Map}
@@ -10,7 +10,7 @@ use Rattle.raft_log_dual_pipes.specs.Queues.{AreTwoQueues, TwoQueues}
 use Rattle.raft_log_dual_pipes.specs.OpenOrClosed.{none_open}
 use Rattle.raft_log_dual_pipes.specs.OnDisk.{LogLiesOn, IsDurableAs}
 
--- The files of a queue are unchanged: each path of a number names the same file as before, or none as before. The
+-- The files of a queue are unchanged. Each path of a number names the same file as before, or still names none. The
 -- content and state of each such file are the same. A file can still be created at each path where one could be created
 -- before.
 pub record KeepsNumbered {R : Type 0} (F : Format R) (old new : Disk) : Type 0 where

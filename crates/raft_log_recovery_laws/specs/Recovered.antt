@@ -54,8 +54,8 @@ pub record WereRead (mode : RecoveryMode) (append rewrite : FoundPipe) (d : Disk
   pub merged : AreMerged append_batches rewrite_batches tables
 
 -- A log was at rest on disk `old` with the contents `m`, and its files were found as `append` and `rewrite`. They were
--- read into `tables`, and pipes were opened over them as `v`. Then an engine with these has the contents `m`, with
--- nothing pending.
+-- read into `tables`, and the pipes `v` were opened over them. Then an engine with these pipes and tables has the
+-- contents `m`, with nothing pending.
 abbrev pub ReadLogsAreHeld : Type 0
 ReadLogsAreHeld = (home : LogDirectories) (m : LogMap) (mode : RecoveryMode) (append rewrite : FoundPipe) (old : Disk)
     (v : LogPipes) (tables : MemTables) → OpensLog append rewrite old v
@@ -69,14 +69,14 @@ pub record AreFoundAt (home : LogDirectories) (s : State) (append rewrite : Foun
   pub append_found : IsFoundOf (log_in home).append append.found s.append d
   pub rewrite_found : IsFoundOf (log_in home).rewrite rewrite.found s.rewrite d
 
--- An engine that is made by reading the files of the log `s` on disk `d` and opening its pipes has the contents `m`.
--- Nothing is pending.
+-- The files of the log `s` on disk `d` were read, and its pipes were opened. The engine that is made from this has the
+-- contents `m`, with nothing pending.
 abbrev pub OpensAs : LogDirectories → Disk → LogMap → State → Type 0
 OpensAs home d m s = (mode : RecoveryMode) (append rewrite : FoundPipe) (v : LogPipes) (tables : MemTables)
     → AreFoundAt home s append rewrite d → OpensLog append rewrite d v
     → WereRead mode append rewrite d tables → HoldsFresh home v tables m
 
--- Each crash image of what an engine left is a log at rest. Its open gives the contents `m` after a prefix of the
+-- Each crash image of what an engine left is a log at rest. An open of it gives the contents `m` after a prefix of the
 -- pending batches. This requires that there is no CRC collision.
 abbrev pub CrashedLogsOpen : Type 0
 CrashedLogsOpen = (home : LogDirectories) → 0 < length home.append → 0 < length home.rewrite → (d image : Disk)

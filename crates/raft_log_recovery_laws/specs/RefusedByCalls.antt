@@ -15,7 +15,7 @@ use Rattle.raft_log_recovery.specs.declared.builder.DualPipesBuilder.{DualPipesB
 use Rattle.raft_log_recovery.specs.Finding.{FindsLog, IsBegun}
 use Rattle.raft_log_recovery_laws.specs.ByCalls.{reads, LogIsRecovered}
 
--- recovery rejects `batches`, which were read from the files of `queue`, with `error`
+-- recovery rejects, with `error`, the batches `batches` that were read from the files of `queue`
 abbrev pub declines : LogQueue → List Batch → Error → Type 0
 declines queue batches error = Declines queue batches error
 

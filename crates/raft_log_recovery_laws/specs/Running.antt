@@ -24,9 +24,10 @@ active_header files = header_bytes files.active.format
 abbrev pub own_bytes : PipeFiles → File → List ℕ
 own_bytes files file = drop (length (active_header files)) (take files.writer.written file.content)
 
--- `file` is a pipe's active file before a crash, and `bytes` are what the crash left of it. They have no CRC collision:
+-- `file` is a pipe's active file before a crash, and `bytes` are what the crash left of it. These bytes have no CRC
+-- collision:
 -- - `headers`: they begin with no header other than the file's own.
--- - `records`: each record that is read of them was written there by the pipe, or passed to an unsynced write at that
+-- - `records`: each record that is read from them was written there by the pipe, or passed to an unsynced write at that
 --   offset.
 -- - `plain`: they don't read as a file with an alignment. Bytes that begin with the file's own header never do.
 pub record MeetsOwnAlone (F : Format LogRecord) (files : PipeFiles) (file : File) (bytes : List ℕ) : Type 0 where

@@ -1,6 +1,6 @@
 -- Batches that were read from a file and passed to a replay machine, which applies them one after another. `reads`
--- relates a machine to the batches that it has read, and `declines` batches to errors with which it may reject the
--- last one.
+-- relates batches to a machine that has read them. `declines` relates batches to the errors with which a machine may
+-- reject the last of them.
 use Rattle.std.specs.Prelude.{◌≡◌, Option, Some, None, List, ◌++◌, map}
 use Rattle.raft_log_record_base.specs.declared.errors.Error.{Error}
 use Rattle.raft_log_record_base.specs.declared.pipe_log.FileId.{FileId}
@@ -16,7 +16,7 @@ abbrev pub TakesBatches : {M : Type 0} → (List Batch → M → Type 0) → Lis
 TakesBatches reads batches old new = (before : List Batch) → reads before old → reads (before ++ batches) new
 
 -- The machine rejected the last batch of `first` with `error`, and got none of `rest`. `declines` allows this error for
--- all batches that the machine got, with the rejected one.
+-- all batches that the machine got, the rejected one included.
 pub record DeclinesSome {M : Type 0} (reads : List Batch → M → Type 0) (declines : List Batch → Error → Type 0)
     (batches : List Batch) (machine : M) (error : Error) : Type 0 where
   pub first : List Batch

@@ -33,7 +33,7 @@ pub record WasReadBehind {M : Type 0} (last : Bool) (reads : List Batch → M �
   pub bare : last ≡ true → IsTrue behind.is_bare ↔ (batches ≡ [])
   pub taken : HasTaken reads declines (said id batches) old new behind.declined
 
--- the reader still has the same file open, and its offset and window fit it; what was read of the file ends inside it
+-- the reader still has the same file open, its offset and window fit that file, and the offset `end` is inside the file
 pub record KeepsFile (d : Disk) (old new : LogItemBatchFileReader) (end : ℕ) : Type 0 where
   pub reading : IsReading d new
   pub same : file_of new ≡ file_of old
@@ -43,8 +43,8 @@ pub record KeepsFile (d : Disk) (old new : LogItemBatchFileReader) (end : ℕ) :
 abbrev pub HasFileOpen : LogItemBatchFileReader → Type 0
 HasFileOpen reader = (file : OpenFile) × (file_of reader ≡ Some file)
 
--- The reader still has the same file open, and has read on. `Has` holds for what it read, from the offset of `old` to
--- its own.
+-- The reader still has the same file open as `old`, and has read on. `Has` holds for what was read from the offset of
+-- `old` to the offset of `reader`.
 pub record IsAtWork (Has : OpenFile → List ℕ → ℕ → ℕ → Type 0) (d : Disk)
     (old reader : LogItemBatchFileReader) : Type 0 where
   pub reading : IsReading d reader

@@ -1,5 +1,5 @@
 -- Files in which a foreign record follows the last good one. Such a record is whole, but has a compression that this
--- log doesn't read. It is no damage: no recovery mode tolerates it, so nothing is truncated there.
+-- log doesn't read. It doesn't count as damage: a recovery fails at it in every mode, and truncates nothing there.
 use Rattle.std.specs.Prelude.{◌≡◌, ℕ, ◌⊎◌, Bool, Option, List, ◌++◌, codes}
 use Rattle.std.specs.Fmt.{decimal}
 use Rattle.std.specs.String.{string_bytes}

@@ -62,8 +62,8 @@ pub record RefusesFile (mode : RecoveryMode) (queue : LogQueue) (files : List Fi
   pub is : (other : File) → file ≡ slice_index_or files index other
   pub refused : FailsToReadFound mode (is_at_end files index) (id_of queue file) file.handle d error
 
--- `found` is what was found of the file at position `index`, whose records were passed to a machine, which was `old`
--- and became `new`
+-- `found` is what was found of the file at position `index`. Its records were passed to a machine, which was `old`
+-- before and is `new` after.
 pub record IsSegment {M : Type 0} (mode : RecoveryMode) (queue : LogQueue) (files : List File) (d : Disk)
     (index : ℕ) (takes : List Batch → M → Type 0) (declines : List Batch → Error → Type 0) (old new : M)
     (found : FoundFile) : Type 0 where

@@ -20,8 +20,8 @@ pub record StandsAs (d : Disk) (old new : LogItemBatchFileReader) : Type 0 where
   pub file : file_of new ≡ file_of old
   pub end : end_of new ≡ end_of old
 
--- The reader read a batch, and knows the location of its entry block. If all reads were honest, it is the next batch
--- of the file, and it has these items.
+-- The reader read a batch, and knows the location of its entry block. If all reads were honest, this is the next batch
+-- of the file, and has these items.
 pub record TakesBatchOf (d : Disk) (file : OpenFile) (old new : LogItemBatchFileReader) (items : List LogItem)
     : Type 0 where
   pub batch : IsTrue (honest_of new) → HasBatch file (bytes_of file.source d) (end_of old) items (end_of new)
@@ -38,8 +38,8 @@ TakesNextBatch d file old new nexts.End = IsTrue (honest_of new)
 TakesNextBatch d file old new (nexts.Fault error) = IsTrue (honest_of new) → (f : Fault) × TellsFault error f
     × IsBroken file (bytes_of file.source d) (end_of old) f × (end_of new ≡ end_of old)
 
--- What a check of the record after `offset` returned, whose frame is good: nothing if the record is whole, else an
--- error that describes what is wrong with its entry block.
+-- what a check of the record after `offset` returned: nothing if the record is whole, else an error that describes what
+-- is wrong with it (its frame or its entry block)
 abbrev pub ChecksBlock : OpenFile → List ℕ → ℕ → Option Error → Type 0
 ChecksBlock file content offset None = IsWhole file content offset
 ChecksBlock file content offset (Some error) =

@@ -31,7 +31,7 @@ TellsNoDirectory path (errors.Other why) = HasMessage (Some (told_no_directory p
 TellsNoDirectory path errors.Memory = Unit {0}
 TellsNoDirectory path _ = ⊥
 
--- Why a call fails that makes a directory if it is missing, and the disk after it:
+-- Why making sure that a directory exists fails, and the disk after it:
 -- - `Other`: a file has the path, which is in the message; nothing changed
 -- - `Io`: the file system failed to make it, or had stopped
 -- - `Memory`: memory ran out; nothing changed
@@ -49,7 +49,7 @@ pub record HasDirectories (directories : List (List ℕ)) (old new : Disk) : Typ
   pub others : (path : List ℕ) → (Contains directories path → ⊥) → new.directories path ≡ old.directories path
   pub rest : new ≡ record old { directories = new.directories }
 
--- all directories before `path` in the list are there, and making that one failed
+-- all directories before `path` in the list are there, and making `path` failed
 pub record FailsToHaveAll (directories : List (List ℕ)) (error : Error) (old new : Disk) : Type 0 where
   pub before : List (List ℕ)
   pub path : List ℕ
@@ -61,10 +61,10 @@ pub record FailsToHaveAll (directories : List (List ℕ)) (error : Error) (old n
 
 -- Listing their files.
 
--- The error of the log if the file system failed a call that changes nothing with `kind`. `stopped` says whether it had
--- stopped.
+-- The log's error after a call of the file system that changes nothing failed, with the error kind `kind`. `stopped`
+-- says whether the file system had stopped.
 -- - If it had, the error is `Io` with this kind.
--- - If it runs, the error is `Memory`. If `kind` isn't `OutOfMemory`, it may be `Io` with this kind instead.
+-- - If it runs, the error is `Memory`. If `kind` isn't `OutOfMemory`, the error may be `Io` with this kind instead.
 abbrev pub TellsRefusal : Bool → ErrorKind → Error → Type 0
 TellsRefusal stopped kind (errors.Io told) = (told ≡ kind) × ((stopped ≡ true) ⊎ (kind ≡ OutOfMemory → ⊥))
 TellsRefusal stopped kind errors.Memory = stopped ≡ false

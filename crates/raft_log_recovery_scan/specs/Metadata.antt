@@ -1,4 +1,4 @@
--- The disk after a recovery deleted metadata that the file system had kept for deleted files.
+-- The disk after a recovery has cleared the metadata that the file system kept for files deleted before.
 use Rattle.std.specs.Prelude.{◌≡◌}
 use Rattle.raft_log_fs.specs.Disk.{Disk}
 use Rattle.raft_log_fs.specs.Causes.{IsLater}

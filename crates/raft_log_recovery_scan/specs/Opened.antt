@@ -1,4 +1,4 @@
--- Opening the files that were found.
+-- How the files that a scan found are opened.
 use Rattle.std.specs.Prelude.{◌≡◌, ℕ, ◌⊎◌, Bool, true, false, List, [], ◌∷◌, ◌++◌, length}
 use Rattle.std.specs.List.{AllZip}
 use Rattle.raft_log_record_base.specs.declared.errors.Error.{Error}

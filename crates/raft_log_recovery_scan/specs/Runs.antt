@@ -1,4 +1,4 @@
--- Which files that were found are kept: the longest run of consecutive numbers that ends with the last one.
+-- Which files a scan keeps, of those that it found: the longest run of consecutive numbers that ends with the last one.
 use Rattle.std.specs.Prelude.{◌≡◌, ℕ, ◌+◌, ◌-◌, ◌<◌, ◌≤◌, ◌⊎◌, List, [], ◌∷◌, ◌++◌, suc, length, slice_index_or}
 use Rattle.std.specs.declared.cmp.Ordering.{Ordering}
 use Rattle.std.specs.List.{AllAdjacentBelow}
@@ -19,8 +19,8 @@ FollowsNumber a b = suc a.seq ≡ b.seq
 abbrev pub IsConsecutive : List FoundFile → Type 0
 IsConsecutive files = AllAdjacentBelow FollowsNumber files (length files)
 
--- The number of the first of `these` isn't that of the last of `those` plus one. A number is missing between the two,
--- or both have the same number.
+-- The number of the first of `these` isn't that of the last of `those` plus one. In files sorted by number, a number is
+-- missing between the two, or both have the same one.
 pub record IsBreak (those these : List FoundFile) : Type 0 where
   pub before : List FoundFile
   pub last : FoundFile

@@ -1,4 +1,4 @@
--- What a scan of a log's directories returns: the files of each queue that are kept, open.
+-- What a scan of a log's directories returns: of each queue the files that it keeps, already open.
 use Rattle.std.specs.Prelude.{◌≡◌, ℕ, ◌⊎◌, List}
 use Rattle.std.specs.String.{string_bytes}
 use Rattle.raft_log_record_base.specs.declared.errors.Error.{Error}

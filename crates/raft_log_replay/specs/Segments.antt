@@ -1,7 +1,7 @@
 -- The result of reading the segments of a queue, possibly by several workers. A segment here is one file or several
--- consecutive files. What a source defines: `holds` says which batches and which ending a segment has, `begins` with
--- which batches it begins, `refuses` why it can't be read. What a machine defines: `reads` says which batches it has
--- read, `declines` at which it fails.
+-- consecutive files; its ending is what reading it returns. What a source defines: `holds` says which batches and which
+-- ending a segment has, `begins` with which batches it begins, `refuses` why it can't be read. What a machine defines:
+-- `reads` says which batches it has read, `declines` at which it fails.
 use Rattle.std.specs.Prelude.{◌≡◌, ℕ, zero, suc, ◌+◌, ◌*◌, ◌<◌, ◌≤◌, min, List, [], ◌∷◌, ◌++◌, length, Result, Ok, Err}
 use Rattle.std.specs.List.{flat_map}
 use Rattle.raft_log_record_base.specs.declared.errors.Error.{Error}
@@ -14,8 +14,8 @@ use Rattle.raft_log_replay.specs.declared.segments.ReadSegments.{ReadSegments}
 abbrev pub all_batches : List (List Batch) → List Batch
 all_batches bss = flat_map (λ bs. bs) bss
 
--- The machine has read the batches of the segments from number `first` on, below `last`, in order. `endings` has for
--- each segment the value that reading it returned.
+-- The machine has read the batches of the segments from number `first` on, below `last`, in order. `endings` are the
+-- endings of these segments.
 pub record HasReadSegments {M E : Type 0} (holds : ℕ → List Batch → E → Type 0)
     (reads : List Batch → M → Type 0) (first last : ℕ) (machine : M) (endings : List E) : Type 0 where
   pub batches : List (List Batch)
@@ -27,8 +27,8 @@ pub record HasReadSegments {M E : Type 0} (holds : ℕ → List Batch → E → 
 -- the failure could be read.
 -- - `memory`: memory ran out.
 -- - `unread`: a segment can't be read (`refuses`).
--- - `declined`: a machine fails (`declines`) at the first batches of a segment (`begins`), after it read the batches
---   just before.
+-- - `declined`: a machine fails (`declines`) at batches with which a segment begins (`begins`), after it read some
+--   batches just before these.
 -- - `apart`: two machines aren't merged, because of the batches that they have read (`declines`).
 pub data IsRefusedIn {E : Type 0} (holds : ℕ → List Batch → E → Type 0) (begins : ℕ → List Batch → Type 0)
     (refuses : ℕ → Error → Type 0) (declines : List Batch → Error → Type 0) (first last : ℕ) (error : Error)
@@ -60,7 +60,7 @@ IsChunk holds reads begins refuses declines first last (Ok done) =
 IsChunk holds reads begins refuses declines first last (Err error) =
     IsRefusedIn holds begins refuses declines first last error
 
--- the number of the first segment in chunk `index`, if each has `size` segments; at most `count`
+-- the number of the first segment in chunk `index` if each chunk has `size` segments, but at most `count`
 abbrev pub chunk_start : ℕ → ℕ → ℕ → ℕ
 chunk_start size count index = min (index * size) count
 
@@ -71,7 +71,7 @@ Follow between first last [] = first ≡ last
 Follow between first last (x ∷ xs) =
     (next : ℕ) × (first ≤ next) × (next ≤ last) × between first next x × Follow between next last xs
 
--- for each segment number, only one list of batches and one ending are possible
+-- for each segment number, `holds` allows only one list of batches and only one ending
 abbrev pub HoldsOne : {E : Type 0} → (ℕ → List Batch → E → Type 0) → Type 0
 HoldsOne {E} holds =
     (k : ℕ) (xs ys : List Batch) (e f : E) → holds k xs e → holds k ys f → (xs ≡ ys) × (e ≡ f)

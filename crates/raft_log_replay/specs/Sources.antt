@@ -1,6 +1,6 @@
--- Replaying one segment of a queue with a machine. What a source defines: `holds` says which batches and which ending a
--- segment has, `begins` with which batches it begins, `refuses` why it can't be read. What a machine defines: `reads`
--- says which batches it has read, `declines` at which it fails.
+-- A machine replays one segment of a queue; the segment's ending is what reading it returns. What a source defines:
+-- `holds` says which batches and which ending a segment has, `begins` with which batches it begins, `refuses` why it
+-- can't be read. What a machine defines: `reads` says which batches it has read, `declines` at which it fails.
 use Rattle.std.specs.Prelude.{◌≡◌, ℕ, suc, ◌⊎◌, List, [], ◌∷◌, ◌++◌}
 use Rattle.raft_log_record_base.specs.declared.errors.Error.{Error}
 use Rattle.raft_log_record_base.specs.declared.errors.Error.TheVariants.{Memory}
@@ -13,14 +13,15 @@ pub record ReplaysSegment {M E : Type 0} (holds : List Batch → E → Type 0) (
   pub held : holds batches ending
   pub takes : (before : List Batch) → reads before old → reads (before ++ batches) new
 
--- The segment begins with some batches at which the machine fails. The machine may have read others before them.
+-- The segment begins with some batches at which the machine fails with `error`. The machine may have read other batches
+-- before.
 pub record StopsIn {M : Type 0} (begins : List Batch → Type 0) (reads : List Batch → M → Type 0)
     (declines : List Batch → Error → Type 0) (machine : M) (error : Error) : Type 0 where
   pub batches : List Batch
   pub begun : begins batches
   pub declined : (before : List Batch) → reads before machine → declines (before ++ batches) error
 
--- Why a segment isn't replayed: reading it fails, the machine fails at its first batches, or memory ran out.
+-- Why a segment isn't replayed: reading it fails (`refuses`), the machine fails in it (`StopsIn`), or memory ran out.
 abbrev pub SegmentRefused : {M : Type 0} → (Error → Type 0) → (List Batch → Type 0)
     → (List Batch → M → Type 0) → (List Batch → Error → Type 0) → M → Error → Type 0
 SegmentRefused refuses begins reads declines machine error =

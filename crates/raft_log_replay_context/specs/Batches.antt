@@ -31,8 +31,8 @@ abbrev pub IsDisorder : List ReadRecord → Option ReadRecord → Type 0
 IsDisorder rs None = ⊥
 IsDisorder rs (Some r) = AreOrderly (rs ++ r ∷ []) → ⊥
 
--- Why a batch of Rewrite isn't read. `r` is the record that the batch decodes to, or `None` if it has a broken mark or
--- two marks: then the error is `Corruption` with the text `invalid_mark`. It may be `Memory` in any case.
+-- Why a batch of Rewrite isn't read. `r` is the record that the batch decodes to. If the batch has a broken mark or two
+-- marks, `r` is `None`, and the error is `Corruption` with the text `invalid_mark`. It may be `Memory` in any case.
 abbrev pub RewriteIsUnread : Option ReadRecord → Error → Type 0
 RewriteIsUnread r (errors.Corruption text) = (r ≡ None) × (string_bytes text ≡ invalid_mark)
 RewriteIsUnread r errors.Memory = Unit {0}

@@ -38,14 +38,14 @@ abbrev pub ArePlain : List ReadRecord → Type 0
 ArePlain [] = Unit {0}
 ArePlain (r ∷ rs) = (is_plain r.taken ≡ true) × ArePlain rs
 
--- `counting` says which raft groups count: those of which an item took effect after their last Clean. This is claimed
--- under two conditions. Between the begin and the end of an atomic group, nothing takes effect for its raft groups. In
--- the raft group, the runs that take effect leave no hole, and their indexes are below 2 ^ 64 - 1.
+-- `counting` says which raft groups count: items of the group took effect, and the last one isn't a Clean. This is
+-- claimed under two conditions. Between the begin and the end of an atomic group, nothing takes effect for its raft
+-- groups. In the raft group, the runs that take effect leave no hole, and their indexes are below 2 ^ 64 - 1.
 abbrev pub AreCounting : List ReadRecord → (ℕ → Bool) → Type 0
 AreCounting rs counting =
     Tidy (records_of rs) → (g : ℕ) → AreHealthy (counted g rs) → counting g ≡ counts_at_end false (counted g rs)
 
--- The context has read exactly these records of a queue.
+-- The context has read exactly these records of a queue. `tables`, `counting` and `notes` hold if these are in order.
 -- - `tables`, `counting`: its tables are those of the items that take effect, and know which raft groups count.
 -- - `plain`, `fit`, `none`: in Append, records take effect at once, indexes are below 2 ^ 64 - 1, no file is recorded.
 -- - `notes`, `ends`: in Rewrite, the tables record the files of atomic groups, but none past those that were read.
@@ -84,8 +84,8 @@ abbrev pub LeavesNoHole : FileId → List LogItem → MemTableRecoverContext →
 LeavesNoHole file items c =
     in_append file.queue ≡ true → MayFollowAll (shown_of c.tables) (tagged_items place_of items)
 
--- If the batch is of Append, the items before one of its items were applied, and applying this item failed. Its run
--- leaves a hole or has an index of 2 ^ 64 - 1 or more, or memory ran out.
+-- If the batch is from Append, applying one of its items failed, and the items before that one were applied. The item's
+-- run leaves a hole or has an index of 2 ^ 64 - 1 or more, or memory ran out.
 abbrev pub AppendRefused : FileId → List LogItem → MemTableRecoverContext → MemTableRecoverContext → Error
     → Type 0
 AppendRefused file items old new error =
@@ -103,9 +103,9 @@ abbrev pub MergesInto : LogQueue → MemTableRecoverContext → MemTableRecoverC
 MergesInto queue old later new =
     (xs ys : List ReadRecord) → HasRead queue xs old → HasRead queue ys later → HasRead queue (xs ++ ys) new
 
--- In raft group `g`, the tables `m` show what was read of Append (`append`) over what was read of Rewrite (`rewrite`).
--- They record the files of Rewrite's atomic groups, and none past those that were read. The group counts if an item of
--- it took effect after its last Clean; for this, all of Append is after all of Rewrite.
+-- In raft group `g`, the tables `m` show what was read from Append (`append`) over what was read from Rewrite
+-- (`rewrite`). They record the files of Rewrite's atomic groups, and none past those that were read. All of Append
+-- comes after all of Rewrite. The group counts if items of it took effect, and the last one isn't a Clean.
 pub record IsOverAt (rewrite append : List ReadRecord) (m : MemTables) (g : ℕ) : Type 0 where
   pub rewritten : Replayed
   pub appended : Replayed
@@ -116,7 +116,7 @@ pub record IsOverAt (rewrite append : List ReadRecord) (m : MemTables) (g : ℕ)
   pub shows : shown_of m g ≡ merged rewritten.table appended
   pub counting : counts m g ≡ counts_at_end (counts_at_end false (counted g rewrite)) (counted g append)
 
--- In every raft group, the tables show what was read of Append over what was read of Rewrite. This is claimed under
+-- In every raft group, the tables show what was read from Append over what was read from Rewrite. This is claimed under
 -- two conditions, for both queues. Between the begin and the end of an atomic group, nothing takes effect for its
 -- raft groups. In this raft group, the runs that take effect leave no hole, and their indexes are below 2 ^ 64 - 1.
 abbrev pub ComesOver : List ReadRecord → List ReadRecord → MemTables → Type 0

@@ -1,5 +1,5 @@
--- Tables record the first and the last file of the atomic groups of Rewrite. This file says what takes effect if a
--- replay starts at the first of them.
+-- The first and the last file of Rewrite's atomic groups, which tables record, and what takes effect if a replay starts
+-- at the first one.
 use Rattle.std.specs.Prelude.{◌≡◌, ℕ, ◌==◌, ◌||◌, ◌≤◌, ◌⊎◌, Bool, true, false, List, [], ◌∷◌, ◌++◌, Option, Some, None}
 use Rattle.std.specs.Global.{Vec}
 use Rattle.raft_log_model_laws.specs.Item.{Item, items_of}
@@ -64,7 +64,7 @@ NotesAll (Some files) test old new =
     (g : ℕ) → (test g ≡ true → NotesAt files (old g) (new g)) × (test g ≡ false → new g ≡ old g)
 
 -- The atomic group with these records took effect. The records were applied to the tables, and their files were
--- recorded for each raft group that has items in them. Recording the files doesn't change which raft groups count.
+-- recorded for each raft group of which they have items. Recording the files doesn't change which raft groups count.
 pub record SettlesGroup (ps : List GroupPart) (old new : MemTables) : Type 0 where
   pub between : MemTables
   pub reads : ReadsParts ps old between
@@ -112,7 +112,7 @@ abbrev pub IsNotedTo : ℕ → Option GroupFiles → Type 0
 IsNotedTo n None = Unit {0}
 IsNotedTo n (Some files) = files.to ≤ n
 
--- for no raft group is a file recorded that is past all those from which the records were read
+-- for each raft group, the recorded files of atomic groups end at or before the last file that a record was read from
 abbrev pub AreNotedTo : List ReadRecord → (ℕ → Replayed) → Type 0
 AreNotedTo rs z = (n : ℕ) → AllReadTo n rs → (g : ℕ) → IsNotedTo n (z g).table.noted
 
@@ -131,8 +131,8 @@ pub record CountsFrom (rs : List ReadRecord) (g n : ℕ) (s : Slot) : Type 0 whe
   pub from : n ≤ first.file
   pub spoken : IsSpoken (says s (counted g (first ∷ back)))
 
--- each slot of raft group `g` that has content counts (`CountsFrom`) from the content's own file on; or from the first
--- file recorded for atomic groups, if such a group may reach into the content's file (`start_of`)
+-- Each slot of raft group `g` that has content counts (`CountsFrom`) from a certain file on (`start_of`). This is the
+-- first file of the recorded atomic groups if these reach from there into the content's file, else the content's file.
 abbrev pub NotesCover : List ReadRecord → ℕ → Option GroupFiles → Type 0
 NotesCover rs g noted =
     (s : Slot) (c : Content Located KeyValue) → says s (counted g rs) ≡ Some (Some c)

@@ -58,8 +58,8 @@ abbrev pub with_part : ℕ → GroupPart → List Begun → List Begun
 with_part n p [] = []
 with_part n p (u ∷ us) = (if u.0 == n then (u.0, u.1 ++ p ∷ []) else u) ∷ with_part n p us
 
--- The group with number `n` got the record `p`, and nothing is returned. If the group is not in the list, nothing
--- changes and `p` is returned.
+-- If the list has a group with number `n`, this group got the record `p`, and nothing is returned. Otherwise nothing
+-- changed, and `p` is returned.
 abbrev pub GoesOnAmong : ℕ → GroupPart → List Begun → List Begun → Option GroupPart → Type 0
 GoesOnAmong n p old new None = ((u : Begun) × (begun_at n old ≡ Some u)) × (new ≡ with_part n p old)
 GoesOnAmong n p old new (Some q) = (begun_at n old ≡ None) × (new ≡ old) × (q ≡ p)

@@ -1,5 +1,5 @@
--- The pieces of atomic groups that are cut by the two ends of a segment. A segment (not a segment file) is consecutive
--- records that one worker reads on their own. It may begin in the middle of a group and leave a group open at its end.
+-- Pieces: what a segment has of atomic groups that are only partly in it. A segment (not a segment file) is a list of
+-- consecutive records that one worker reads by itself. It may begin within a group and leave a group open at its end.
 use Rattle.std.specs.Prelude.{◌≡◌, ℕ, ◌-◌, min, max, slice_get, ◌==◌, Bool, false, List, [], ◌∷◌, ◌++◌, map, length, Option, Some, None, codes}
 use Rattle.std.specs.String.{string_bytes}
 use Rattle.std.specs.Global.{Vec}
@@ -73,8 +73,8 @@ whole_seen φ (Some ps) = parts_seen φ ps.items
 abbrev pub part_read : Mark → GroupPart → ReadRecord
 part_read m p = in_file p.file (Part m (part_items p))
 
--- what a segment does with an atomic group that may be open before the segment: it continues the group, ends it, or
--- begins a new group with the same number
+-- What a segment does with an atomic group that may be open before the segment. It continues the group, ends it, or
+-- begins a new group with the same number.
 abbrev pub head_of : Reading → GroupHead → Head Located KeyValue
 head_of φ (code.GoesOn ps) = GoesOn (parts_seen φ ps.items)
 head_of φ (code.Ends ps) = Ends (parts_seen φ ps.items)
@@ -108,15 +108,15 @@ pub record ArePieces (rs : List ReadRecord) (p : GroupPieces) : Type 0 where
 abbrev pub TakesRecord : ReadRecord → GroupPieces → GroupPieces → Type 0
 TakesRecord r old new = (rs : List ReadRecord) → ArePieces rs old → ArePieces (rs ++ r ∷ []) new
 
--- `part` ends atomic group number `n` after the records `rs`. `whole` has all records of the group if the group began
--- in `rs`, else it is `None`.
+-- `part` ends atomic group number `n` after the records `rs`. `whole` has the group's records, `part` included, if the
+-- group began in `rs`, and otherwise no record.
 abbrev pub EndsGroupWhole : List ReadRecord → ℕ → GroupPart → Option (Vec GroupPart) → Type 0
 EndsGroupWhole rs n part whole =
     (φ : Reading)
     → whole_seen φ whole ≡ counts (opened none_open (seen_by φ rs)) (Part (End n) (part_seen φ part))
 
--- `part` ends atomic group number `n`: `new` has the pieces of the records with `part` after them, and `whole` is the
--- group if it is now complete
+-- `part` ends atomic group number `n`. If `old` has the pieces of some records, `new` has the pieces of these records
+-- and then `part`. `whole` has the group's records if the group began in these records (`EndsGroupWhole`).
 abbrev pub EndsGroup : ℕ → GroupPart → GroupPieces → GroupPieces → Option (Vec GroupPart) → Type 0
 EndsGroup n part old new whole =
     (rs : List ReadRecord) → ArePieces rs old
@@ -167,9 +167,9 @@ JoinsPieces old later new done =
     (xs ys : List ReadRecord) → ArePieces xs old → ArePieces ys later
     → ArePieces (xs ++ ys) new × IsBorder xs ys done
 
--- The groups `old`, open after the records `rs`, continue in the next segment, which does with each what `before`
--- says. `done` has the items of the groups that the segment ends, and `new` are those that it leaves open. After `rs`,
--- `after` has the same effect as `before`.
+-- The groups `old` are open after the records `rs`, and the next segment does with each what `before` says. `done` has
+-- the items of the groups that the segment ends, and `new` are those that it leaves open. To each group, `rs` and then
+-- `after` do the same as `rs` and then `before`.
 pub record CarryOn (old : List (Unfinished Located KeyValue)) (before : ℕ → Head Located KeyValue)
     (new : List (Unfinished Located KeyValue)) (after : ℕ → Head Located KeyValue) (done : List ReadItem)
     (rs : List (Record Located KeyValue)) : Type 0 where
@@ -177,9 +177,9 @@ pub record CarryOn (old : List (Unfinished Located KeyValue)) (before : ℕ → 
   pub left : new ≡ carried_on old before
   pub heads : (n : ℕ) → then_head (head n [] rs) (after n) ≡ then_head (head n [] rs) (before n)
 
--- The groups that `old` leaves open continue in the next segment, which does with each what `heads` says. `done` are
--- the groups that the segment ends, `new` has those that it leaves open. After the records of `old`, `left` has the
--- same effect as `heads`. This holds for every function `φ` of records.
+-- The next segment does with each group that `old` leaves open what `heads` says. `done` are the groups that the
+-- segment ends, `new` has those that it leaves open. To each group, the records of `old` and then `left` do the same as
+-- these records and then `heads`. This holds for every function `φ` of records.
 abbrev pub CarriesOn : GroupPieces → (Reading → ℕ → Head Located KeyValue) → GroupPieces
     → (Reading → ℕ → Head Located KeyValue) → List (Vec GroupPart) → Type 0
 CarriesOn old heads new left done =
@@ -193,8 +193,8 @@ HandsOut old heads done =
     × ((φ : Reading) (rs : List (Record Located KeyValue)) → left_open φ old ≡ unfinished rs
     → GoesToEnd φ (opened none_open rs n) (heads φ n) ps)) done
 
--- `old` and `new` are lists of complete groups. If the next segment ends `group`, which its entry in the pieces says,
--- `new` is `old` and then this group with all its records. Otherwise `new` is `old`.
+-- `old` and `new` are lists of complete groups. The second argument says what the next segment does with `group`. If it
+-- ends the group, `new` is `old` and then this group with all its records. Otherwise `new` is `old`.
 abbrev pub PassesOn : OpenGroup → Option GroupHead → List (Vec GroupPart) → List (Vec GroupPart) → Type 0
 PassesOn group (Some (code.Ends more)) old new =
     (ps : Vec GroupPart) × (new ≡ old ++ ps ∷ [])
@@ -212,7 +212,7 @@ abbrev pub is_number : ℕ → Option ℕ → Bool
 is_number g None = false
 is_number g (Some n) = n == g
 
--- whether `g` is the last in the list
+-- whether `g` is the last element of the list
 abbrev pub ends_with : List ℕ → ℕ → Bool
 ends_with gs g = is_number g (slice_get gs (length gs - 1))
 

@@ -26,7 +26,7 @@ use Rattle.raft_voter_log.specs.Chance.{LosesWrites}
 -- The event leads from `at` to `now`, and nothing in it chooses the bytes that are left:
 -- - A call of an engine, and a fault that is armed below it, may end in any way.
 -- - An engine that crashes hasn't failed, and the crash only loses writes.
--- - A close succeeds and is proper. The files keep the settings' directories.
+-- - A close succeeds and is proper. The settings of its files name the engine's directories.
 -- - An open succeeds. A copy succeeds, in a clear target. A crash of files leaves an image of them.
 -- - A call or a close without an engine changes nothing.
 abbrev pub IsQuiet : {S G C : Type 0} → Parts S G → Storage S G → Event Batch C → Answer → Storage S G → Type 0

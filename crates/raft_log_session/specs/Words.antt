@@ -4,7 +4,7 @@ use Rattle.std.specs.List.{before_first}
 use Rattle.std.specs.Str.{IsUtf8}
 use Rattle.std.specs.Str.Parse.{IsNumeral, digits_value, without_leading_plus}
 
--- the byte separates two words of a line: it is a space
+-- whether the byte separates two words of a line: only a space does
 abbrev pub parts_words : ℕ → Bool
 parts_words b = b == 32
 
@@ -19,8 +19,8 @@ pub record IsNumberWord (word : List ℕ) (n : ℕ) : Type 0 where
 abbrev pub first_word : List ℕ → List ℕ × List ℕ
 first_word text = (before_first parts_words text, drop (length (before_first parts_words text)) text)
 
--- If a text begins with the bytes `front`: the word right after them (the value of an argument), and the text after
--- this word.
+-- the word right after the bytes `front` (the value of an argument), and the text after this word; `None` if the text
+-- doesn't begin with `front`
 unfoldable pub argument_at : List ℕ → List ℕ → Option (List ℕ × List ℕ)
 argument_at front text =
     if bytes_eq (take (length front) text) front then Some (first_word (drop (length front) text)) else None

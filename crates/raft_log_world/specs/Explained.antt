@@ -10,8 +10,8 @@ use Rattle.raft_log_world.specs.Logs.{Asks, LogOf, Stands}
 use Rattle.raft_log_world.specs.Run.{IsLogRun, Moment}
 
 -- From `log` on, which `at` represents, the model gives each moment's answer in turn. After each moment, the engine or
--- the files represent the log that the model becomes. Nothing is claimed from the first moment on that doesn't meet
--- `Asks`: at a CRC collision, or a copy whose target isn't clear.
+-- the files represent the log that the model becomes. The claim ends before the first moment that doesn't meet `Asks`:
+-- one with a CRC collision, or a copy whose target isn't clear.
 abbrev pub Goes :
     {S F B C : Type 0}
     → (l : LogOf S F B C) (at : Storage S F) (log : ModelLog) → Stands l at log → List (Moment S F B C) → Type 0
@@ -36,8 +36,8 @@ Explains says log (event ∷ events) (answer ∷ answers) last =
     (next : ModelLog) × Answers says log event answer next × Explains says next events answers last
 Explains says log events answers last = ⊥
 
--- none of these moments meets a CRC collision, whichever model log is represented before it, and each copy has a clear
--- target
+-- No moment meets a CRC collision, and each copy has a clear target. This is so for every model log that the engine or
+-- the files may represent before the moment.
 abbrev pub NoneCollides : {S F B C : Type 0} → LogOf S F B C → Storage S F → List (Moment S F B C) → Type 0
 NoneCollides l at [] = Unit {0}
 NoneCollides l at (m ∷ ms) =

@@ -42,9 +42,11 @@ abbrev pub UnlessResting : ModelLog → Type 0 → Type 0
 UnlessResting (resting m) P = Unit {0}
 UnlessResting log P = P
 
--- The premise under which the model explains an event that leads to `now`. An open or a copy: no CRC collision in the
--- files, if a close or a failed open left them. A crash: none in the files that it leaves, unless a crash or a copy had
--- left the log before. A copy also: its target is clear. Any other event has no premise.
+-- The premise under which the model explains an event that leads to `now`:
+-- - an open or a copy: no CRC collision in the files, if a close or a failed open left them;
+-- - a copy also: its target is clear;
+-- - a crash: no CRC collision in the files that it leaves, unless the log was already as a crash or a copy leaves it;
+-- - any other event: no premise.
 abbrev pub Asks :
     {S F B C : Type 0}
     → (l : LogOf S F B C) (at : Storage S F) (log : ModelLog) → l.is at log → Event B C → Storage S F → Type 0
@@ -53,8 +55,8 @@ Asks l at log is (Fork target) now = l.is_clear at (string_bytes target) × IfLe
 Asks l at log is (Crash what) (Closed files) = UnlessResting log (l.crash_spared at log is what files)
 Asks l at log is event now = Unit {0}
 
--- The model explains that the event had this answer and led from `at` to `now`. For each log of the model that `at`
--- represents and that meets `Asks`, the model may give this answer, and `now` represents the log that it becomes.
+-- The model explains that the event had this answer and led from `at` to `now`. Take a log of the model that `at`
+-- represents and that meets `Asks`. The model may give this answer, and `now` represents the log that it becomes.
 abbrev pub Follows :
     {S F B C : Type 0} → LogOf S F B C → Storage S F → Event B C → Answer → Storage S F → Type 0
 Follows l at event answer now =

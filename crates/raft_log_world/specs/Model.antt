@@ -1,6 +1,6 @@
 -- The model log: a log as its callers see it. It says which answers an event may have, and what the log is afterwards.
 -- A crash loses at most a suffix of the batches that aren't synced yet. `m` are the durable contents before an event,
--- `pending` the pending batches, and `next` is the log after it.
+-- `pending` the batches pending then, and `next` is the log after the event.
 use Rattle.std.specs.Prelude.{◌≡◌, ◌⊎◌, ◌≤◌, ℕ, Bool, true, false, List, [], ◌∷◌, ◌++◌, length, take, option_map}
 use Rattle.raft_log_model_laws.specs.Item.{Record, items_of}
 use Rattle.raft_log_model_laws.specs.Item.Item.{Compact as CompactItem}
@@ -38,15 +38,15 @@ is_open (left m pending) = false
 is_open (running m pending) = true
 is_open (failed m pending) = true
 
--- The engine runs on durable contents that were `m`, and none of these batches is lost. The first few are durable now,
--- and the others are pending.
+-- The engine runs, and none of these batches is lost. The durable contents were `m`. Now they are `m` and then the
+-- first few of the batches, and the others are pending.
 pub record RunsOn (m : Contents) (batches : List BatchRecord) (next : ModelLog) : Type 0 where
   pub done : List BatchRecord
   pub rest : List BatchRecord
   pub splits : done ++ rest ≡ batches
   pub is : next ≡ running (taken m done) rest
 
--- `now` are the contents after the first few of the pending batches; the others are lost
+-- the contents `now` are `m` and then the first few of the pending batches; the others are lost
 abbrev pub LosesSome : Contents → List BatchRecord → Contents → Type 0
 LosesSome m pending now = (count : ℕ) × (count ≤ length pending) × (now ≡ taken m (take count pending))
 
@@ -64,7 +64,8 @@ Adds sync m pending batch next = HasWritten sync m (pending ++ batch ∷ []) nex
 abbrev pub compacts : ℕ → ℕ → BatchRecord
 compacts group index = Plain (record { group = group; item = CompactItem index } ∷ [])
 
--- a group is compacted: the record is written after the pending batches, unless it would delete nothing
+-- A group is compacted: the record is written after the pending batches. A record that would delete nothing need not be
+-- written.
 abbrev pub Compacts : Contents → List BatchRecord → ℕ → ℕ → ModelLog → Type 0
 Compacts m pending group index next = RunsOn m (pending ++ compacts group index ∷ []) next
     ⊎ (HasNone (taken m pending) group 0 index × (next ≡ running m pending))
@@ -79,7 +80,7 @@ FailsAt m pending batch next = (next ≡ failed m pending) ⊎ (next ≡ failed 
 --   and so does a purge after which the engine runs on.
 -- - A read returns what the contents have once all batches are applied. A read of the first or last index doesn't fail.
 -- - If a call fails and the engine runs on, the call leaves no trace of its batch, and loses no other batch.
--- - If the engine fails in a write or a compaction, the batch or the record of the compaction may be written or not.
+-- - If the engine fails in a write or a compaction, that batch or that record may be written or not.
 abbrev pub Serves : {B : Type 0} → (B → BatchRecord) → Contents → List BatchRecord → Call B → Answer → ModelLog → Type 0
 Serves says m pending (Write batch sync) Done next = Adds sync m pending (says batch) next
 Serves says m pending (Write batch sync) Refused next = RunsOn m pending next
@@ -110,8 +111,8 @@ Serves says m pending (Purge kind) Refused next = next ≡ running (taken m pend
 Serves says m pending (Purge kind) Failed next = (next ≡ failed m pending) ⊎ (next ≡ failed (taken m pending) [])
 Serves says m pending call answer next = ⊥
 
--- The event does nothing. It is a call or a close, and no engine has the log open (`opened`). Or it is an open or a
--- copy, and an engine has the log open.
+-- The event does nothing. `opened` says whether an engine has the log open. If none has, the event is a call or a
+-- close. If one has, it is an open or a copy.
 abbrev pub IsIdle : {B C : Type 0} → Bool → Event B C → Type 0
 IsIdle opened (Open workers) = opened ≡ true
 IsIdle opened (Serve call) = opened ≡ false

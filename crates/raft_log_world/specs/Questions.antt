@@ -35,7 +35,8 @@ Syncs Close = Unit {0}
 Syncs event = ⊥
 
 -- Let a write with a sync, a sync, a purge or a close succeed. After any later events, the contents begin with those
--- before this event, and its batch if it wrote one. Then come some of the batches that later events asked to write.
+-- before this event and the batch that it wrote, if any. Then come some of the batches that later events asked to
+-- write.
 abbrev pub SyncedBatchesAreKept : Type 0 → Type 0 → Type 0
 SyncedBatchesAreKept B C =
     (says : B → BatchRecord) (log next last : ModelLog) (event : Event B C)
@@ -60,8 +61,9 @@ ShowsFirst {B} C says log m batches =
 
 -- What a write that fails leaves of its batch:
 -- - `refused`: if the engine runs on, the contents are those before the write.
--- - `failed`: if the engine fails, then until the next write the contents are the durable ones with the first few of
---   these batches: the pending ones, and this one last. So this one is there whole, after all others, or not at all.
+-- - `failed`: if the engine fails, then until the next write or compaction the contents are the durable ones and then
+--   the first few of these batches: the pending ones, and this write's last. So this batch is there whole, after all
+--   others, or not at all.
 pub record LeavesNoTrace {B : Type 0} (C : Type 0) (says : B → BatchRecord) (log next : ModelLog) (batch : B)
     (sync : Bool) : Type 0 where
   pub refused : Answers {C = C} says log (Serve (Write batch sync)) Refused next → contents_of next ≡ contents_of log

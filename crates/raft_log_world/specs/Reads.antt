@@ -46,30 +46,32 @@ HasEntries m group index [] = Unit {0}
 HasEntries m group index (entry ∷ entries) =
     (m group (Index index) ≡ Some (Entry entry)) × HasEntries m group (index + 1) entries
 
--- a read may return `count` of `all` entries: all of them, or at least one (if there are any) if there is a greatest
--- size
+-- A read may return `count` of `all` entries. Without a greatest size, it returns all. With one, it returns at least
+-- one, if there are any.
 abbrev pub IsCount : Option ℕ → ℕ → ℕ → Type 0
 IsCount None all count = count ≡ all
 IsCount (Some max) all count = (count ≤ all) × (0 < all → 0 < count)
 
--- The group has an entry at each index from `begin` on, below `end`. `entries` are the first of these. They are all of
--- them unless there is a greatest size, `max`.
+-- The group has an entry at each index from `begin` on, below `end`. `entries` are the first of these. Without a
+-- greatest size `max`, they are all of these; with one, at least one, if there are any.
 pub record AreFetched (m : Contents) (group begin end : ℕ) (max : Option ℕ) (entries : List (List ℕ)) : Type 0 where
   pub are : HasEntries m group begin entries
   pub all : (index : ℕ) → begin ≤ index → index < end → m group (Index index) ≡ None → ⊥
   pub count : IsCount max (end - begin) (length entries)
 
--- `entries` is what a read of the entries from `begin` on, below `end`, returns: none, if the group has none of them
+-- A read of the entries from `begin` on, below `end`, may return `entries`. If the group has none of them, it returns
+-- none. If the group has all of them, it returns the first ones (`AreFetched`). If the group has only some, no result
+-- is right.
 abbrev pub Fetches : Contents → ℕ → ℕ → ℕ → Option ℕ → List (List ℕ) → Type 0
 Fetches m group begin end max entries =
     (HasNone m group begin end × (entries ≡ [])) ⊎ AreFetched m group begin end max entries
 
--- whether key `k` is at or above `start`
+-- whether key `k` is at or above `start`, if there is a start
 abbrev pub is_from : Option (List ℕ) → List ℕ → Bool
 is_from None k = true
 is_from (Some start) k = is_le (slice_cmp nat_cmp start k)
 
--- whether key `k` is below `end`
+-- whether key `k` is below `end`, if there is an end
 abbrev pub is_below : Option (List ℕ) → List ℕ → Bool
 is_below None k = true
 is_below (Some end) k = is_lt (slice_cmp nat_cmp k end)

@@ -1,4 +1,4 @@
--- A run: the moments that its events make, and that the model explains each of them.
+-- A run of events: each makes a moment, and the model explains all of these.
 use Rattle.std.specs.Prelude.{◌≡◌, List, [], ◌∷◌, map}
 use Rattle.raft_log_world.specs.declared.event.Answer.{Answer}
 use Rattle.raft_log_world.specs.declared.event.Event.{Event}

@@ -26,16 +26,16 @@ use Rattle.raft_log_world.specs.Logs.{IfLeft, UnlessResting}
 use Rattle.raft_log_world.specs.Model.{Answers, ModelLog}
 use Rattle.raft_log_world_engine.specs.Instance.{CrashSparesEngine, CrashSparesFiles, IsFilesLog, ReadSparesFiles}
 
--- An open or a copy of a log's files, the event `event`, had the answer `answer`. Whichever log of the model the files
--- on disk `d` were, the model gives the same answer, and becomes a log for which `is` holds. If a close or a failed
--- open left the files, they must have no CRC collision.
+-- An open or a copy of a log's files, the event `event`, had the answer `answer`. Take any log of the model that the
+-- files on disk `d` are. On this event it gives the same answer, and becomes a log for which `is` holds. If a close or
+-- a failed open left the files, they must have no CRC collision.
 abbrev pub FollowsFiles : {C : Type 0} → Config → OnDisk → Event Batch C → Answer → (ModelLog → Type 0) → Type 0
 FollowsFiles config d event answer is =
     (log : ModelLog) (known : IsFilesLog config d log) → IfLeft log (ReadSparesFiles config d log known)
     → (next : ModelLog) × Answers said_of log event answer next × is next
 
 -- An open of the log of `config`, by any settings that name its directories:
--- - `done`: if it succeeds, the engine is the log that the model becomes.
+-- - `done`: if it succeeds, the engine has the log open that the model becomes.
 -- - `refused`: if it fails, the log's files are the log that the model becomes.
 pub record OpensAsModel {F : Type 0} (C : Type 0) (disk : F → OnDisk) (tells : F → List ℕ → ℕ → Type 0)
     (config settings : Config) (old : F) : Type 0 where
@@ -69,8 +69,8 @@ abbrev pub CopiesFollowTheModel : {F : Type 0} → Type 0 → (F → OnDisk) →
 CopiesFollowTheModel {F} C disk =
     (config : Config) (target : String Global) (old new : F) → CopiesAsModel C disk config target old new
 
--- Each crash of a log's files is one of the model. Whichever log of the model the files were, what the crash left is
--- the log that the model becomes. The crash must leave no CRC collision, unless the log was at rest.
+-- Each crash of a log's files is one of the model. Take any log of the model that the files are. By the crash it
+-- becomes the log that the image has. The crash must leave no CRC collision, unless the log was at rest.
 abbrev pub FileCrashesFollowTheModel : Type 0 → Type 0
 FileCrashesFollowTheModel C =
     (config : Config) (d image : OnDisk) (what : C) → IsImage d image
@@ -78,8 +78,8 @@ FileCrashesFollowTheModel C =
     → UnlessResting log (CrashSparesFiles config d log known image)
     → (next : ModelLog) × Answers said_of log (Crash what) Done next × IsFilesLog config image next
 
--- Each crash under an engine is one of the model: what it left on disk is the log that the model becomes. The crash
--- must leave no CRC collision.
+-- Each crash under an engine is one of the model. By the crash, the log that the engine has open becomes the log that
+-- the image has. The crash must leave no CRC collision.
 abbrev pub EngineCrashesFollowTheModel : {F : Type 0} → Type 0 → (F → OnDisk) → Type 0
 EngineCrashesFollowTheModel {F} C disk =
     (config : Config) (e : EngineState) (image : F) (what : C) → IsImage e.pipes.disk (disk image)

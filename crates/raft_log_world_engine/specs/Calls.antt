@@ -16,21 +16,21 @@ abbrev pub failure_of : Bool → Answer
 failure_of true = Failed
 failure_of false = Refused
 
--- the answer has these entries, or it is `Refused`, as when there was no memory for them
+-- the answer has these entries; or it is `Refused`, for example if there was no memory for them
 abbrev pub HasCopied : List (List ℕ) → Answer → Type 0
 HasCopied entries (Entries told) = all_bytes told.items ≡ entries
 HasCopied entries Refused = Unit {0}
 HasCopied entries _ = ⊥
 
--- the answer has these keys and values, or it is `Refused`, as when there was no memory for them
+-- the answer has these keys and values; or it is `Refused`, for example if there was no memory for them
 abbrev pub HasCopiedKeys : List (List ℕ × List ℕ) → Answer → Type 0
 HasCopiedKeys pairs (Keys told) = pairs_of told.items ≡ pairs
 HasCopiedKeys pairs Refused = Unit {0}
 HasCopiedKeys pairs _ = ⊥
 
 -- A call of engine `s` had this answer, and the engine is `t` after it:
--- - If the engine had the contents `m` and these pending batches, it gave the model's answer, and is the log that the
---   model becomes.
+-- - If the engine had the contents `m` and these pending batches, it gave the model's answer. The log that it has open
+--   is the one that the model becomes.
 -- - If it had failed, the answer is `Failed`, and nothing changed.
 pub record ServesAs (s : EngineState) (call : Call Batch) (answer : Answer) (t : EngineState) : Type 0 where
   pub runs : (home : LogDirectories) (m : LogMap) (pending : List LogRecordValue) → Represents home s m pending

@@ -1,4 +1,4 @@
--- The faults of a run, as those of the file system.
+-- The faults of a run, in the form that the file system takes.
 use Rattle.std.specs.Prelude.{Bool, true, false}
 use Rattle.raft_log_engine.specs.raft_log_fs.specs.declared.handle.Fault.{Fault as DiskFault}
 use Rattle.raft_log_engine.specs.raft_log_fs.specs.declared.handle.Fault.TheVariants as faults
@@ -12,7 +12,7 @@ abbrev pub told_of : Bool → Answer
 told_of true = Done
 told_of false = Refused
 
--- a fault of a run in the form that the file system takes
+-- the fault of the file system for this fault of a run
 abbrev pub fault_of : Fault → DiskFault
 fault_of (Refuse call part) = faults.RefuseInPart call part
 fault_of (Stop call true) = faults.StopAfter call

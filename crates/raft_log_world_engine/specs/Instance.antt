@@ -40,21 +40,21 @@ abbrev pub ReadSparesFiles : (config : Config) (d : OnDisk) (log : ModelLog) →
 ReadSparesFiles config d (left m pending) is = StandsWithoutChance (home_of config) is.1.lies.state d
 ReadSparesFiles config d log is = Unit {0}
 
--- If a close or a failed open left the files on disk `d`, a crash of these left `image` without a CRC collision.
+-- If a close or a failed open left the files on disk `d`, a crash left `image` of them, without a CRC collision.
 abbrev pub CrashSparesFiles :
     (config : Config) (d : OnDisk) (log : ModelLog) → IsFilesLog config d log → OnDisk → Type 0
 CrashSparesFiles config d (left m pending) is image = IsCrashOf (home_of config) is.1.lies.state d image
 CrashSparesFiles config d log is image = Unit {0}
 
--- A crash under the engine left `image` without a CRC collision. If the engine ran, this depends only on what its pipes
--- wrote.
+-- A crash under the engine left `image` without a CRC collision. `LeavesNoChance` says so for an engine that ran, by
+-- its pipes. `IsCrashOf` says so for one that had failed, by the files that it left.
 abbrev pub CrashSparesEngine :
     (home : LogDirectories) (e : EngineState) (log : ModelLog) → IsEngineLog home e log → OnDisk → Type 0
 CrashSparesEngine home e (running m pending) is image = LeavesNoChance home e.pipes image
 CrashSparesEngine home e (failed m pending) is image = IsCrashOf home is.1.1.lies.state e.pipes.disk image
 CrashSparesEngine home e log is image = Unit {0}
 
--- `S` are engines that have a log open, and `G` are closed logs: the settings and the state of each
+-- what is known of an engine with an open log (`S`), and of a closed log (`G`): the settings and the state of each
 pub record Parts (S G : Type 0) : Type 0 where
   pub config : S → Config
   pub shows : S → EngineState

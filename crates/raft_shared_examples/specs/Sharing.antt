@@ -13,8 +13,8 @@ use Rattle.raft_voter_shared_log.specs.LogOpenings.{log_service}
 use Rattle.raft_voter_shared_log.specs.declared.store.LogStore.{LogStore}
 use Rattle.raft_shared_examples.specs.declared.lives.Shared.{Shared}
 
--- A store was settled, and the journal has the records of all its rounds. It served voters of `served` when it was
--- shared.
+-- A store was settled, and the journal has the records of all its rounds. When the store was shared, it served voters
+-- of a world for which `served` holds.
 -- - `legal`: the journal is legal, starting with these voters.
 -- - `serves`: unless the store has failed, it serves the voters after the journal.
 pub record IsSettledWhole {S : Type 0} (v : Service S) (served : World → Type 0) (store : S) (journal : List Round)
@@ -36,8 +36,8 @@ ClosesWell s d = (has_failed s ≡ false) × ClosesProperly s.pipes d
 -- Store `old` was shared, and `shared` is what was left after it was settled and closed.
 -- - `legal`: the journal is legal, starting with voters that `old` served.
 -- - `settled`, `serves`: the settled store served the voters after the journal.
--- - `named`: its settings name the same directories as those in `shared`.
--- - `closes`: its log was closed properly.
+-- - `named`: the settings of the settled store name the same directories as those in `shared`.
+-- - `closes`: the log of the settled store was closed properly.
 pub record SharesAndCloses {F : Type 0} (disk : F → Disk) (shows : LogStore F → EngineState) (old : LogStore F)
     (shared : Shared F) : Type 0 where
   pub legal : (W : World) → IsOpenAt (log_service shows) old W → IsLegal W shared.journal.items

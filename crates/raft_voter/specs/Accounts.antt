@@ -10,15 +10,15 @@ use Rattle.raft_voter_outline.specs.State.{State, fresh}
 use Rattle.raft_voter_outline.specs.Rules.{is_retire, next}
 use Rattle.raft_voter.specs.Rounds.{cuts_after, is_among, place_reached, taken_below}
 
--- A request that the voter of `group` took, and the reply that the transcript has for it. `None`: its round was cut
--- off.
+-- A request that the voter of `group` took, and the reply that the transcript has for the request. The reply is `None`
+-- if the request's round was cut off.
 pub record Taken : Type 0 where
   pub group : ℕ
   pub request : Request
   pub told : Option Reply
 
--- The requests of a round with replies, each with its reply. Their positions in the round count from `place`. Requests
--- at the positions in `refused` are left out.
+-- These requests of a round with replies, each with its reply. Their positions in the round count from `place`, and
+-- those at the positions in `refused` are left out.
 abbrev pub told_from : ℕ → List ℕ → List (ℕ × Request) → List Reply → List Taken
 told_from place refused [] replies = []
 told_from place refused (q ∷ qs) [] = []
@@ -31,8 +31,8 @@ abbrev pub untold : List (ℕ × Request) → List Taken
 untold [] = []
 untold (q ∷ qs) = record { group = q.0; request = q.1; told = None } ∷ untold qs
 
--- The account of round `r`, without its requests at refused positions. If it has replies, these are its requests, each
--- with its reply. If it was cut off, these are its requests before the first of `cuts`, without replies.
+-- The account of round `r`: its requests, except those at refused positions. If the round has replies, each request has
+-- its reply. If the round was cut off, only the requests before the first of `cuts` are there, without replies.
 abbrev pub account_of_round : Outcome → Round → List ℕ → List Taken
 account_of_round (Answered replies) r cuts = told_from 0 r.refused r.requests replies
 account_of_round Cut r cuts = untold (taken_below r (place_reached Cut (length r.requests) cuts))
@@ -42,12 +42,12 @@ abbrev pub account : List Round → List ℕ → List Taken
 account [] cuts = []
 account (r ∷ rounds) cuts = account_of_round r.outcome r cuts ++ account rounds (cuts_after r.outcome cuts)
 
--- the requests of `group` in this account, each with its reply
+-- the requests of `group` in this account, each with its reply, if it got one
 abbrev pub own : ℕ → List Taken → List (Request × Option Reply)
 own group [] = []
 own group (t ∷ ts) = if t.group == group then (t.request, t.told) ∷ own group ts else own group ts
 
--- the requests that the voter of `group` took in these rounds, each with its reply
+-- the requests that the voter of `group` took in these rounds, each with its reply, if it got one
 abbrev pub group_account : ℕ → List Round → List ℕ → List (Request × Option Reply)
 group_account group rounds cuts = own group (account rounds cuts)
 

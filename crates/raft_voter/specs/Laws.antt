@@ -1,5 +1,5 @@
--- Laws of voters, and of voters that take the requests of rounds and give their replies. Each is the contract of a
--- function without a body.
+-- Laws of one voter's replies and states, and of the voters of all groups through rounds of requests. Each is the
+-- contract of a function with an empty body.
 use Rattle.std.specs.Prelude.{◌≡◌, ◌≢◌, ℕ, ◌+◌, ◌-◌, ◌<◌, ◌≤◌, nat_lt, Bool, true, false, IsTrue, IsSomeAnd, length, if◌then◌else◌, List, [], ◌∷◌, ◌++◌, map, take, drop, slice_get, Option, None, Some, Ok}
 use Rattle.raft_voter_messages.specs.Laws.{bare}
 use Rattle.raft_voter_messages.specs.StoredForms.{IsEntry, IsState, entry_text, state_text}
@@ -68,7 +68,7 @@ CommitNeverFalls =
     (W X : World) (rounds : List Round) (cuts : List ℕ) (group : ℕ) → Leads W rounds cuts X
     → NoRetire (group_account group rounds cuts) → (W group).commit ≤ (X group).commit
 
--- If rounds lead from world W to X, and a group's base is at most its commit in W, then also in X.
+-- Rounds lead from world W to X. If a group's base is at most its commit in W, it is also at most its commit in X.
 abbrev pub BaseIsCommitted : Type 0
 BaseIsCommitted =
     (W X : World) (rounds : List Round) (cuts : List ℕ) (group : ℕ) → Leads W rounds cuts X
@@ -78,8 +78,8 @@ BaseIsCommitted =
 abbrev pub sent_at : ℕ → List (ℕ × List ℕ) → ℕ → Option (ℕ × List ℕ)
 sent_at prev sent i = if nat_lt prev i then slice_get sent (i - prev - 1) else None
 
--- an Append of the entries `sent` after index `prev` has an entry for index `i`, and voter `v` doesn't have its term
--- there
+-- an Append of the entries `sent` after index `prev` has an entry for index `i`, and voter `v` doesn't have that
+-- entry's term there
 abbrev pub BringsOther : State → ℕ → List (ℕ × List ℕ) → ℕ → Type 0
 BringsOther v prev sent i = IsSomeAnd (sent_at prev sent i) (λ e. term_at v i ≢ Some e.0)
 
@@ -102,7 +102,7 @@ MatchedAppend =
 -- When voter `v` keeps its entry at index `i` while it takes this request:
 -- - Append: if the reply is `Matched`, it brings no term up to `i` that the voter doesn't have at the same index.
 -- - Compact: the base stays below `i`.
--- - Install: the base stays below `i`. If it moves, the voter has the snapshot's last index with the snapshot's term.
+-- - Install: the base stays below `i`. If it moves, the voter has the snapshot's term at the snapshot's last index.
 -- - Retire: never. Every other request: always.
 abbrev pub SparesEntry : State → ℕ → Request → Type 0
 SparesEntry v i (Append term prev prev_term commit sent) =
@@ -157,8 +157,8 @@ is_repeatable (Read from to) = false
 is_repeatable Status = false
 is_repeatable Retire = false
 
--- If a group takes a Vote, Append, Compact or Install twice, right after each other, both replies are the same. The
--- second one doesn't change the voter. Both must have replies.
+-- Suppose a group takes a Vote, Append, Compact or Install twice in a row, each time with a reply. Then the replies are
+-- the same, and the second request doesn't change the voter.
 abbrev pub RepeatIsIdempotent : Type 0
 RepeatIsIdempotent =
     (rounds : List Round) (cuts : List ℕ) (group : ℕ) → Explains rounds cuts
@@ -225,14 +225,14 @@ AreReadAs index [] [] = Unit {0}
 AreReadAs index (bytes ∷ others) (e ∷ es) = IsEntry bytes index e × AreReadAs (index + 1) others es
 AreReadAs index others es = ⊥
 
--- `s` and `es` can be read from the bytes that are written for voter `v`. `s` can be read from its state's bytes, and
--- each of `es` from the bytes of one entry.
+-- The bytes that are written for voter `v` can be read as state `s` and entries `es`: those of its state as `s`, and
+-- those of each entry as the entry of `es` at the same position.
 pub record IsReadOfWritten (v : State) (s : VoterState) (es : List Entry) : Type 0 where
   pub state : IsState (state_text (state_of v)) s
   pub entries : AreReadAs (v.base_index + 1) (map entry_text (log_entries v)) es
 
--- If voter `v` can be stored, its state and its entries can be read from the bytes that are written for them. Whatever
--- is read from these bytes restores `v`.
+-- Suppose voter `v` can be stored. The bytes that are written for it can be read as its entries and its state, with its
+-- base in place of the last entry. Whatever is read from these bytes restores `v`.
 abbrev pub StoredVotersAreRestored : Type 0
 StoredVotersAreRestored =
     (v : State) → IsStorable v

@@ -1,4 +1,4 @@
--- What rounds of requests do to the voters of all groups, and which replies voters that never fail give.
+-- What rounds of requests do to the voters of all groups, and what these voters reply if they never fail.
 use Rattle.std.specs.Prelude.{◌≡◌, ℕ, ◌+◌, ◌≤◌, ◌==◌, ◌&&◌, nat_lt, nat_le, Bool, true, not, IsTrue, if◌then◌else◌, List, [], ◌∷◌, length, drop}
 use Rattle.std.specs.List.{list_any}
 use Rattle.raft_voter_messages.specs.declared.reply.Reply.{Reply}
@@ -52,8 +52,8 @@ abbrev pub taken_below : Round → ℕ → List (ℕ × Request)
 taken_below r cut = taken_from 0 cut r.refused r.requests
 
 -- The replies to these requests, whose positions count from `place`, starting in world `W`. At a position in
--- `refused`, the reply is `Refused`, and no voter takes the request. At any other, the group's voter replies, after
--- all requests taken before. A voter also replies `Refused` to a request out of range.
+-- `refused`, the reply is `Refused`, and no voter takes the request. At any other position, the reply is that of the
+-- group's voter after the earlier requests. A voter also replies `Refused` to a request out of range.
 abbrev pub replies_from : ℕ → List ℕ → World → List (ℕ × Request) → List Reply
 replies_from place refused W [] = []
 replies_from place refused W (q ∷ qs) =
@@ -69,15 +69,15 @@ abbrev pub are_rising : ℕ → ℕ → List ℕ → Bool
 are_rising low high [] = true
 are_rising low high (p ∷ ps) = nat_le low p && nat_lt p high && are_rising (p + 1) high ps
 
--- World `X` is world `W` after the requests `qs` before some position `place`, without those at the positions in
--- `refused`.
+-- World `X` is world `W` after the first `place` of the requests `qs`, for some `place`, without those at the positions
+-- in `refused`.
 pub record TakesFirst (W : World) (qs : List (ℕ × Request)) (refused : List ℕ) (X : World) : Type 0 where
   pub place : ℕ
   pub within : place ≤ length qs
   pub reached : X ≡ after W (taken_from 0 place refused qs)
 
--- Sequences of rounds. A round that was cut off has no replies. The first of `cuts` is then the position up to which
--- its requests were taken, and the other cuts are for later rounds.
+-- Sequences of rounds. A round that was cut off has no replies. The first of `cuts` is its cut: the requests before
+-- that position were taken. The other cuts are for later rounds.
 
 -- the list isn't empty, and its first position is at most `size`, the number of the round's requests
 abbrev pub HasCut : ℕ → List ℕ → Type 0
@@ -89,15 +89,15 @@ abbrev pub cuts_after : Outcome → List ℕ → List ℕ
 cuts_after (Answered replies) cuts = cuts
 cuts_after Cut cuts = drop 1 cuts
 
--- The position up to which the requests of a round of `size` requests were taken. This is `size` if the round has
--- replies, and otherwise the first of `cuts`.
+-- The requests of a round before this position were taken. It is `size`, the number of its requests, if the round has
+-- replies. Otherwise it is the first of `cuts`, or 0 if there are no cuts.
 abbrev pub place_reached : Outcome → ℕ → List ℕ → ℕ
 place_reached (Answered replies) size cuts = size
 place_reached Cut size [] = 0
 place_reached Cut size (cut ∷ cuts) = cut
 
--- The outcome of round `r` is possible in world `W`. If it has replies, these are what the voters of `W` reply. If it
--- was cut off, the first of `cuts` is at most the number of its requests.
+-- The outcome of round `r` is possible in world `W`. If the round has replies, these are what the voters of `W` reply.
+-- If it was cut off, there is a first of `cuts`, which is at most the number of the round's requests.
 abbrev pub OutcomeHolds : Outcome → World → Round → List ℕ → Type 0
 OutcomeHolds (Answered replies) W r cuts = replies ≡ replies_of W r
 OutcomeHolds Cut W r cuts = HasCut (length r.requests) cuts

@@ -11,8 +11,8 @@ use Rattle.raft_voter.specs.declared.service.Cause.TheVariants.{FileSystem, Memo
 
 -- Services and files.
 
--- Which voters are possible after a round that was cut off: the voters before it, its requests, and its refused
--- positions. How many of its requests were taken is unknown.
+-- A round that was cut off: the voters before it, its requests, and its refused positions. How many of its requests
+-- were taken is unknown. `MayFollow` says which voters are possible after it.
 pub record CutRound : Type 0 where
   pub before : World
   pub requests : List (ℕ × Request)
@@ -22,7 +22,7 @@ pub record CutRound : Type 0 where
 abbrev pub uncut : World → CutRound
 uncut W = record { before = W; requests = []; refused = [] }
 
--- the voters of world `X` took the requests of this round before some position, without those at refused positions
+-- world `X` is possible after this round: its voters took the requests before some position, except the refused ones
 abbrev pub MayFollow : CutRound → World → Type 0
 MayFollow cut X = TakesFirst cut.before cut.requests cut.refused X
 
@@ -45,10 +45,10 @@ pub record Service (S : Type 0) : Type 1 where
 -- - `without_chance`: the second files have no CRC collision; they are what a crash left of the first, or the same
 --   ones;
 -- - `opens`: an open of these files may return this service;
--- - `refuses`: an open may fail for this cause, and then leaves the second files;
+-- - `refuses`: an open of the first files may fail for this cause and leave the second files;
 -- - `closes`: a close of this service may leave these files;
 -- - `crashes`: a crash may leave the second files of the first;
--- - `refuses_crash`: taking the files as a crash leaves them may fail.
+-- - `refuses_crash`: a call that takes what a crash leaves of these files may fail.
 pub record Files (S F : Type 0) : Type 1 where
   pub leaves : F → CutRound → Type 0
   pub without_chance : F → F → Type 0
@@ -70,14 +70,15 @@ abbrev pub IsClosedAt : {S F : Type 0} → Files S F → F → World → Type 0
 IsClosedAt f files W = f.leaves files (uncut W)
 
 -- Suppose these files have no CRC collision, and an open finds only voters that are possible after the round `cut`.
--- Then `store`, opened from them, serves voters that are possible after it.
+-- Then `store`, opened from these files, serves such voters.
 abbrev pub FindsVoters : {S F : Type 0} → Service S → Files S F → F → S → Type 0
 FindsVoters v f files store =
     f.without_chance files files
     → (cut : CutRound) → f.leaves files cut → (W : World) × MayFollow cut W × IsOpenAt v store W
 
--- A crash of `files`, or an open of them that failed, left the files `left`. If the files `read` have no CRC collision,
--- an open of `left` finds only voters that an open of `files` may find.
+-- A crash, or an open that failed, made the files `left` from `files`. `read` are `left` after a crash, and `files`
+-- after an open. Without a CRC collision in `read`, an open of `left` finds only voters that an open of `files` may
+-- find.
 abbrev pub LeavesStanding : {S F : Type 0} → Files S F → F → F → F → Type 0
 LeavesStanding f read files left =
     f.without_chance files read → (cut : CutRound) → f.leaves files cut → f.leaves left cut
@@ -114,15 +115,16 @@ pub record Answers (W : World) (requests : List (ℕ × Request)) (replies : Lis
   pub taken : X ≡ after W (taken_from 0 (length requests) (refused_from 0 replies) requests)
 
 -- If service `old` serves the voters of a world, these give the replies `told` to this round. Service `new` then
--- serves the voters after it.
+-- serves the voters after the round.
 abbrev pub AnswersRound : {S : Type 0} → Service S → List (ℕ × Request) → List Reply → S → S → Type 0
 AnswersRound v requests told old new =
     (W : World) → IsOpenAt v old W → (X : World) × Answers W requests told X × IsOpenAt v new X
 
 -- Rounds that are cut off: they end without replies.
 
--- A file system call failed in the round, which changed service `old` into `new`. A later open finds voters that took
--- the requests before some position, without those at the positions `refused`. The service may refuse these positions.
+-- A round changed service `old` into `new`, and the service may refuse the positions `refused`. Suppose `old` serves
+-- the voters of a world. Then a file system call failed in the round. A later open finds these voters after the
+-- requests before some position, without those at the refused positions.
 pub record TookSome {S : Type 0} (v : Service S) (refused : List ℕ) (requests : List (ℕ × Request))
     (old new : S) : Type 0 where
   pub rising : IsTrue (are_rising 0 (length requests) refused)
@@ -131,8 +133,8 @@ pub record TookSome {S : Type 0} (v : Service S) (refused : List ℕ) (requests 
   pub left : (W : World) → IsOpenAt v old W
       → v.leaves new (record { before = W; requests = requests; refused = refused })
 
--- No request was taken, and no position refused. Service `new` serves the same voters as `old`. An open after a close
--- or a crash of `new` finds only voters that it could find after one of `old`.
+-- No request was taken, and no position refused. Service `new` serves the same voters as `old`. After a close or a
+-- crash of `new`, an open finds only voters that it could find after a close or a crash of `old`.
 pub record TookNone {S : Type 0} (v : Service S) (refused : List ℕ) (old new : S) : Type 0 where
   pub none : refused ≡ []
   pub served : (W : World) → IsOpenAt v old W → IsOpenAt v new W

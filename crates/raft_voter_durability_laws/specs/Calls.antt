@@ -12,14 +12,14 @@ use Rattle.raft_voter_durability_laws.specs.Standing.{IsLeftAmong, IsLeftWith, K
 
 -- What the engine promises.
 
--- A purge turned engine `s` into `t` and succeeded. The log's contents are those after its pending batches, which are
--- durable now.
+-- A purge turned engine `s` into `t` and succeeded. The log has the same contents, and the batches that were pending
+-- are durable now.
 abbrev pub KeepsMap : EngineState → EngineState → Type 0
 KeepsMap s t = (home : LogDirectories) (m : LogMap) (pending : List LogRecordValue) → Represents home s m pending
     → Represents home t (taken m pending) []
 
 -- A purge turned engine `s` into `t` and failed:
--- - the log's contents are those after its pending batches, which are durable now
+-- - the log has the same contents, and the batches that were pending are durable now
 -- - or the engine has failed, and the log's files can be opened, with these batches durable or still pending
 abbrev pub KeepsOrLeavesMap : Error → EngineState → EngineState → Type 0
 KeepsOrLeavesMap error s t = (home : LogDirectories) (m : LogMap) (pending : List LogRecordValue) → Represents home s m pending

@@ -49,9 +49,9 @@ pub record Answered (home : LogDirectories) (V : World) (qs : List (ℕ × Reque
   pub tells : AreTold V qs told
 
 -- A round of the requests `qs` began with engine `s` and the voters of `V`. The engine, now `t`, failed at one of them,
--- as a file system call failed. `told` has the replies to the requests before it; those that aren't `Refused` are the
--- voters' own. The log's files can be opened. They store the voters after a prefix of the requests taken, or after all
--- of them and the request at which the engine failed.
+-- as a file system call failed. `told` has the replies to the requests before that one. Replies that aren't `Refused`
+-- are the voters' own. The log's files can be opened. They store the voters after a prefix of the requests taken, or
+-- after all of them and the request at which the engine failed.
 pub record GaveUp (home : LogDirectories) (V : World) (qs : List (ℕ × Request)) (told : List Reply) (s t : EngineState)
     : Type 0 where
   pub failed : has_failed t ≡ true

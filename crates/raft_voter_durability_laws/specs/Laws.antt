@@ -166,8 +166,8 @@ abbrev pub EnginesLeaveLogs : Type 0
 EnginesLeaveLogs = (s : EngineState) → LeavesLog s s.pipes.disk
 
 -- After an engine was closed or dropped, its log's files can be opened with the same voters. `forked`: a round was cut
--- off, and the log is then forked. The source's files still have voters that took the round's requests below one
--- position.
+-- off, and the log was forked afterwards. The source's files still have voters that took the round's requests below one
+-- position, except refused ones.
 pub record VotersAreLeft : Type 0 where
   pub gone : (home : LogDirectories) (V : World) (s : EngineState) (d : Disk) → Keeps home s V → LeavesLog s d
       → IsLeftWith home d V

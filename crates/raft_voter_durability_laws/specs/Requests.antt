@@ -71,8 +71,8 @@ IsUnwrittenFor errors.NumberRange s t = HasLastNumber InAppend t.pipes
 IsUnwrittenFor errors.Memory s t = Unit {0}
 IsUnwrittenFor _ s t = ⊥
 
--- Why engine `s` failed with `error` to read entries of group `g` from index `from` on, below `to`, though its tables
--- show them. The file of one of them can't be read, or memory ran out. No entry is reported as damaged.
+-- Why a read of entries of group `g`, from index `from` on and below `to`, failed with `error`. The tables of engine
+-- `s` show one of them, but its file can't be read, or memory ran out. No entry is reported as damaged.
 pub record WereUnread (g from to : ℕ) (s : EngineState) (error : Error) : Type 0 where
   pub index : ℕ
   pub entry : EntryIndex

@@ -13,15 +13,14 @@ took [] told = []
 took (q ∷ qs) [] = []
 took (q ∷ qs) (a ∷ told) = if is_refused a then took qs told else q ∷ took qs told
 
--- each reply so far that isn't `Refused` is the reply of its request's voter after the requests that were taken before
+-- each reply so far that isn't `Refused` is what the request's voter replies after the requests taken before this one
 abbrev pub AreTold : World → List (ℕ × Request) → List Reply → Type 0
 AreTold W qs [] = Unit {0}
 AreTold W [] (a ∷ told) = ⊥
 AreTold W (q ∷ qs) (a ∷ told) =
     MatchBool (is_refused a) (AreTold W qs told) ((a ≡ reply (W q.0) q.1) × AreTold (after_one W q) qs told)
 
--- `X` is the world after the requests that were taken below some position of the round, among those with a reply so
--- far
+-- `X` is the world after the requests taken below some position `cut`; each request below `cut` has a reply so far
 abbrev pub IsPassed : World → List (ℕ × Request) → List Reply → World → Type 0
 IsPassed V qs told X = (cut : ℕ) × (cut ≤ length told) × (X ≡ after V (took qs (take cut told)))
 

@@ -13,7 +13,7 @@ use Rattle.raft_voter_outline.specs.State.{State}
 
 -- What callers see.
 
--- the replies of a round with this outcome; none if the round was cut off: if it ended without replies
+-- the replies of a round with this outcome; none if the round was cut off, so that it ended without replies
 abbrev pub shown_replies : Outcome → List Reply
 shown_replies (Answered replies) = replies
 shown_replies Cut = []

@@ -47,7 +47,7 @@ second_life = record {
 abbrev pub two_lives : List Reply → List Round
 two_lives replies = first_life replies ∷ crash ∷ second_life ∷ []
 
--- replies of the first round with which voters explain the rounds
+-- replies in the first round; with these, voters that never fail explain all three rounds
 abbrev pub right_replies : List Reply
 right_replies = Matched 1 ∷ Granted 3 ∷ []
 

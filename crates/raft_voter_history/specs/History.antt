@@ -1,6 +1,6 @@
--- The history of a store: the records of all its rounds, in order. It exists in proofs alone. A keeper and each claim
--- are passes of a cell of the standard library: values without bytes. The view of a pass says what the pass knows of
--- the history.
+-- The history of a store: the records of all its rounds, in order. It exists in proofs alone. A keeper knows all of it,
+-- and a claim some consecutive records of it. Both are passes of a cell of `crossbeam_utils`: values without bytes. The
+-- view of a pass says what the pass knows.
 use Rattle.std.specs.Prelude.{◌≡◌, ℕ, List, [], ◌++◌, length, Bool, true, false}
 use mathlib.Core.Option.{some}
 use lib.ListN.{get_elem?}
@@ -42,11 +42,11 @@ abbrev pub IsOneHistory : List ℕ → List View → Type 0
 IsOneHistory words views =
     (seat : ℕ) × (log : List Round) × ((by : ℕ) (v : View) → get_elem? views by ≡ some v → IsTrue seat log by v)
 
--- the records `part` were added to the history that the pass with the view `v` knows; its view is `w` then
+-- the records `part` were added to the history that the pass with the view `v` knows; afterwards its view is `w`
 abbrev pub Notes : List Round → View → List ℕ → List ℕ → View → Type 0
 Notes part v before after w = w ≡ knows (v.all ++ part)
 
--- The pass that knows the history still knows it; its view was `v` and is `w`. If it had taken in a claim, the claim is
+-- The pass that knows the history still knows it; its view was `v` and is `w`. If `v` also has a claim, the claim is
 -- true.
 abbrev pub Finds : View → List ℕ → List ℕ → View → Type 0
 Finds v before after w = (w ≡ knows v.all) × (v.claims ≡ true → HasPart v.all v.first v.part)

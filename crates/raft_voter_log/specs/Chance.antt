@@ -53,8 +53,8 @@ abbrev pub ZerosBeginNoRecord : Type 0
 ZerosBeginNoRecord = (queue : LogQueue) (directories : List (List ℕ)) (files : PipeFiles) (room : ℕ)
     → Refuses (IsOwnFrame (log_format queue directories) files) (zeros room)
 
--- Disk `image` is what a crash left of disk `d`, and the crash only lost writes to the pipe's active file. If both
--- disks have the file, its bytes in the image are as `IsTorn` or `IsWhole` says.
+-- A crash that left `image` of disk `d` only lost writes to the pipe's active file: if both disks have the file, its
+-- bytes in the image are as `IsTorn` or `IsWhole` says.
 abbrev pub LosesOwn : Format LogRecord → PipeFiles → Disk → Disk → Type 0
 LosesOwn F files d image = (file after : File) → d.files files.writer.handle.file ≡ Some file
     → image.files files.writer.handle.file ≡ Some after
@@ -92,7 +92,7 @@ LossesInRoundsAreFound {F} disk tells = (home : LogDirectories) (V : World) (req
 -- Chosen bytes.
 
 -- `bytes` are the header of the active file, all records that the pipe wrote after it, another record of this file, and
--- maybe more bytes. No unsynced write was asked to write that other record there.
+-- maybe more bytes. That other record wasn't passed to an unsynced write at its offset.
 pub record HasForeign (F : Format LogRecord) (files : PipeFiles) (file : File) (bytes : List ℕ) : Type 0 where
   pub own : List (Written LogRecord)
   pub frames : AreFrames (IsOwnFrame F files) own
@@ -111,8 +111,8 @@ pub record LeavesForeign (F : Format LogRecord) (files : PipeFiles) (d image : D
   pub left : image.files files.writer.handle.file ≡ Some after
   pub has : HasForeign F files file after.content
 
--- If a crash image of a running engine has another record after those of either queue's active file, as `LeavesForeign`
--- says, it has a CRC collision.
+-- Suppose that in a crash image of a running engine, another record follows those of the pipe in either queue's active
+-- file (`LeavesForeign`). Then the image has a CRC collision.
 abbrev pub ForeignRecordsAreChance : Type 0
 ForeignRecordsAreChance = (home : LogDirectories) (e : EngineState) (m : LogMap) (pending : List LogRecordValue) → Represents home e m pending
     → (image : Disk)

@@ -15,8 +15,8 @@ use Rattle.raft_voter_durability_laws.specs.Standing.{Keeps}
 use Rattle.raft_voter_log.specs.Leaving.{FilesLeave, SparesFiles}
 use Rattle.raft_voter_log.specs.Opens.{FindsVoters}
 
--- The files have voters that are possible after the round `cut`. There is no CRC collision in them as they are, nor in
--- any crash image of them.
+-- The files have voters that are possible after the round `cut`. They meet the premise on CRC collisions
+-- (`SparesFiles`), both as they are and in each crash image.
 abbrev pub AskNothing : Config → Disk → CutRound → Type 0
 AskNothing config d cut = (known : FilesLeave config d cut) × ((read : Disk) → SparesFiles config d cut known read)
 
@@ -25,8 +25,8 @@ abbrev pub RestingVotersAskNothing : Type 0
 RestingVotersAskNothing = (config : Config) (d : Disk) (cut : CutRound) (m : LogMap) (W : World) → IsSound d
     → IsDurableAs (log_in (home_of config)) d m → Means m W → MayFollow cut W → AskNothing config d cut
 
--- If the log of a running store is closed properly, its files have the store's voters, and no CRC collision, as
--- `AskNothing` says.
+-- If the log of a running store is closed properly, its files have the store's voters. They meet the premise on CRC
+-- collisions, as `AskNothing` says.
 abbrev pub ClosedStoresMeetThePremise : Type 0
 ClosedStoresMeetThePremise = (config : Config) (s : EngineState) (W : World) (d : Disk) → IsSound s.pipes.disk
     → Keeps (home_of config) s W → ClosesProperly s.pipes d → AskNothing config d (uncut W)

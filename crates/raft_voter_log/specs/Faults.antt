@@ -1,4 +1,4 @@
--- The faults and crashes of a simulated world, as those of the in-memory file system.
+-- The faults and crashes of a simulated world, in the form that the in-memory file system takes.
 use Rattle.raft_log_fs.specs.declared.handle.Fault.{Fault as DiskFault}
 use Rattle.raft_log_fs.specs.declared.handle.Fault.TheVariants as faults
 use Rattle.raft_log_fs_memory.specs.raft_log_fs_state.specs.declared.remainder.Remainder.{Remainder}
@@ -8,12 +8,12 @@ use Rattle.raft_voter_world.specs.declared.event.Left.TheVariants.{All, First, L
 use Rattle.raft_voter_world.specs.declared.faults.Fault.{Fault}
 use Rattle.raft_voter_world.specs.declared.faults.Fault.TheVariants.{Refuse, Stop}
 
--- the fault of the file system that implements this fault of the simulated world
+-- the fault of the file system for this fault of the simulated world
 abbrev pub fault_of : Fault → DiskFault
 fault_of (Stop calls) = faults.StopAt calls
 fault_of (Refuse calls) = faults.Refuse calls
 
--- which unsynced changes the file system keeps in a crash that leaves this
+-- this choice of what a crash leaves of the unsynced changes, in the form that the file system takes
 abbrev pub remainder_of : Left → Remainder
 remainder_of Last = remainders.LastSync
 remainder_of All = remainders.AllWritten

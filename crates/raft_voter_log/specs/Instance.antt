@@ -39,8 +39,8 @@ use Rattle.raft_voter_log.specs.Leaving.{FilesLeave, SparesFiles, SparesStore}
 
 -- The store.
 
--- What a purge that succeeded did: `old`, in state `s`, is the engine before it, and `new`, in state `t`, the one after
--- it. `held` says from which file on the engine's listeners pin Append.
+-- What a successful purge did: `old`, in state `s`, is the engine before it, and `new`, in state `t`, the one after it.
+-- `held` says from which file on the engine's listeners pin Append.
 abbrev pub PurgesLog :
     {P : Type 0} → (LogPipes → Option ℕ → Type 0) → Purge → LogEngine P → LogEngine P → EngineState → EngineState → Type 0
 PurgesLog held Expired old new s t = (groups : List ℕ)
@@ -48,12 +48,12 @@ PurgesLog held Expired old new s t = (groups : List ℕ)
 PurgesLog held RewriteAppend old new s t = RewritesAppend None None new.tables s t
 PurgesLog held RewriteRewrite old new s t = SyncsAndRewrites new.tables s t
 
--- a purge of this kind failed with this error, for one of the reasons that it may have
+-- a purge of this kind failed with this error, for one of the reasons that such a purge may have
 abbrev pub StopsPurgeAs : Purge → EngineState → EngineState → Error → Type 0
 StopsPurgeAs RewriteAppend s t error = StopsRewritingAppend s t error
 StopsPurgeAs purge s t error = StopsPurgingExpired s t error
 
--- a purge of this kind failed with an error, for one of the reasons that it may have, and returned the error's cause
+-- a purge of this kind failed with an error as `StopsPurgeAs` says, and returned the error's cause
 abbrev pub RefusesLogPurge : Purge → Cause → EngineState → EngineState → Type 0
 RefusesLogPurge purge cause s t =
     (error : Error) × (cause ≡ purge_cause (has_failed s) error) × StopsPurgeAs purge s t error

@@ -26,7 +26,7 @@ use Rattle.raft_voter_log.specs.Causes.{cause_of}
 use Rattle.raft_voter_log.specs.StoreCauses.{VotersHaveReason}
 
 -- A purge that succeeds doesn't change the voters that the log stores. A purge that fails doesn't change them either;
--- or the store has failed because a file call failed, and its files can be opened with just these voters.
+-- or the store has failed, a file call failed in the purge, and the store's files can be opened with just these voters.
 pub record PurgesKeepOrFail {S : Type 0} (u : Upkeep S) (shows : S → EngineState) : Type 0 where
   pub answered : (home : LogDirectories) (V : World) (purge : Purge) (old new : S) → Keeps home (shows old) V
       → u.purges purge old new → Keeps home (shows new) V
@@ -36,8 +36,8 @@ pub record PurgesKeepOrFail {S : Type 0} (u : Upkeep S) (shows : S → EngineSta
       ⊎ ((has_failed (shows new) ≡ true) × Fails (shows old).pipes.disk (shows new).pipes.disk
       × IsLeftWith home (shows new).pipes.disk V)
 
--- Suppose a store's log stores voters, and a purge of it fails. Then it failed with an error that has one of the
--- reasons in `VotersHaveReason`, and returned this error's cause.
+-- Suppose a store's log stores voters, and a purge of it fails. Then the purge's error has one of the reasons in
+-- `VotersHaveReason`, and the purge returns the cause of this error.
 abbrev pub RefusedPurgesHaveReasons : {S : Type 0} → Upkeep S → (S → EngineState) → Type 0
 RefusedPurgesHaveReasons {S} u shows = (home : LogDirectories) (V : World) (purge : Purge) (cause : Cause) (old new : S)
     → Keeps home (shows old) V → u.refuses purge cause old new
@@ -57,8 +57,8 @@ pub record WasRefusedFor {S F : Type 0} (v : Service S) (config : S → Config) 
       × ((error : Error) × (cause ≡ cause_of error)
       × VotersHaveReason (home_of (config old)) W error (shows old) (shows new)))
 
--- In each run in which every store that was opened served the voters of some world, each failed purge was as
--- `WasRefusedFor` says.
+-- Suppose that in a run, each store whose voters were read at its open served the voters of some world. Then each
+-- failed purge of the run was as `WasRefusedFor` says.
 abbrev pub RunsRefuseForReasons : {S F : Type 0} → Service S → Upkeep S → Disk S F → (S → Config) → (S → EngineState) → Type 0
 RunsRefuseForReasons {S} {F} v u d config shows = (files : F) (events : List Event) (report : WorldReport F)
     → (run : IsRun v u d files events report) → ServeSome v (moments_of run.turns)

@@ -59,8 +59,8 @@ RunsAskNothing {S} v u d config shows = (first : LogFiles) (events : List Event)
     → ServeSome v (moments_of run.turns) × NoneLost (moments_of run.turns ++ run.closing)
     × Explains report.transcript.rounds report.cuts
 
--- A crash of a running store leaves another record right after all that was written to either queue's active file. No
--- unsynced write was asked to write that record there. Then the premise on CRC collisions is false.
+-- A crash of a running store leaves another record right after all that was written to either queue's active file. That
+-- record wasn't passed to an unsynced write at its offset. Then the premise on CRC collisions is false.
 abbrev pub ForeignRecordsBreakPremise : Type 0
 ForeignRecordsBreakPremise = (config : Config) (s : EngineState) (cut : CutRound) → has_failed s ≡ false
     → (under : LeavesAt (home_of config) s cut) → (d : OnDisk)

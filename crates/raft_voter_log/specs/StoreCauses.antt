@@ -15,7 +15,7 @@ use Rattle.raft_voter_records.specs.Voters.{Means}
 use Rattle.raft_voter_durability_laws.specs.Standing.{AreOutlines, Keeps}
 use Rattle.raft_voter_store.specs.Rounds.{CutsRoundOff}
 
--- Suppose a store's log stores voters, and the engine cuts a round off. Then a file call failed during the round.
+-- Suppose a store's log stores voters, and a round is cut off. Then a file call failed during the round.
 abbrev pub CutRoundsHaveFailed : Type 0
 CutRoundsHaveFailed = (home : LogDirectories) (V : World) (requests : List (ℕ × Request)) (refused : List ℕ) (s t : EngineState)
     (os : ℕ → State) → Keeps home s V → AreOutlines os V → CutsRoundOff requests refused s t os
@@ -25,7 +25,7 @@ CutRoundsHaveFailed = (home : LogDirectories) (V : World) (requests : List (ℕ 
 abbrev pub StopsPurge : EngineState → EngineState → Error → Type 0
 StopsPurge s t error = StopsPurgingExpired s t error ⊎ StopsRewritingAppend s t error
 
--- Suppose a store's log stores voters, and a purge fails that leaves the store failed. Then a file call failed during
+-- Suppose a store's log stores voters, and a purge fails and leaves the store failed. Then a file call failed during
 -- the purge.
 abbrev pub FailedPurgesHaveFailed : Type 0
 FailedPurgesHaveFailed = (home : LogDirectories) (V : World) (s t : EngineState) (error : Error) → Keeps home s V

@@ -34,8 +34,8 @@ pub data AreAStores (home : LogDirectories) (d : Disk) : Type 0 where
   left : (cut : CutRound) (left : IsLeftAmong home d (MayFollow cut))
       → StandsWithoutChance home left.left.1.lies.state d → AreAStores home d
 
--- The engines `s` and `t` store the same voters. Both `os` and `us` are the outlines of these, and the engines' lists
--- of voters are equal.
+-- The engines `s` and `t` store the same voters. Both `os` and `us` are the outlines of these voters, and the engines'
+-- lists of voters are equal.
 pub record AreAlike (home : LogDirectories) (s t : EngineState) (os us : ℕ → State) : Type 0 where
   pub world : World
   pub first : Keeps home s world × AreOutlines os world

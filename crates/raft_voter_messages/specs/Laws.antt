@@ -31,8 +31,8 @@ abbrev pub OneEntry : Type 0
 OneEntry =
     (bytes : List ℕ) (i j : ℕ) (e f : Entry) → IsEntry bytes i e → IsEntry bytes j f → (i ≡ j) × (e ≡ f)
 
--- If bytes have a fault other than `Memory` for an index, they encode no entry at that index. They have no other fault
--- for it.
+-- Bytes are read as the entry at an index. If they then have a fault other than `Memory`, they encode no entry at that
+-- index, and have no other fault.
 abbrev pub OneEntryFault : Type 0
 OneEntryFault =
     (bytes : List ℕ) (index : ℕ) (fault : StoredFault) → fault ≢ Memory → EntryFault fault bytes index

@@ -16,8 +16,8 @@ entry_fits e = fits e.0 && nat_le (length e.1) 65535
 abbrev pub total_bytes : List (ℕ × List ℕ) → ℕ
 total_bytes sent = sum_by (λ e. length e.1) sent
 
--- The entries `sent` of an Append, which follow index `prev`, are in range. They are at most 1,024, with at most
--- 1,048,576 bytes together. Each of them is in range, and so is the index of the last one.
+-- The entries `sent` of an Append after index `prev` keep the limits. They are at most 1,024, with at most 1,048,576
+-- bytes together. Each of them is in range, and so is the index of the last one, or `prev` if there are none.
 abbrev pub entries_fit : ℕ → List (ℕ × List ℕ) → Bool
 entries_fit prev sent =
     fits (prev + length sent) && nat_le (length sent) 1024 && list_all entry_fits sent

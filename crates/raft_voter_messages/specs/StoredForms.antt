@@ -54,8 +54,8 @@ pub record IsStateForm1 (body : List ℕ) (s : VoterState) : Type 0 where
   pub text : body ≡ head_text s.term (vote_text s.vote) s.base_index s.base_term
   pub commit : s.commit ≡ s.base_index
 
--- The fault of the bytes `body` after form byte 1. It is `Length` if they are not 33. It is `Range` if they are 33,
--- but encode no state in range.
+-- The fault of the bytes `body` after form byte 1. It is `Length` if `body` doesn't have 33 bytes. It is `Range` if it
+-- has 33, but encodes no state in range.
 abbrev pub StateForm1Fault : StoredFault → List ℕ → Type 0
 StateForm1Fault Length body = length body ≢ 33
 StateForm1Fault Range body =
@@ -68,8 +68,8 @@ StateForm1Fault _ body = ⊥
 abbrev pub state_form_2 : VoterState → List ℕ
 state_form_2 s = head_text s.term (vote_text s.vote) s.base_index s.base_term ++ number_text s.commit
 
--- The fault of the bytes `body` after form byte 2. It is `Length` if they are not 41. It is `Range` if they are 41,
--- but encode no state in range.
+-- The fault of the bytes `body` after form byte 2. It is `Length` if `body` doesn't have 41 bytes. It is `Range` if it
+-- has 41, but encodes no state in range.
 abbrev pub StateForm2Fault : StoredFault → List ℕ → Type 0
 StateForm2Fault Length body = length body ≢ 41
 StateForm2Fault Range body =

@@ -56,11 +56,11 @@ runs_needed w q = runs_behind None (entries_in w q)
 abbrev pub HasRunRoom : Write → Request → ℕ → Type 0
 HasRunRoom w q room = runs_needed w q ≤ room
 
--- the room falls from `old` to `new` at most by the number of runs that the appended entries can add
+-- the room falls from `old` to `new` by at most the number of runs that the appended entries can add
 abbrev pub UsesRoom : Write → Request → ℕ → ℕ → Type 0
 UsesRoom w q old new = old ≤ new + runs_needed w q
 
--- `t` has the base of voter `v` and the terms of its entries
+-- `t` has the base index of voter `v`, and the terms of the voter's entries
 pub record AreTermsOf (v : State) (t : Terms) : Type 0 where
   pub base_is : t.base ≡ v.base_index
   pub log_is : t.log ≡ bare v.log
@@ -74,8 +74,8 @@ pub record CanChange (t : Terms) (q : Request) (c : Change) : Type 0 where
   pub rests : RestsOn c.write voter c.state.base_index
   pub small : c.state.base_index < 2 ^ 63
 
--- `new` is `old` after change `c`: it has the change's base. Its log has the terms of the log that each voter with
--- terms `old` has after the write of request `q`.
+-- `new` is `old` after change `c` for request `q`, and has the change's base index. Once the change's write is made to
+-- a voter with the terms `old`, the voter's log has the terms `new`.
 abbrev pub ChangesTerms : Terms → Request → Change → Terms → Type 0
 ChangesTerms old q c new =
     (new.base ≡ c.state.base_index)

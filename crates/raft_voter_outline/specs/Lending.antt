@@ -12,8 +12,8 @@ pub record HasOutline (group : ℕ) (old new : Outlines) (outline : Outlined) : 
   pub own : outlines_in new group ≡ outline.voter
   pub others : (g : ℕ) → (g == group) ≡ false → outlines_in new g ≡ outlines_in old g
 
--- At the end of the borrow, the group has the outline that was last written through the borrow, and the other groups
--- are unchanged. If the call returned `None`, no group's voter changed.
+-- At the end of the borrow, the group has the voter of the outline that was last written through the borrow. The other
+-- groups' voters are unchanged. If the call returned `None`, no group's voter changed.
 abbrev pub LendsOutline : MutBor Outlines → ℕ → Option (MutBor Outlined) → Fml
 LendsOutline s group r =
     LendsSo the_row outline_row s r (λ n w. OnSome r (HasOutline group s.now n w))

@@ -78,7 +78,7 @@ changed c sent v = record {
 
 -- This write is possible for request `q` on the log of voter `v`:
 -- - `StateAlone` is for any request except Retire, and `Clean` only for Retire;
--- - `Entries` appends at least one entry of `q`, and leaves no gap and no index out of range;
+-- - `Entries` appends at least one entry of `q` above the base, and leaves no gap and no index out of range;
 -- - `CompactTo` has an index above the base and up to the last entry.
 abbrev pub CanWrite : Write → Request → State → Type 0
 CanWrite StateAlone q v = is_retire q ≡ false
@@ -88,8 +88,8 @@ CanWrite (Entries skipped index) q v =
 CanWrite (CompactTo index) q v = (v.base_index < index) × (index ≤ last_index v)
 CanWrite Clean q v = is_retire q ≡ true
 
--- `base` can be the base's index after this write. It is 0 after a `Clean`, the index of a `CompactTo`, and the old
--- base after any other write. It may be any index if a `StateAlone` finds no entries or a `CompactTo` removes all.
+-- `base` can be the base's index after this write. It is 0 after a `Clean`, the write's own index after a `CompactTo`,
+-- and otherwise the old one. After a `StateAlone` on an empty log, or a `CompactTo` of all entries, any index will do.
 abbrev pub RestsOn : Write → State → ℕ → Type 0
 RestsOn StateAlone v base = (base ≡ v.base_index) ⊎ (v.log ≡ [])
 RestsOn (Entries skipped index) v base = base ≡ v.base_index
@@ -128,8 +128,9 @@ write_of v _ = StateAlone
 
 -- Decisions.
 
--- Change `c` is the one that request `q` makes to voter `v`. It has the next state and the request's write, and the
--- write is possible. If the old base is in range, so is the new one. The voter does change.
+-- Change `c` is the one that request `q` makes to voter `v`. It has the next state and the request's write, which give
+-- the next voter. The write is possible (`CanWrite`), and the new base fits it (`RestsOn`). If the old base's index is
+-- in range, so is the new one's. The voter does change.
 pub record IsChangeOf (v : State) (q : Request) (c : Change) : Type 0 where
   pub state : c.state ≡ stored_state (next v q)
   pub next_is : next v q ≡ changed c (sent_of q) v

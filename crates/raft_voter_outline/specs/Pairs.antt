@@ -1,4 +1,4 @@
--- Outlines listed in pairs, each after its group.
+-- The voters of a list of outlines, each in a pair with its group's number.
 use Rattle.std.specs.Prelude.{ℕ, List, Option, None}
 use Rattle.std.specs.Map.{update_all}
 use Rattle.std.specs.Ordering.{eq_by_cmp, nat_cmp}

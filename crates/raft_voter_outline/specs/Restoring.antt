@@ -24,8 +24,8 @@ with_log s log = record {
   log = log;
 }
 
--- The voter with state `s` and entries `es`. The fault is `Range` if a number is out of range, and otherwise `Order`
--- if the entries don't follow the base one by one.
+-- The voter with state `s` and entries `es`. The fault is `Range` if the state or an entry is out of range. Otherwise
+-- it is `Order` if the entries don't follow the base one by one.
 abbrev pub restored : VoterState → List Entry → Result State StoredFault
 restored s es =
     if state_fits s && list_all stored_entry_fits es then
@@ -34,8 +34,8 @@ restored s es =
     else Err Order)
     else Err Range
 
--- `there` is what a state and entries restore to, and `fault` may be returned for it. It is the fault that `there` has,
--- or `Memory` if `there` is a voter.
+-- `there` is what a state and entries restore to: a voter or a fault. The call that restores them may return `fault`:
+-- `Memory` if `there` is a voter, otherwise the fault `there`.
 abbrev pub RestoreFault : StoredFault → Result State StoredFault → Type 0
 RestoreFault Memory there = IsOk there
 RestoreFault fault there = there ≡ Err fault

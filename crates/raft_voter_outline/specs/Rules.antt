@@ -33,7 +33,7 @@ grants v term candidate index last =
 abbrev pub agrees_at : State → ℕ → ℕ → Bool
 agrees_at v index term = option_map_or (λ t. t == term) (term_at v index) false
 
--- how many of the entries `sent` have the same terms as the entries `old`, up to the first that differs or is new
+-- how many entries at the front of `sent` have the same terms as those at the front of `old`
 abbrev pub matching : List (ℕ × List ℕ) → List (ℕ × List ℕ) → ℕ
 matching old sent = common_prefix_len (λ e s. e.0 == s.0) old sent
 
@@ -49,7 +49,7 @@ abbrev pub merged_log : State → ℕ → List (ℕ × List ℕ) → List (ℕ �
 merged_log v prev sent = take (prev - v.base_index) v.log ++ merged (drop (prev - v.base_index) v.log) sent
 
 -- Voter `v` after an Append of the entries `sent` after index `prev`. Its commit rises to `commit`, the leader's, but
--- at most to the last entry sent. It never falls.
+-- at most to the index of the last entry sent, or to `prev` if none was sent. It never falls.
 abbrev pub appended : State → ℕ → ℕ → List (ℕ × List ℕ) → State
 appended v prev commit sent =
     record v { log = merged_log v prev sent; commit = max v.commit (min commit (prev + length sent)) }

@@ -21,11 +21,11 @@ abbrev pub are_runs : ℕ → List Run → Bool
 are_runs base [] = nat_lt base (2 ^ 63)
 are_runs base (r ∷ rs) = nat_lt base r.last && are_runs r.last rs
 
--- the entry before, if there is one, has this term
+-- there is an entry before, and its term `before` is this one
 abbrev pub is_behind : Option ℕ → ℕ → Bool
 is_behind before term = option_map_or (λ t. t == term) before false
 
--- no run has the same term as the run before it, and the first hasn't the term `before` of the entry before it
+-- no run has the term of the run before it, and the first one's term isn't `before`, that of the entry before it
 abbrev pub are_apart : Option ℕ → List Run → Bool
 are_apart before [] = true
 are_apart before (r ∷ rs) = not (is_behind before r.term) && are_apart (Some r.term) rs

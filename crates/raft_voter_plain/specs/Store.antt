@@ -34,8 +34,8 @@ pub record StandsBehind (bytes : List ℕ) (cut : CutRound) : Type 0 where
   pub alone : (X : World) → StandsFor bytes X → X ≡ world
   pub follows : MayFollow cut world
 
--- the synced bytes of this file store voters that are possible after the cut-off round `cut`, and all its bytes
--- together also do
+-- the synced bytes of this file store voters that are possible after the cut-off round `cut`, and so do all its bytes,
+-- synced or not
 pub record FileStandsBehind (file : PlainContent) (cut : CutRound) : Type 0 where
   pub synced : StandsBehind file.synced cut
   pub read : StandsBehind (whole file) cut
@@ -46,9 +46,9 @@ abbrev pub refused_by : Bool → List (ℕ × Request) → List ℕ
 refused_by false requests = out_of_range 0 requests
 refused_by true requests = []
 
--- The plain store as a service. A close or a crash leaves voters that its file stores. It refuses exactly the requests
--- out of range, or none if it has failed by the end of the round. A file system call counts as failed between two
--- states if only the second of them has failed.
+-- The plain store as a service. A close or a crash leaves voters that its file stores. The store refuses exactly the
+-- requests out of range, or none if it has failed by the end of the round. A file system call failed between two states
+-- if the store had failed in the second one, but not in the first.
 abbrev pub plain_voters : Service PlainVoters
 plain_voters = record {
   serves = ServesVoters;
@@ -103,8 +103,9 @@ abbrev pub replies_in_turn : World → List (ℕ × Request) → List Reply
 replies_in_turn W [] = []
 replies_in_turn W (q ∷ qs) = reply (W q.0) q.1 ∷ replies_in_turn (after_one W q) qs
 
--- These requests were all taken in memory, in order, and `told` are the replies. The synced bytes are the same. If all
--- voters were in range and no unsynced record changed them, the changes were written as records.
+-- These requests were all taken in memory, in order, and `told` are the replies. The synced bytes are the same. Suppose
+-- that before the requests all voters were in range, and the unsynced records changed no voter. Then the unsynced
+-- records now lead from the voters before the requests to those after.
 pub record TakesAll (old : PlainVoters) (asked : List (ℕ × Request)) (told : List Reply) (new : PlainVoters)
     : Type 0 where
   pub told_is : told ≡ replies_in_turn (world_of old) asked
@@ -124,9 +125,9 @@ pub record WroteSome (W : World) (asked : List (ℕ × Request)) (unsynced : Lis
   pub taken : Stopped W asked world
   pub written : LeadTo W unsynced world
 
--- These requests get no replies. A prefix was taken in memory. The changes of a prefix were written as records, if all
--- voters were in range and no unsynced record changed them before. The two prefixes may differ. The synced bytes are
--- the same.
+-- These requests get no replies. A prefix of them was taken in memory. The synced bytes are the same. Suppose that
+-- before the requests all voters were in range, and the unsynced records changed no voter. Then the changes of a prefix
+-- of the requests were written as records. The two prefixes may differ.
 pub record AnswersNone (old : PlainVoters) (asked : List (ℕ × Request)) (new : PlainVoters) : Type 0 where
   pub taken : Stopped (world_of old) asked (world_of new)
   pub synced : new.file.synced ≡ old.file.synced

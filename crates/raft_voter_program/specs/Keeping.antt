@@ -34,8 +34,8 @@ abbrev pub IsToldOrUnkept : Option LogFiles → ℕ → ℕ → Type 0
 IsToldOrUnkept None told status = status ≡ told
 IsToldOrUnkept (Some files) told status = (status ≡ told) ⊎ (status ≡ 3)
 
--- the session ended; if it left files to keep, the status is that of the session, or 3, which says that keeping them
--- failed
+-- the session ended, and `status` is that of the session; if it left files to keep, `status` may be 3 instead, which
+-- says that keeping them failed
 abbrev pub EndsKept :
     (Option LogFiles → SessionContent → List ℕ → ℕ → Type 0)
     → List ℕ → Option (List ℕ) → Option (List ℕ) → ℕ → Type 0

@@ -31,9 +31,9 @@ pub record IsJudged (rounds : List Round) (cuts text : List ℕ) (status : ℕ) 
 abbrev pub SaysYes : {F : Type 0} → WorldReport F → List ℕ → ℕ → Type 0
 SaysYes report text status = (text ≡ transcript_text report.transcript.rounds report.cuts true) × (status ≡ 0)
 
--- A run of exactly the events of the session, from files that its settings make, in which no voter is stored. Its
--- report is written as a transcript with a verdict. The verdict is yes if no open lost voters, and each store whose
--- voters were read served the voters of some world.
+-- A run of exactly the events of the session, from files that its settings make; in these, all voters are fresh. The
+-- run's report is written as a transcript with a verdict. The verdict is yes if no open lost voters, and each store
+-- whose voters were read served the voters of some world.
 pub record WritesRun {S F : Type 0} (v : Service S) (u : Upkeep S) (d : Disk S F) (s : Setup F) (session : SessionContent)
     (text : List ℕ) (status : ℕ) : Type 0 where
   pub files : F

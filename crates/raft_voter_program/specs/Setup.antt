@@ -14,7 +14,7 @@ use Rattle.raft_voter_program.specs.StoreSetup.{Setup}
 use Rattle.raft_voter_program.specs.declared.store_setup.NoFiles.{NoFiles}
 use Rattle.raft_voter_program.specs.declared.store_setup.NoFiles.TheVariants as none
 
--- the settings of a session that has none: the default ones, with the directory `raft`
+-- the settings for a session whose text has none: the default ones, with the directory `raft`
 abbrev pub usual_settings : Settings
 usual_settings = record default_settings { dir = codes "raft" }
 
@@ -33,7 +33,7 @@ abbrev pub IsUnset : Option (List ℕ) → NoFiles → Type 0
 IsUnset settings none.Settings = TellsNone settings
 IsUnset settings none.Memory = Unit {0}
 
--- the reason for this error: `Memory` if memory ran out, else `Settings`
+-- why no files are made, by the error: `Memory` if memory ran out, else `Settings`
 abbrev pub refusal_of : Error → NoFiles
 refusal_of errors.Memory = none.Memory
 refusal_of error = none.Settings

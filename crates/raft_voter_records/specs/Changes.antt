@@ -1,5 +1,5 @@
--- The batch that is written when a request changes a voter. It has new entries, or a command that deletes old ones,
--- and then the new state.
+-- The batch that is written when a request changes a voter. If the voter's log changes, the batch has the new entries,
+-- or a command that deletes old ones. Then comes the new state, unless the command deletes the whole group.
 use Rattle.std.specs.Prelude.{◌≡◌, ℕ, ◌+◌, ◌≤◌, codes, List, drop}
 use Rattle.raft_log_record_items.specs.declared.command.Command.TheVariants as commands
 use Rattle.raft_log_record_items.specs.Items.{put_item}
@@ -26,8 +26,8 @@ abbrev pub with_stored : Batch → ℕ → ℕ → List (ℕ × List ℕ) → Ba
 with_stored b group index entries =
     with_entries b group (indexes_at index (entry_texts index entries)) (entry_texts index entries)
 
--- The batch with the change of a group's log added, for a request that brought the entries `sent`. It adds those of the
--- entries that are new, a `Compact`, or a `Clean`. If only the state changes, it adds nothing.
+-- The batch with the change of a group's log added, for a request that brought the entries `sent`. Added are the new
+-- ones of these entries, a `Compact`, or a `Clean`. If only the state changes, nothing is added.
 abbrev pub with_write : Batch → ℕ → Write → List (ℕ × List ℕ) → Batch
 with_write b group StateAlone sent = b
 with_write b group (Entries skipped index) sent = with_stored b group index (drop skipped sent)

@@ -1,4 +1,5 @@
--- Laws that follow from the definitions. Each is the contract of an empty function.
+-- Laws of voters that are stored in a log: which contents represent them, what a request's record changes, and how a
+-- group is read. Each is the contract of an empty function.
 use Rattle.std.specs.Prelude.{◌≡◌, ◌↔◌, ℕ, [], ◌∷◌, List}
 use Rattle.raft_log_model_laws.specs.Meaning.{Slot}
 use Rattle.raft_log_model_laws.specs.Groups.{taken}

@@ -1,5 +1,5 @@
--- The record that is written when a request changes a voter. It has the voter's new entries, or the command that
--- deletes old ones, and then the new state.
+-- The record that is written when a request changes a voter. If the voter's log changes, the record has the new
+-- entries, or the command that deletes old ones. Then comes the new state, unless the command deletes the whole group.
 use Rattle.std.specs.Prelude.{ℕ, ◌+◌, ◌==◌, ◌&&◌, Bool, bytes_eq, if◌then◌else◌, List, [], ◌∷◌, ◌++◌, length, drop, map}
 use Rattle.std.specs.List.{common_prefix_len}
 use Rattle.raft_log_model_laws.specs.Item.{Item, Record, Tagged}
@@ -57,7 +57,7 @@ abbrev pub state_items : State → List Words
 state_items w = Put voter_key (state_text (stored_state w)) ∷ []
 
 -- The items that are written when voter `v` takes request `q`: those for its log, then its new state. If the request
--- retires the voter, it is only a `Clean`.
+-- retires the voter, there is only a `Clean`.
 abbrev pub change_items : State → Request → List Words
 change_items v q =
     if is_retire q then Clean ∷ [] else log_items v (next v q) ++ state_items (next v q)

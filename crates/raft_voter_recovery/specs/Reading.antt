@@ -16,7 +16,8 @@ use Rattle.raft_voter_durability_laws.specs.Requests.{WereUnread}
 use Rattle.raft_voter_recovery.specs.declared.unread.Unread.{Unread}
 use Rattle.raft_voter_recovery.specs.declared.unread.Unread.TheVariants as causes
 
--- Whatever the contents of engine `s`'s log are, `P` holds for them. This is claimed only if nothing is pending.
+-- `P` holds for the contents of engine `s`'s log, whatever its directories are. This is claimed only if nothing is
+-- pending.
 abbrev pub Tells : EngineState → (LogMap → Type 0) → Type 0
 Tells s P = (home : LogDirectories) (m : LogMap) → Represents home s m [] → P m
 
@@ -54,8 +55,8 @@ pub record ListsVoters (s : EngineState) (vs : List (ℕ × State)) : Type 0 whe
 
 -- Failures.
 
--- Why the engine failed a read with `error`: the engine has failed, it couldn't read the file of an entry, or memory
--- ran out for an entry.
+-- Why a read of the engine failed with `error`: the engine has failed; or an entry couldn't be read from its file; or
+-- memory ran out for an entry.
 abbrev pub IsRefused : Error → EngineState → Type 0
 IsRefused error s = IsFailed s error
     ⊎ ((g from to : ℕ) × ((home : LogDirectories) (m : LogMap) → Represents home s m [] → WereUnread g from to s error))

@@ -36,16 +36,16 @@ answered_each [] requests replies = []
 answered_each (n ∷ counts) requests replies =
     answered (take n requests) (take n replies) ∷ answered_each counts (drop n requests) (drop n replies)
 
--- the positions in the list that are in a round of `count` requests whose first one has position `start`; each is
--- counted anew from the round's first request
+-- of these positions, those in the round of `count` requests that begins at position `start`; they count anew from the
+-- round's first request
 abbrev pub places_within : ℕ → ℕ → List ℕ → List ℕ
 places_within start count [] = []
 places_within start count (p ∷ ps) =
     if nat_le start p && nat_lt p (start + count) then (p - start) ∷ places_within start count ps
     else places_within start count ps
 
--- The records of rounds that were cut off together: each has its own requests and refused positions. `refused` has the
--- refused positions of all, and the first of these requests has position `start`.
+-- The records of rounds that were cut off together: each has its own requests and refused positions. The first of these
+-- requests has position `start`, and `refused` has the refused positions of all rounds, counted alike.
 abbrev pub cut_each : ℕ → List ℕ → List (ℕ × Request) → List ℕ → List Round
 cut_each start [] requests refused = []
 cut_each start (n ∷ counts) requests refused =
@@ -68,9 +68,9 @@ cut_told place cause (n ∷ counts) = Err (faults.Cut place cause) ∷ cut_told 
 
 -- Steps.
 
--- The store `old` replied with `told` to the rounds, as one round, and is `new` afterwards. The callers get `replies`,
--- with `Refused` for Reads whose entries couldn't be copied. The records were appended to the journal `rounds`, and
--- each caller gets the answer to its own round.
+-- The store `old` replied with `told` to the rounds, as one round, and is `new` afterwards. The callers get `replies`:
+-- those in `told`, but `Refused` for Reads whose entries couldn't be copied. `AnswersRound` holds for `replies`. The
+-- records were appended to the journal `rounds`, and each caller gets the answer to its own round.
 pub record NotesAnswered {S : Type 0} (v : Service S) (counts : List ℕ) (requests : List (ℕ × Request))
     (old : S) (rounds : List Round) (new : S) (rounds' : List Round) (answers : List (Result Told SharedFault))
     : Type 0 where
@@ -136,7 +136,7 @@ may_tell (Err (faults.Cut place cause)) count = may_cut cause count
 may_tell (Err faults.Memory) count = true
 
 -- A round of `count` requests may be served together with `rounds` other rounds, which have `requests` requests in all.
--- It may if there are no others, or if all together have at most 4,096. A round that is too long thus goes to the store
--- alone.
+-- It may if there are no others, or if all together have at most 4,096 requests. So a round that is too long goes to
+-- the store alone.
 abbrev pub may_join : ℕ → ℕ → ℕ → Bool
 may_join rounds requests count = (rounds == 0) || nat_le (requests + count) 4096

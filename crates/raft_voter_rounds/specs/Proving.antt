@@ -24,8 +24,8 @@ record_of r = answered r.requests r.replies
 abbrev pub IsAt : List Round → Statement → Type 0
 IsAt history r = slice_get history r.place ≡ Some (record_of r)
 
--- There is a history of a store's rounds, which is legal for the voters that the store served when it was shared. It
--- has the record of each of these receipts at its place.
+-- There is a history of a store's rounds. It is legal for the voters that the store served when it was shared: those of
+-- each world with `served`. It has the record of each of these receipts at the receipt's place.
 pub record AreInHistory (served : World → Type 0) (receipts : List Statement) : Type 0 where
   pub history : List Round
   pub legal : (W : World) → served W → IsLegal W history
@@ -37,7 +37,7 @@ ReceiptsAgree =
     (history : List Round) (r s : Statement) → IsAt history r → IsAt history s → r.place ≡ s.place
     → (r.requests ≡ s.requests) × (r.replies ≡ s.replies)
 
--- If the history is legal, a receipt's replies are those of the voters after the rounds before it.
+-- If the history is legal, a receipt's replies are those that the voters give after all earlier rounds of the history.
 abbrev pub RepliesAreVoters : Type 0
 RepliesAreVoters =
     (W : World) (history : List Round) (r : Statement) → IsLegal W history → IsAt history r

@@ -24,7 +24,7 @@ first_at text = do
     bytes ← number_at pieces.1
     ends bytes.1 (First pieces.0 bytes.0)) else None
 
--- what a crash leaves of the unsynced changes: `last` for none, `all`, or `first P B`
+-- what a crash leaves of the unsynced changes: nothing (`last`), everything (`all`), or `first P B`
 unfoldable pub left_at : List ℕ → Option Left
 left_at text =
     if bytes_eq text (codes " last") then Some Last

@@ -88,7 +88,7 @@ after_line line so_far =
 
 -- Sessions.
 
--- the session after the last line; if something is still open, the number of the missing line
+-- the session after the last line; if the settings or a round are still open, `number`, that of the missing line
 abbrev pub at_end : ℕ → SessionContent → Part → Result SessionContent ℕ
 at_end number told nothing = Ok told
 at_end number told part = Err number
@@ -119,7 +119,7 @@ read_from (piece ∷ pieces) number whole so_far =
     else or_unreadable number (after_line piece so_far) (read_from pieces (number + 1) whole)
 
 -- The session that a text encodes, or the number of its first unreadable line, counted from 1. If the text has more
--- than 268,435,456 bytes, the line with the first byte past them is unreadable.
+-- than 268,435,456 bytes, the line with the first byte past this limit is unreadable.
 unfoldable pub session_of : List ℕ → Result SessionContent ℕ
 session_of input =
     read_from (slice_split is_line_feed (take 268435456 input)) 1 (nat_le (length input) 268435456)

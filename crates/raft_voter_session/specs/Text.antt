@@ -1,5 +1,5 @@
--- The text of a transcript: its rounds with their replies, the cuts, and the judge's verdict: whether voters that never
--- crash give these replies with these cuts.
+-- The text of a transcript: its rounds with their replies, the cuts, and the judge's verdict. The verdict says whether
+-- voters that never crash give these replies with these cuts.
 use Rattle.std.specs.Prelude.{◌≡◌, ℕ, ◌+◌, Bool, true, false, List, [], ◌∷◌, ◌++◌, codes, string_bytes, String}
 use Rattle.std.specs.declared.alloc.Global.{Global}
 use Rattle.std.specs.Fmt.{decimal}

@@ -64,7 +64,7 @@ number_at text = do
   n ← number_of word.0
   Some (n, word.1)
 
--- these pieces without the first; `None` if there is none or the first isn't empty
+-- these pieces without the first; `None` if there are no pieces, or the first isn't empty
 abbrev pub behind_space : List (List ℕ) → Option (List (List ℕ))
 behind_space [] = None
 behind_space (piece ∷ pieces) = ends piece pieces

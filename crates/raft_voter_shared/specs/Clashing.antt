@@ -1,6 +1,6 @@
--- A quick test that no receipts contradict each other. A receipt's turn is the number of records that its seat had
--- before. For each place of a kept record, the test notes the seat and the turn of the receipt with this place. The
--- turns of each seat must not fall from one place to a later one.
+-- A quick test that no receipts contradict each other. A seat is a thread's access to the shared store. A receipt's
+-- turn is the number of records that its seat had before. For each place of a kept record, the test notes the seat and
+-- the turn of the receipt with this place. The turns of each seat must not fall from one place to a later one.
 use Rattle.std.specs.Prelude.{◌≡◌, ◌≢◌, ℕ, ◌-◌, ◌<◌, ◌≤◌, false, List, slice_get, Option, Some}
 use Rattle.raft_voter_rounds.specs.declared.receipt.Statement.{Statement}
 use Rattle.raft_voter_shared.specs.Receipts.{clashes}

@@ -1,4 +1,6 @@
--- A store that is opened several times. Each time it is shared by threads, settled and closed, and has a journal.
+-- A store that is opened several times. Each time, threads share the store, its journal has their rounds, and it is
+-- settled and closed. A store leaves a cut-off round if an open, after a close or a crash, finds only voters that are
+-- possible after that round.
 use Rattle.std.specs.Prelude.{◌≡◌, ℕ, ◌-◌, ◌≤◌, true, List, [], ◌∷◌, ◌++◌, length, min, take, drop, Option, Some}
 use Rattle.std.specs.List.{flat_map}
 use Rattle.raft_voter_messages.specs.declared.round.Outcome.{Outcome}
@@ -50,8 +52,8 @@ pub record Session : Type 0 where
   pub place : ℕ
 
 -- These openings lead from world `W` to world `X`. Each journal is legal, starting with the voters that the opening
--- before left. An opening leaves the voters after its journal. Of the rounds in which it failed, they took the requests
--- below its `place`.
+-- before left, and its failure fits it (`is_last`). An opening leaves the voters after its journal. Of the rounds in
+-- which it failed, they took the requests below its `place`, except the refused ones.
 abbrev pub Openings : World → List Session → World → Type 0
 Openings W [] X = W ≡ X
 Openings W (s ∷ ss) X =
@@ -76,9 +78,9 @@ OpeningsLead = (W X : World) (ss : List Session) → Openings W ss X → Leads W
 abbrev pub OpeningsAreExplained : Type 0
 OpeningsAreExplained = (X : World) (ss : List Session) → Openings fresh_world ss X → Explains (all_rounds ss) (all_cuts ss)
 
--- The store `old` was closed, and left `files`; a crash made of these the files `left`, and a store `new` was opened
--- over them. Suppose there is no CRC collision in `left`, neither as an image of `files` nor of `left` itself. Then
--- `new` serves voters that are possible after each cut-off round that `old` left.
+-- The store `old` was closed, and left `files`. A crash made `left` of them, and the store `new` was opened from
+-- `left`. Suppose there is no CRC collision in `left`, neither as an image of `files` nor of `left` itself. Then `new`
+-- serves voters that are possible after each cut-off round that `old` left.
 abbrev pub OpeningsGoOn : {S F : Type 0} → Service S → Files S F → Type 0
 OpeningsGoOn {S} {F} v f =
     (old new : S) (files left : F) (cut : CutRound) → ∥ v.leaves old cut ∥₁ → LeavesInFiles v f old files

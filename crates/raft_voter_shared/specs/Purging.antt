@@ -1,4 +1,5 @@
--- What a purge of a shared store's files does to its voters.
+-- What a purge of a shared store's files does to its voters. A store leaves a cut-off round if an open, after a close
+-- or a crash, finds only voters that are possible after that round.
 use Rattle.std.specs.Prelude.{◌≡◌, Bool, true, false, List, Option, Some}
 use Rattle.raft_voter_messages.specs.declared.round.Round.{Round}
 use Rattle.raft_voter.specs.Rounds.{World}
@@ -15,10 +16,10 @@ pub record KeepsServed {S : Type 0} (v : Service S) (old new : S) : Type 0 where
   pub fails : (W : World) → IsOpenAt v old W → v.is_failed new ≡ true → v.fails old new
   pub left : (cut : CutRound) → v.leaves old cut → v.leaves new cut
 
--- A shared store was purged. It served voters of `served` when it was shared.
+-- A shared store was purged. When it was shared, it served the voters of each world with `served`.
 -- - `does`: the purge changed the store `old` into `new`, as `Does` says. `keeps`: no voter changed.
 -- - `history`: the records of its rounds before the purge. `legal`: they are a legal history.
--- - `serves`: unless it had failed before, it served the voters after the history.
+-- - `serves`: unless the store had failed before the purge, it served the voters after the history.
 pub record IsPurge {S : Type 0} (v : Service S) (served : World → Type 0) (Does : S → S → Type 0) : Type 0 where
   pub old : S
   pub new : S

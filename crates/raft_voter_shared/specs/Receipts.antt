@@ -1,6 +1,6 @@
--- A receipt is what a thread gets for a round: the round's position in the journal, its requests and its replies. It
--- also has the seat, and the seat's turn: how many records the seat had before. The definitions say which receipts are
--- right for a journal of which the records from place `first` on are kept.
+-- A receipt is what a thread gets for a round: the round's place in the journal, its requests and its replies. It also
+-- has the thread's seat, which is its access to the store, and the seat's turn: how many records the seat had before.
+-- A receipt is right or wrong for a journal that keeps its records from place `first` on.
 use Rattle.std.specs.Prelude.{◌≡◌, ℕ, ◌-◌, ◌<◌, ◌≤◌, ◌==◌, ◌&&◌, ◌||◌, nat_le, nat_lt, not, Bool, false, List, length, slice_get, Option, None, Some}
 use Rattle.std.specs.List.{enumerate_from, list_any}
 use Rattle.raft_voter_messages.specs.declared.round.Outcome.TheVariants.{Answered}

@@ -32,8 +32,9 @@ cut_together W rounds = record { before = W; requests = requests_of rounds; refu
 abbrev pub between : ℕ → ℕ → List Round → List Round
 between first end rounds = take (end - first) (drop first rounds)
 
--- What a store with this journal leaves. If it failed in rounds that it served together, they were cut off as one round.
--- Otherwise its voters are those after all records.
+-- What is possible once a store with this journal is closed or crashes, as a cut-off round. If the store failed in
+-- rounds that it served together, these count as one round that was cut off. Otherwise only the voters after all
+-- records are possible.
 abbrev pub standing : World → List Round → Option Failure → CutRound
 standing W rounds (Some (InRounds first end)) = cut_together (reached W (take first rounds)) (between first end rounds)
 standing W rounds failure = uncut (reached W rounds)

@@ -76,8 +76,9 @@ pub record ComesNext {F : Type 0} (disk : F → Disk) (shows : LogStore F → En
   pub sound : IsSound (disk next.found)
   pub reads : ReadsClosed disk shows x next ⊎ ReadsLeft disk shows x next
 
--- What follows the opening `x`. The next opening opens what `x` left, and finds voters up to the cut of `x`. If there
--- is no next opening, the cut may be any position.
+-- What follows the opening `x`. The next opening opens what `x` left. It finds the voters after the records of `x` with
+-- replies. If the store of `x` failed in rounds, these voters also took the requests of these rounds before a position
+-- (`ShowsPlace`). If there is no next opening, that position may be any (`HasPlace`).
 abbrev pub IsFollowedInLog : {F : Type 0} → (F → Disk) → (LogStore F → EngineState) → LogSharing F → List (LogSharing F) → Type 0
 IsFollowedInLog disk shows x [] = HasPlace (log_service shows) x.shared
 IsFollowedInLog disk shows x (y ∷ ys) = ComesNext disk shows x y × ShowsPlace (log_service shows) x.shared y.shared.opened
@@ -124,8 +125,9 @@ ClosedImagesMean home d cut = (left : IsLeftAmong home d (MayFollow cut))
     × ((image : Disk) → IsCrashOf home left.left.1.lies.state d image → RestsMeaning home image (MayFollow cut))
 
 -- A store was settled. Take a crash image of its disk, from before or after its close, without a CRC collision. The
--- image has the voters that the store served when it was opened, after all records with replies. If the store failed in
--- rounds that it served together, the voters also took the requests of these rounds before some position.
+-- image has the voters after all records with replies, starting with the voters that the store served when it was
+-- opened. If the store failed in rounds that it served together, the voters also took the requests of these rounds
+-- before some position.
 abbrev pub SettledStoresMean : {F : Type 0} → (LogStore F → EngineState) → Type 0
 SettledStoresMean {F} shows = (x : Sharing (LogStore F)) (W : World) → Settles (log_service shows) x
     → IsOpenAt (log_service shows) x.opened W

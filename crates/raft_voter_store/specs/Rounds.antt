@@ -15,9 +15,9 @@ use Rattle.raft_voter_durability_laws.specs.Standing.{AreOutlines, Keeps}
 use Rattle.raft_voter_durability_laws.specs.Requests.{Broke, TurnedDown}
 use Rattle.raft_voter_durability_laws.specs.Ends.{Answered, GaveUp, Unsynced, Went}
 
--- The first requests of the round `qs` got the replies `told`, and the next request `q` was rejected with an error. The
+-- The first requests of the round `qs` got the replies `told`, and then request `q` was rejected with an error. The
 -- round began in the state `s`, with the outlines `os`. It ended in `t`, whose disk is no earlier than that after `q`.
--- So a file call that failed at `q` is counted there too.
+-- So if a file call failed at `q`, one failed between `s` and `t`.
 pub record TurnsDown (qs : List (ℕ × Request)) (told : List Reply) (q : ℕ × Request) (s t : EngineState) (os : ℕ → State)
     : Type 0 where
   pub wrote : Bool
@@ -42,8 +42,8 @@ pub record Passes (qs : List (ℕ × Request)) (told : List Reply) (wrote : Bool
   pub went : Went qs told wrote s t os us
   pub excused : AreExcused qs told s t os
 
--- The first requests of the round `qs` got the replies `told`, each `Refused` for a reason. The engine failed at the
--- next request.
+-- The first requests of the round `qs` got the replies `told`, and each reply `Refused` has a reason. The engine failed
+-- at the next request.
 pub record StopsAt (qs : List (ℕ × Request)) (told : List Reply) (s t : EngineState) (os : ℕ → State) : Type 0 where
   pub wrote : Bool
   pub mid : EngineState
@@ -53,14 +53,14 @@ pub record StopsAt (qs : List (ℕ × Request)) (told : List Reply) (s t : Engin
   pub at : slice_get qs (length told) ≡ Some request
   pub broke : Broke request mid t outlines
 
--- If the log of `s` stored voters with the outlines `os`, the round `qs` got the replies `told`. It ended in the state
--- `t`, with the outlines `us`.
+-- The round `qs` got the replies `told`, and ended in the state `t` with the outlines `us`, as `Answered` says. This is
+-- claimed only if the log of `s` stored voters with the outlines `os`.
 abbrev pub RoundIsAnswered : List (ℕ × Request) → List Reply → EngineState → EngineState → (ℕ → State) → (ℕ → State) → Type 0
 RoundIsAnswered qs told s t os us =
     (home : LogDirectories) (V : World) → Keeps home s V → AreOutlines os V → Answered home V qs told s t us
 
--- The round was cut off. If the log of `s` stored voters with the outlines `os`, the engine failed at a request, or the
--- sync at the end failed. `refused` are the positions of the replies `Refused`, and each has a reason.
+-- The round was cut off. If the log of `s` stored voters with the outlines `os`, then the engine failed at a request,
+-- or the sync at the end failed. `refused` are the positions of the replies `Refused`, and each has a reason.
 pub record CutsRoundOff (qs : List (ℕ × Request)) (refused : List ℕ) (s t : EngineState) (os : ℕ → State) : Type 0 where
   pub told : List Reply
   pub few : length told ≤ length qs

@@ -16,8 +16,8 @@ use Rattle.raft_voter_store.specs.Rounds.{AreExcused}
 abbrev pub ServesVoters : EngineState → (ℕ → State) → World → Type 0
 ServesVoters s os W = (home : LogDirectories) × Keeps home s W × AreOutlines os W
 
--- The engine's files can be opened, in some directories. However many of the first pending batches a crash keeps, the
--- log then stores voters that are possible after the round `cut`.
+-- The engine's files can be opened, in some directories. Whichever prefix of the pending batches a crash keeps, the log
+-- then stores voters that are possible after the round `cut`.
 abbrev pub LeavesBehind : EngineState → CutRound → Type 0
 LeavesBehind s cut = (home : LogDirectories) × IsLeftAmong home s.pipes.disk (MayFollow cut)
 

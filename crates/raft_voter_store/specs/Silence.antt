@@ -14,12 +14,12 @@ use Rattle.raft_voter_durability_laws.specs.Standing.{AreOutlines}
 abbrev pub LeavesVoter : World → ℕ × Request → Type 0
 LeavesVoter V q = next (V q.0) q.1 ≡ V q.0
 
--- if there are voters with the outlines `os`, and the request `q` leaves that of its group unchanged, `P` holds
+-- `P` holds, if there are voters with the outlines `os`, and the request `q` leaves the voter of its group unchanged
 abbrev pub IfVoterStays : (ℕ → State) → ℕ × Request → Type 0 → Type 0
 IfVoterStays os q P = (V : World) → AreOutlines os V → LeavesVoter V q → P
 
--- if there are voters with the outlines `os`, and each request of the round `qs` leaves that of its group unchanged,
--- `P` holds
+-- `P` holds, if there are voters with the outlines `os`, and each request of the round `qs` leaves the voter of its
+-- group unchanged
 abbrev pub IfVotersStay : (ℕ → State) → List (ℕ × Request) → Type 0 → Type 0
 IfVotersStay os qs P = (V : World) → AreOutlines os V → All (LeavesVoter V) qs → P
 

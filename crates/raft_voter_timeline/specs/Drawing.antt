@@ -14,9 +14,8 @@ use Rattle.raft_voter_timeline.specs.Marks.{all_marks, event_mark, marks_of}
 use Rattle.raft_voter_timeline.specs.Picture.{ShowsLines}
 use Rattle.raft_voter_timeline.specs.Writes.{AreWrites}
 
--- The picture shows lines with exactly the marks `events`. But each round's mark is replaced by the marks of the next
--- of `rounds`, with its cut. `writes` says which rounds changed a voter if all voters were fresh before the first
--- round.
+-- The picture's lines have the marks `events`, in which each round's mark is replaced by the marks of the next of
+-- `rounds`, with its cut. `writes` says which rounds changed a voter if all voters were fresh before the first round.
 pub record DrawsRounds (events : List Mark) (rounds : List Round) (cuts picture : List ℕ) : Type 0 where
   pub lines : List Line
   pub writes : List Bool

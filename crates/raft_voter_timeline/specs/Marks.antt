@@ -47,7 +47,7 @@ event_mark event = marks.Event
 abbrev pub fate : List ℕ → Mark → ℕ → Mark
 fate refused mark place = if list_any (λ other. other == place) refused then marks.Refused else mark
 
--- the marks of these requests, whose positions in the round count from `place`
+-- the marks of these requests (`fate`), whose positions in the round count from `place`
 abbrev pub fates : List ℕ → Mark → ℕ → List (ℕ × Request) → List Mark
 fates refused mark place [] = []
 fates refused mark place (q ∷ qs) = fate refused mark place ∷ fates refused mark (place + 1) qs

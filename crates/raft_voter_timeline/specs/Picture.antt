@@ -1,4 +1,4 @@
--- The picture as SVG: a head, then a group for each line.
+-- The picture as SVG: a head, then an SVG group (`<g>`) for each line.
 use Rattle.std.specs.Prelude.{◌≡◌, ℕ, ◌+◌, ◌*◌, List, [], ◌∷◌, ◌++◌, chars, codes, flat_map, string_bytes}
 use Rattle.std.specs.Fmt.{decimal}
 use Rattle.raft_voter_timeline.specs.declared.line.Line.{Line}
@@ -10,7 +10,7 @@ use Rattle.raft_voter_timeline.specs.Marks.{mark_name}
 abbrev pub top_of : ℕ → ℕ
 top_of number = 122 + 22 * number
 
--- the beginning of a line's group, with the name of its mark
+-- the beginning of a line's SVG group, with the name of the line's mark
 unfoldable pub class_text : Mark → List ℕ
 class_text mark = codes "<g class='" ++ mark_name mark
 
@@ -30,7 +30,7 @@ happened_text words = codes "'/><text x='84'>" ++ flat_map escaped (chars words)
 unfoldable pub outcome_text : List ℕ → List ℕ
 outcome_text words = codes "</text><text x='600'>" ++ flat_map escaped (chars words)
 
--- the end of a line's group
+-- the end of a line's SVG group
 unfoldable pub end_text : List ℕ
 end_text = codes "</text></g>\n"
 

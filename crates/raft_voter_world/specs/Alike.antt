@@ -1,4 +1,4 @@
--- Two stores that get the same rounds give the same replies.
+-- Two stores give the same replies to the same rounds, if they serve the same voters and refuse the same positions.
 use Rattle.std.specs.Prelude.{◌≡◌, ℕ, List, [], ◌∷◌, map}
 use Rattle.raft_voter_messages.specs.declared.reply.Reply.{Reply}
 use Rattle.raft_voter_messages.specs.declared.request.Request.{Request}

@@ -47,8 +47,8 @@ EachRoundHasItsCause {S} {F} v u d = (files : F) (events : List Event) (report :
     → All (HasItsCause v (IsOfRun v u d files events report run)) report.transcript.rounds
 
 -- A purge of the storage `at` left the storage `now`. The open store `old` was purged, and is `new` afterwards. The
--- purge succeeded and did its work, or failed for the cause `refusal`, which it may have. `new` serves the voters of
--- `old`, unless it has failed.
+-- purge succeeded and did its work, or failed for the cause `refusal`, as its contract allows. `new` serves the voters
+-- of `old`, unless `new` has failed.
 pub record WasPurged {S F : Type 0} (v : Service S) (u : Upkeep S) (purge : Purge) (refusal : Option Cause)
     (at now : Storage S F) : Type 0 where
   pub old : S
@@ -58,16 +58,16 @@ pub record WasPurged {S F : Type 0} (v : Service S) (u : Upkeep S) (purge : Purg
   pub ends : EndsPurge v u purge refusal old new
   pub keeps : KeepsVoters v old new
 
--- Each purge of a run happened to an open store, and did what its contract allows. It kept the voters, unless the
--- store has failed.
+-- Each purge of a run happened to an open store, and did what its contract allows. It kept the voters, unless the store
+-- has failed after it.
 abbrev pub EachPurgeHasItsCause : {S F : Type 0} → Service S → Upkeep S → Disk S F → Type 0
 EachPurgeHasItsCause {S} {F} v u d = (files : F) (events : List Event) (report : WorldReport F)
     → (run : IsRun v u d files events report)
     → (purge : Purge) (refusal : Option Cause) (at now : Storage S F)
     → IsOfRun v u d files events report run (kept (purges purge refusal) now) at → WasPurged v u purge refusal at now
 
--- Suppose each store that was opened in a run served the voters of some world. Then each store to which something
--- happened had failed, or served the voters of some world.
+-- Suppose that whenever an open of a run read the voters, the store served those of some world. Then a store that is
+-- open right before a moment of the run has failed, or serves the voters of some world.
 abbrev pub StoresOfRunsServe : {S F : Type 0} → Service S → Upkeep S → Disk S F → Type 0
 StoresOfRunsServe {S} {F} v u d = (files : F) (events : List Event) (report : WorldReport F)
     → (run : IsRun v u d files events report) → ServeSome v (moments_of run.turns)

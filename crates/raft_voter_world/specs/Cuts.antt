@@ -1,5 +1,5 @@
--- The cut of a round without replies: the position in the round up to which its requests were taken. The next open
--- shows voters, and they fit the round at a position if taking the requests before it leads to them.
+-- The cut of a round without replies: its requests before this position were taken. The next open shows voters. They
+-- fit the round at a position if the round's requests before that position lead to these voters.
 use Rattle.std.specs.Prelude.{ℕ, ◌+◌, List, [], ◌∷◌, ◌++◌, length, None, unwrap_or}
 use Rattle.raft_voter_messages.specs.declared.round.Round.{Round}
 use Rattle.raft_voter.specs.Rounds.{World, after, taken_below}
@@ -23,26 +23,26 @@ abbrev pub place_for : Cause → ℕ → ℕ
 place_for FileSystem place = place
 place_for cause place = 0
 
--- the cuts of the rounds without replies in these moments; `last` is the cut for `FileSystem` if no open read the
--- voters afterwards
+-- the cuts of the rounds without replies in these moments; `last` is the cut of a round that `FileSystem` cut off, if
+-- no later open read the voters
 abbrev pub cuts_in : {S F : Type 0} → ℕ → List (Moment S F) → List ℕ
 cuts_in last [] = []
 cuts_in last (cut_off round cause now ∷ ms) = place_for cause (next_place last ms) ∷ cuts_in last ms
 cuts_in last (idle round files ∷ ms) = 0 ∷ cuts_in last ms
 cuts_in last (m ∷ ms) = cuts_in last ms
 
--- The last round that may be taken in part, after `round` was cut off for this cause. `cut` was the last one before.
--- For `FileSystem`, it is now `round`. Otherwise nothing of `round` was taken, and it still is `cut`.
+-- The last round that may have been taken in part, once `round` was cut off for this cause. It is `round` if the cause
+-- is `FileSystem`. Otherwise nothing of `round` was taken, and it is `cut`, as before.
 abbrev pub cut_by : Cause → CutRound → Round → CutRound
 cut_by FileSystem cut round =
     record { before = cut.before; requests = round.requests; refused = round.refused }
 cut_by cause cut round = cut
 
--- no round is cut off, and the voters are those after `round`, which got replies
+-- no round is cut off now: only the voters after `round`, which got replies, are possible
 abbrev pub cut_after : CutRound → Round → CutRound
 cut_after cut round = uncut (after cut.before (taken_below round (length round.requests)))
 
--- For each open that shows voters, `place` is the first position in the last cut-off round at which they fit. It is
+-- For each open that shows voters, its `place` is the first position at which they fit the last cut-off round. It is
 -- `None` if they fit at no position. `cut` is the last cut-off round before these moments.
 abbrev pub AreLeast : {S F : Type 0} → CutRound → List (Moment S F) → Type 0
 AreLeast cut [] = Unit {0}

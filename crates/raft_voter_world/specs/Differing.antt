@@ -4,7 +4,7 @@ use Rattle.std.specs.BTreeSet.{BTreeSet, contains}
 use Rattle.std.specs.Ordering.{nat_cmp}
 use Rattle.raft_voter.specs.Rounds.{World}
 
--- group `g` is in the set if its voters in worlds `W` and `X` differ, and isn't in it if they are equal
+-- if group `g` is in the set `differing`, its voters in worlds `W` and `X` differ; if it isn't, they are equal
 pub record Marks (W X : World) (differing : BTreeSet ℕ) (g : ℕ) : Type 0 where
   pub differ : contains nat_cmp differing g ≡ true → W g ≢ X g
   pub same : contains nat_cmp differing g ≡ false → W g ≡ X g

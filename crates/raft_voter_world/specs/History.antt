@@ -35,8 +35,8 @@ pub data Change : Type 0 where
   copies : List ℕ → Change
 
 -- One thing that happens, with the store or the files after it:
--- - `opened`: a store was opened by this many workers, and its voters were read. Taking the requests of the last
---   cut-off round before this position leads to them; if it is `None`, no position does.
+-- - `opened`: a store was opened by this many workers, and its voters were read. They fit the last cut-off round at
+--   this position: the round's requests before it lead to them. If it is `None`, they fit at no position.
 -- - `unread`: a store was opened, but its voters couldn't be read. It was closed again, which left these files.
 -- - `fell`: a store was opened, but the disk stopped during the open. A crash left these files.
 -- - `unopened`: an open failed for a cause, and returned these files.
@@ -90,8 +90,8 @@ rounds_in ms = flat_map rounds_of ms
 abbrev pub IsIdle : Round → Type 0
 IsIdle round = (round.outcome ≡ Cut) × (round.refused ≡ [])
 
--- Store `old` replied to this round, and is `new` afterwards. The refused positions are those whose reply is
--- `Refused`, and the store may refuse them. The round has at most 4,096 requests, and the store hasn't failed.
+-- Store `old` replied to this round, and is `new` afterwards. The refused positions are those whose reply is `Refused`,
+-- and the store may refuse them. The round has at most 4,096 requests. The store had not failed before, and hasn't now.
 pub record IsAnswered {S : Type 0} (v : Service S) (old : S) (round : Round) (new : S) : Type 0 where
   pub replies : List Reply
   pub told : round.outcome ≡ Answered replies
@@ -241,9 +241,10 @@ abbrev pub Opens :
 Opens u d workers gone files ms =
     Either (d.has_stopped files) (Falls u d gone (Closed files) ms) (One u d gone (IsOpening u workers gone) ms)
 
--- This event makes the moments `ms` in this storage. An event that doesn't fit the storage, such as a purge if no store
--- is open, does nothing. If the disk stops in a moment, a crash follows at once. `gone` is what that crash leaves of
--- the unsynced changes, as the last event that armed a stop asks.
+-- This event makes the moments `ms` in this storage. An Open first closes a store that is open. An event that doesn't
+-- fit the storage, such as a purge if no store is open, does nothing; nor does a fault at call 0. If the disk stops in
+-- a moment, a crash follows at once. `gone` is what that crash leaves of the unsynced changes, as the last event that
+-- armed a stop asks.
 abbrev pub Turns :
     {S F : Type 0} → Upkeep S → Disk S F → Left → Storage S F → Event → List (Moment S F) → Type 0
 Turns u d gone storage (RoundEvent requests) ms = One u d gone (IsRoundOf requests) ms

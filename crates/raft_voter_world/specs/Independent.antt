@@ -77,7 +77,7 @@ pub record IsWhole (round : Round) : Type 0 where
   pub answered : round.outcome ≡ Answered replies
   pub refused : round.refused ≡ out_of_range 0 round.requests
 
--- each of these rounds got replies, and refused exactly its requests out of range
+-- each of these rounds got replies, and exactly its requests out of range were refused
 abbrev pub AreWhole : List Round → Type 0
 AreWhole [] = Unit {0}
 AreWhole (round ∷ rounds) = IsWhole round × AreWhole rounds
@@ -95,14 +95,15 @@ requests_in rounds = map (λ round. round.requests) rounds
 abbrev pub replies_in : List Round → List (List Reply)
 replies_in rounds = map (λ round. handed_out round.outcome) rounds
 
--- Suppose voters that never fail lead from world `W` to `X` by rounds with replies that refused exactly the requests
--- out of range. Then each group got the replies of a voter of its own.
+-- Suppose rounds lead from world `W` to `X` (`Leads`), each got replies, and exactly the requests out of range were
+-- refused. Then each group got the replies of a voter of its own.
 abbrev pub WholeRoundsAreIndependent : Type 0
 WholeRoundsAreIndependent = (W X : World) (rounds : List Round) (cuts : List ℕ) → Leads W rounds cuts X
     → AreWhole rounds → AreIndependent W (requests_in rounds) (replies_in rounds) X
 
--- Suppose a run lost no voters, and each of its rounds got replies and refused exactly the requests out of range. Then
--- each group got the replies of a fresh voter of its own. Crashes, opens and purges between the rounds don't matter.
+-- Suppose a run lost no voters, and each store whose voters were read served some (`ServeSome`). Suppose each round got
+-- replies, and exactly its requests out of range were refused. Then each group got the replies of a fresh voter of its
+-- own. Crashes, opens and purges between the rounds don't matter.
 abbrev pub RunsAreIndependent : {S F : Type 0} → Service S → Upkeep S → Disk S F → Type 0
 RunsAreIndependent {S} {F} v u d = (files : F) (events : List Event) (report : WorldReport F)
     → (run : IsRun v u d files events report) → ServeSome v (moments_of run.turns) → report.lost ≡ []

@@ -10,7 +10,8 @@ use Rattle.raft_voter_world.specs.Independent.{AreIndependent}
 -- Any two stores.
 
 -- The replies of both stores to these rounds, `told` and `heard`, are the same. Each group got the replies that its
--- voter in `W` gives to this group's requests alone. The stores, now `new` and `last`, serve the voters after these.
+-- voter in `W` gives to this group's requests alone. The stores, now `new` and `last`, serve the voters after the
+-- rounds.
 pub record AnsweredAlike {S T : Type 0} (v : Service S) (w : Service T) (W : World)
     (rounds : List (List (ℕ × Request))) (told heard : List (List Reply)) (new : S) (last : T) : Type 0 where
   pub same : told ≡ heard
@@ -104,7 +105,7 @@ AnswersTakenAsModel {S} {T} model v =
     → IsOpenAt model old W → AreServed model (taken_in rounds heard) told old new
     → TellsTaken model v told heard new last
 
--- Suppose store `model` can only refuse the requests out of range. Then, to the requests that store `v` took, it gives
--- the replies that `v` gave.
+-- Suppose store `model` can only refuse the requests out of range, and gets the requests that store `v` didn't refuse.
+-- Then the model gives the replies that `v` gave to them.
 abbrev pub StoresAnswerTakenAsModels : {S T : Type 0} → Service S → Service T → Type 0
 StoresAnswerTakenAsModels model v = RefusesOutOfRange model → AnswersTakenAsModel model v

@@ -9,12 +9,12 @@ use Rattle.raft_voter_world.specs.declared.notes.Notes.{Notes}
 use Rattle.raft_voter_world.specs.declared.notes.Unsettled.{Unsettled}
 use Rattle.raft_voter_world.specs.Places.{IsPlaceFound}
 
--- the unsettled round, with the voters of world `W` before it; without one, no round was cut off
+-- the unsettled round, with the voters of world `W` before it; if there is none, no round is cut off
 abbrev pub cut_from : World → Option Unsettled → CutRound
 cut_from W None = uncut W
 cut_from W (Some u) = record { before = W; requests = u.round.requests; refused = u.round.refused }
 
--- the cut-off round after which the next open finds voters: the unsettled round, with the voters before it
+-- the unsettled round of these notes, with the voters before it; the next open finds voters that are possible after it
 abbrev pub cut_of : Notes → CutRound
 cut_of n = cut_from (world_of n.voters) n.unsettled
 
@@ -42,14 +42,15 @@ pub record Settles (old : Notes) (place : ℕ) (new : Notes) : Type 0 where
   pub rounds : new.rounds.items ≡ all_rounds old
   pub cuts : new.cuts.items ≡ all_cuts old place
 
--- The list with `event` alone if the open in this event lost voters: there was no position at which they fit the last
--- cut-off round. Else the empty list.
+-- The list with `event` alone if the open in this event showed voters that fit at no position (`None`). Otherwise the
+-- empty list.
 abbrev pub lost_by : Option ℕ → ℕ → List ℕ
 lost_by None event = event ∷ []
 lost_by (Some place) event = []
 
 -- The open of event `event` showed the voters of world `X`. `place` is the first position at which they fit the
--- unsettled round, or `None` if they fit at no position. All rounds are settled with it.
+-- unsettled round, or `None` if they fit at no position. All rounds are settled, with `place` (or 0) as that round's
+-- cut.
 pub record NotesShown (old : Notes) (event : ℕ) (X : World) (place : Option ℕ) (new : Notes) : Type 0 where
   pub found : IsPlaceFound (cut_of old) X place
   pub settled : Settles old (unwrap_or place 0) new

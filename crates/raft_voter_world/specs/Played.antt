@@ -1,5 +1,5 @@
--- The events of a run that have been played, and how the run ends. `v`, `u` and `d` are what the store and its disk
--- promise.
+-- The events of a run that have been played, and how the run ends. In this file, a world is a storage with the notes of
+-- the run so far. `v`, `u` and `d` are what the store and its disk promise.
 use Rattle.std.specs.Prelude.{◌≡◌, ◌⊎◌, ℕ, true, false, List, ◌++◌}
 use Rattle.raft_voter.specs.Service.{Service}
 use Rattle.raft_voter_world.specs.declared.event.Event.{Event}
@@ -15,7 +15,8 @@ use Rattle.raft_voter_world.specs.Run.{ending_left, moments_of}
 use Rattle.raft_voter_world.specs.Steps.{IsReady}
 use Rattle.raft_voter_world.specs.Stores.{Disk, Upkeep}
 
--- notes `new` are `old` with the rounds, cuts and lost events of these turns, one list of moments for each event
+-- Notes `new` are `old` with the rounds and cuts of these turns, and the numbers of the events that lost voters. A turn
+-- is the list of one event's moments. The first event has number 0.
 pub record AddTurns {S F : Type 0} (old : Notes) (turns : List (List (Moment S F))) (new : Notes) : Type 0 where
   pub rounds : all_rounds new ≡ all_rounds old ++ rounds_in (moments_of turns)
   pub cuts : (last : ℕ) (rest : List (Moment S F))
@@ -41,8 +42,8 @@ Stands v d files gone kept =
     ((d.has_stopped files ≡ false) × (kept ≡ files))
     ⊎ ((d.has_stopped files ≡ true) × Crashes v d (Closed files) gone kept)
 
--- A run ended in this world, and `report` is its report. The moments `closing` closed a store that was open. For a
--- last round that was cut off with no open after it, the report has the cut 0.
+-- A run ended in this world, and `report` is its report. The moments `closing` closed a store that was open. If no open
+-- read the voters after the last cut-off round, the report has 0 as its cut.
 pub record Ended {S F : Type 0} (v : Service S) (u : Upkeep S) (d : Disk S F) (world : World S F) (report : WorldReport F)
     : Type 0 where
   pub closing : List (Moment S F)

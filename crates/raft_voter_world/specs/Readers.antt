@@ -1,5 +1,5 @@
--- What holds for a run, for a reader who checks that there was no CRC collision. That condition depends on the proof
--- of what the files leave. The reader may choose this proof after each moment.
+-- What holds for a run, for a reader who checks that there was no CRC collision. To state that condition takes a proof
+-- of what the files leave (`leaves`). The reader may choose this proof after each moment.
 use Rattle.std.specs.Prelude.{List, [], ◌∷◌, ◌++◌, IsSome}
 use Rattle.raft_voter.specs.Rounds.{World, fresh_world}
 use Rattle.raft_voter.specs.Service.{CutRound, IsOpenAt, MayFollow, Service, uncut}

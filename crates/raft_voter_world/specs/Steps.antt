@@ -1,5 +1,6 @@
--- One event of a run: the moments that it makes, and what the notes have after it. `v`, `u` and `d` are what the
--- store and its disk promise, and `event` is the event's number.
+-- One event of a run: the moments that it makes, and what the notes have after it. In this file, a world is a storage,
+-- the notes of the run so far, and what a stop would leave (`left`). `v`, `u` and `d` are what the store and its disk
+-- promise, and `event` is the event's number.
 use Rattle.std.specs.Prelude.{◌≡◌, ℕ, false, List, ◌++◌, None}
 use Rattle.raft_voter.specs.Service.{Service}
 use Rattle.raft_voter_world.specs.declared.event.Event.{Event}

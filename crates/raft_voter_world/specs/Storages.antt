@@ -14,7 +14,7 @@ use Rattle.raft_voter_world.specs.History.{Change, IsAnswered, IsCutOff, IsIdle,
 use Rattle.raft_voter_world.specs.History.Change.{purges}
 use Rattle.raft_voter_world.specs.Stores.{Disk, Upkeep}
 
--- if a store is open it is purged, with success or not, and the storage is `new` then; otherwise nothing changes
+-- if a store is open, a purge of it, with success or not, changes the storage into `new`; otherwise nothing changes
 abbrev pub PurgesIfOpen :
     {S F : Type 0} → Service S → Upkeep S → Disk S F → Purge → Storage S F → Storage S F → Type 0
 PurgesIfOpen v u d purge (Open store) new = (refusal : Option Cause) × Keeps v u d (purges purge refusal) (Open store) new

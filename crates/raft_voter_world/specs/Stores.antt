@@ -31,7 +31,7 @@ world_in voters = λ g. unwrap_or (lookup (λ k. k == g) voters) fresh
 abbrev pub TellsVoters : {S : Type 0} → Service S → S → List (ℕ × State) → Type 0
 TellsVoters v store voters = (W : World) → IsOpenAt v store W → W ≡ world_in voters
 
--- after `new`, a later open may find only the voters that it could find after `old`
+-- after a close or a crash of store `new`, an open may find only the voters that it could have found with `old`
 abbrev pub StaysLeft : {S : Type 0} → Service S → S → S → Type 0
 StaysLeft v old new = (cut : CutRound) → v.leaves old cut → v.leaves new cut
 
@@ -59,14 +59,14 @@ RefusesPurge TooLong before now = ⊥
 
 -- Disks.
 
--- A disk on which no store is open; a store that is named here is open on it:
+-- What a disk promises. Files are what is on it while no store is open; a store is one that is open on it:
 -- - `leaves`: the next open, even after a crash, finds only voters that are possible after this cut-off round;
 -- - `without_chance`: given `leaves` for `files`, the second files have no CRC collision; they are what a crash left of
 --   `files`, or `files` themselves;
 -- - `leaves_under`: after a crash under this store, an open finds only voters that are possible after this round;
 -- - `spares`: given `leaves_under`, the files that such a crash left have no CRC collision;
 -- - `opens`: an open by this many workers may return this store;
--- - `refuses`: such an open may fail for this cause, and then leaves the second files;
+-- - `refuses`: such an open may fail for this cause and leave the second files;
 -- - `closes`: a close of this store may leave these files;
 -- - `crashes`, `crashes_under`: a crash may leave the second files, of the first files or under this store;
 -- - `forks`: a copy into this directory may change the first files into the second, whether it succeeds or fails;
@@ -93,21 +93,22 @@ FindsVoters v d files store =
     (cut : CutRound) (known : d.leaves files cut) → d.without_chance files cut known files
     → (W : World) × MayFollow cut W × IsOpenAt v store W
 
--- A crash, or an open that failed, made the files `left` from `files`. If the files `read` have no CRC collision, an
--- open of `left` may find only the voters that an open of `files` could find.
+-- A crash, or an open that failed, made the files `left` from `files`. `read` are `left` after a crash, and `files`
+-- after an open. Without a CRC collision in `read`, an open of `left` may find only the voters that an open of `files`
+-- could find.
 abbrev pub LeavesStanding : {S F : Type 0} → Service S → Disk S F → F → F → F → Type 0
 LeavesStanding v d files read left =
     (cut : CutRound) (known : d.leaves files cut) → d.without_chance files cut known read → d.leaves left cut
 
 -- A crash under the open store `store` left the files `left`. Suppose that after a close or a crash of `store`, only
--- voters that are possible after a cut-off round are found. Then `leaves_under` holds for this round. If, by a proof of
--- that, `left` have no CRC collision, an open of `left` finds only such voters.
+-- voters that are possible after a cut-off round are found. Then `leaves_under` holds for this round. If `left` have no
+-- CRC collision (`spares`), an open of `left` finds only such voters.
 abbrev pub LeavesUnder : {S F : Type 0} → Service S → Disk S F → S → F → Type 0
 LeavesUnder v d store left =
     (cut : CutRound) → v.leaves store cut
     → d.leaves_under store cut × ((known : d.leaves_under store cut) → d.spares store cut known left → d.leaves left cut)
 
--- an open of `files` may find only the voters that an open after `store` could find
+-- an open of `files` may find only the voters that an open could find after a close or a crash of `store`
 abbrev pub LeavesInFiles : {S F : Type 0} → Service S → Disk S F → S → F → Type 0
 LeavesInFiles v d store files = (cut : CutRound) → v.leaves store cut → d.leaves files cut
 

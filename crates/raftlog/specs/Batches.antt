@@ -15,6 +15,6 @@ pub record HasChanges (b : Batch) (changes : List Change) : Type 0 where
   pub plain : marking_of_items b.items ≡ Unmarked
   pub says : tagged_items (entry_bytes b.entries) b.items ≡ map tagged changes
 
--- whatever changes the batch made before, it makes one more
+-- if the batch made some changes before, it now makes these and then `change`
 abbrev pub AddsChange : Batch → Batch → Change → Type 0
 AddsChange old new change = (changes : List Change) → HasChanges old changes → HasChanges new (changes ++ change ∷ [])

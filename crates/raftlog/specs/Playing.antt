@@ -26,9 +26,11 @@ use Rattle.raftlog.specs.Same.{SameEvents}
 abbrev pub transcript_text : List Answer → Bool → List ℕ
 transcript_text answers verdict = flat_map answer_line answers ++ verdict_line verdict
 
--- A run of exactly these events, from an empty log with these settings. The text is the transcript of its report:
--- - `judged`: the verdict is yes exactly if a log that never crashes, empty at first, gives the report's answers.
--- - `agreed`: it is yes if no event met a CRC collision.
+-- `text` is the transcript of a run of exactly these events, from an empty log with these settings. `report` is the
+-- run's report:
+-- - `judged`: the verdict is yes exactly if the model log, empty at first, may give the report's answers to these
+--   events.
+-- - `agreed`: the verdict is yes if no event met a CRC collision.
 pub record IsTranscript (l : LogOf OpenLog ClosedLog Batch Remainder) (config : Config)
     (events : List (Event (List Change) Remainder)) (text : List ℕ) (verdict : Bool) : Type 0 where
   pub files : ClosedLog

@@ -1,4 +1,4 @@
--- Events with the engine's batches that are the same as events with lists of changes.
+-- When an event with one of the engine's batches is the same as an event with a list of changes.
 use Rattle.std.specs.Prelude.{◌≡◌, ℕ, List, [], ◌∷◌}
 use Rattle.std.specs.String.{string_bytes}
 use Rattle.raft_log_fs_state.specs.declared.remainder.Remainder.{Remainder}
@@ -26,7 +26,7 @@ SameCall (Compact group index) (Compact g i) = (g ≡ group) × (i ≡ index)
 SameCall (Purge kind) (Purge k) = k ≡ kind
 SameCall _ _ = ⊥
 
--- the events are the same; of a crash, only that it is one
+-- the events are the same; any two crashes count as the same, whatever they leave
 abbrev pub SameEvent : Event (List Change) Remainder → Event Batch Remainder → Type 0
 SameEvent (Open workers) (Open w) = w ≡ workers
 SameEvent (Serve call) (Serve c) = SameCall call c

@@ -23,7 +23,7 @@ AreBoth words directory settings =
 
 -- What the arguments `words` ask for:
 -- - `Help`: the usage text
--- - `Node`: a node over a directory, with its own settings if a file of settings is given
+-- - `Node`: a node over a directory, and with settings from a file if a second path is given
 -- - `Others`: the arguments are none of these, so they are wrong
 abbrev pub Asks : List (List ℕ) → Asked → Type 0
 Asks words Help = words ≡ help_words

@@ -2,6 +2,8 @@
 
 use std::collections::HashMap;
 use std::sync::{Condvar, Mutex, MutexGuard};
+use std::thread;
+use std::time::{Duration, Instant};
 
 use crate::error::{Error, Result};
 
@@ -22,9 +24,18 @@ struct Queue {
     done: HashMap<u64, Done>,
     // Whether a thread writes what waited.
     is_led: bool,
+    last: Pace,
 }
 
-/// The batches that wait. The first thread that finds nobody writing writes all that wait by then, with its own.
+/// How many batches the last round wrote, and how long its sync took: no time if nobody asked for one.
+#[derive(Clone, Copy, Default)]
+struct Pace {
+    batches: usize,
+    sync: Duration,
+}
+
+/// The batches that wait. The first thread that finds nobody writing leads: it writes all that wait, with its own.
+/// Before that, it waits for as many batches as the last round had, but no longer than the last sync took.
 #[derive(Default)]
 pub(crate) struct GroupCommit {
     queue: Mutex<Queue>,
@@ -57,16 +68,28 @@ impl GroupCommit {
                 continue;
             }
             queue.is_led = true;
-            let waiting = std::mem::take(&mut queue.waiting);
-            drop(queue);
             let round = Round { group: self };
-            let done = lead(waiting, lock());
+            let waiting = self.gather(queue);
+            let (done, pace) = lead(waiting, lock());
             queue = self.lock();
             queue.done.extend(done);
+            queue.last = pace;
             drop(queue);
             drop(round);
             queue = self.lock();
         }
+    }
+
+    /// Takes the batches that wait: those of threads that come back from the last round come into this one too.
+    fn gather(&self, mut queue: MutexGuard<'_, Queue>) -> Vec<Waiting> {
+        let Pace { batches, sync } = queue.last;
+        let start = Instant::now();
+        while queue.waiting.len() < batches && start.elapsed() < sync {
+            drop(queue);
+            thread::yield_now();
+            queue = self.lock();
+        }
+        std::mem::take(&mut queue.waiting)
     }
 
     fn lock(&self) -> MutexGuard<'_, Queue> {
@@ -87,7 +110,7 @@ impl Drop for Round<'_> {
 }
 
 /// Writes batches one after another, and then syncs once if one of those that were written asks for it.
-fn lead(waiting: Vec<Waiting>, mut sink: impl Sink) -> Vec<(u64, Done)> {
+fn lead(waiting: Vec<Waiting>, mut sink: impl Sink) -> (Vec<(u64, Done)>, Pace) {
     let mut is_asked = false;
     let mut done = Vec::with_capacity(waiting.len());
     for Waiting { ticket, bytes, sync } in waiting {
@@ -95,10 +118,17 @@ fn lead(waiting: Vec<Waiting>, mut sink: impl Sink) -> Vec<(u64, Done)> {
         is_asked |= sync && written.is_ok();
         done.push((ticket, sync, bytes, written));
     }
+    let start = Instant::now();
     let synced = if is_asked { sink.sync() } else { Ok(()) };
-    done.into_iter()
+    let pace = Pace {
+        batches: done.len(),
+        sync: if is_asked { start.elapsed() } else { Duration::ZERO },
+    };
+    let done = done
+        .into_iter()
         .map(|(ticket, sync, bytes, written)| (ticket, (bytes, ended(written, sync, &synced))))
-        .collect()
+        .collect();
+    (done, pace)
 }
 
 /// The result of a batch after the sync of its round.
@@ -168,6 +198,25 @@ mod tests {
             let own = counts.written.iter().filter(|bytes| bytes[0] == thread);
             assert!(own.map(|bytes| bytes[1]).eq(0..50));
         }
+    }
+
+    #[test]
+    fn threads_that_come_back_share_the_next_sync() {
+        let (group, counts) = (GroupCommit::default(), Mutex::new(Counts::default()));
+        std::thread::scope(|scope| {
+            for thread in 0..4u8 {
+                let (group, counts) = (&group, &counts);
+                scope.spawn(move || {
+                    for number in 0..100u8 {
+                        let (_, done) = group.write(vec![thread, number], true, || counts.lock().unwrap());
+                        assert_eq!(done, Ok(2));
+                    }
+                });
+            }
+        });
+        // Without the wait for as many batches as before, rounds of one and of three batches take turns.
+        let counts = counts.into_inner().unwrap();
+        assert!(counts.syncs < 150, "{} syncs of 400 batches", counts.syncs);
     }
 
     #[test]

@@ -34,8 +34,8 @@ pub record HoldAll (queue : LogQueue) (mode : RecoveryMode) (files : List File) 
   pub all : length segments ≡ length files
   pub joined : batches ≡ all_batches segments
 
--- The log's files were found, and have the batches `append` and `rewrite`. `old` is the disk before this, `new` the disk
--- after it.
+-- The log's files were found, and have the batches `append` and `rewrite`. `old` is the disk before this, `new` the
+-- disk after it.
 pub record ReadsLogFiles (config : Config) (append rewrite : List Batch) (old new : Disk) : Type 0 where
   pub found : DualPipesBuilder
   pub finds : FindsLog config found old new

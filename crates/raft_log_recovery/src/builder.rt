@@ -107,14 +107,14 @@ impl DualPipesBuilder {
 
     /// Reads both queues at once, each by its share of the workers, into machines. Then truncates the damaged files,
     /// Append's first, each after its last good record, and syncs them. Returns Append's machine and Rewrite's. The
-    /// settings need at least one worker, as `sanitize` leaves them. Without one, files may stay unread, and `finish`
+    /// settings need at least one worker, as `sanitize` leaves them: without one, files may stay unread, and `finish`
     /// fails then.
     ///
     /// Truncates nothing unless all files of both queues could be read and none has an alignment. If it fails, the
     /// builder is unchanged. Fails:
     /// - with `Io` if a read fails, which is never taken for damage
-    /// - with `Corruption` for damage that isn't tolerated
-    /// - with `Corruption` for a foreign record, in every mode: it is whole, but has a compression that isn't read
+    /// - with `Corruption` for damage that isn't tolerated, and for a foreign record: it is whole, but has a
+    ///   compression that isn't read
     /// - with a machine's error if it declines batches
     /// - with `InvalidArgument` for an alignment, or with `Memory`
     /// - with `Io` if a file isn't truncated or synced; the damaged ones before it are
@@ -181,9 +181,8 @@ impl DualPipesBuilder {
     }
 
     /// Reads both queues as `recover` does, and changes nothing: no damaged file is truncated. Takes files with an
-    /// alignment too. It is for callers that read the log and open no pipe over it: the builder keeps no result.
-    ///
-    /// Fails as `recover` does if a file isn't read.
+    /// alignment too. It is for callers that read the log and open no pipe over it: the builder keeps no result. Fails
+    /// as `recover` does if a file isn't read.
     pub fn recover_for_reading<
         R: Threads + Sync,
         F: FileSystem + Sync,
@@ -312,12 +311,9 @@ impl DualPipesBuilder {
     /// newest on; if a write finds no space, deletes all. A write or a deletion that fails is only logged. Call it
     /// after `scan` and before `finish`.
     ///
-    /// Fails with `Memory` before anything is done, and leaves the builder unchanged. Later it fails:
-    /// - with `Io` if a file isn't made
-    /// - with `NumberRange` if there is no name for one that is to be made or deleted
-    /// - with `Memory`
-    ///
-    /// Then files may have been made or deleted, and the builder has no reserved file.
+    /// Fails with `Memory` before anything is done, and leaves the builder unchanged. Later it fails with `Io` if a
+    /// file isn't made, with `NumberRange` if one to be made or deleted has no name, or with `Memory`. Then files may
+    /// have been made or deleted, and the builder has no reserved file.
     pub fn initialize_files<F: FileSystem, L: Log>(
         &mut self,
         alloc: Global,

@@ -21,11 +21,8 @@ use std::thread::{Threads, join};
 /// in the order of the files. Changes nothing; the result says where files are to be truncated. Without a worker no
 /// file is read.
 ///
-/// Fails with `Memory`, or with the error of the first part of the files that isn't read or joined:
-/// - `Io` if a read fails
-/// - `Corruption` for damage that isn't tolerated
-/// - `Corruption` for a foreign record, in every mode: it is whole, but has a compression that isn't read
-/// - the machine's error if it declines batches
+/// Fails with `Memory`, or with the error of the first part of the files that isn't read or joined: `Io` if a read
+/// fails, `Corruption` for damage that isn't tolerated and for a foreign record, or the machine's error.
 pub fn recover_files<F: FileSystem + Sync, M: ReplayMachine + Send, FA: Factory<M>>(
     rt: &(impl Threads + Sync),
     alloc: Global,

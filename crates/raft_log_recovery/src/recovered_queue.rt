@@ -51,13 +51,7 @@ impl RecoveredQueue {
     /// `settings`.
     ///
     /// Truncates nothing unless all could be read and none has an alignment. If it fails, this queue's results are
-    /// unchanged. Fails:
-    /// - with `Io` if a read fails, which is never taken for damage
-    /// - with `Corruption` for damage that isn't tolerated
-    /// - with `Corruption` for a foreign record, in every mode: it is whole, but has a compression that isn't read
-    /// - with the machine's error if it declines batches
-    /// - with `InvalidArgument` for an alignment, or with `Memory`
-    /// - with `Io` if a file isn't truncated or synced; the damaged ones before it are
+    /// unchanged. Fails as `DualPipesBuilder::recover` does.
     pub fn recover<
         R: Threads + Log + Sync,
         F: FileSystem + Sync,

@@ -29,8 +29,8 @@ pub record ReadsFound (mode : RecoveryMode) (last : Bool) (id : FileId) (handle 
   pub native : StopsAtNoForeign last id (bytes_in (d.files handle.file))
   pub tolerated : IsTolerated mode last read.fault
 
--- The file is damaged, and this recovery mode doesn't tolerate that. `error` names the file and the offset, and says what
--- is wrong. The file's reading doesn't stop at a foreign record.
+-- The file is damaged, and this recovery mode doesn't tolerate that. `error` names the file and the offset, and says
+-- what is wrong. The file's reading doesn't stop at a foreign record.
 pub record IsDamaged (mode : RecoveryMode) (last : Bool) (id : FileId) (handle : Handle) (d : Disk)
     (error : Error) : Type 0 where
   pub read : FileReading

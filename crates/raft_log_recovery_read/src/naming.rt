@@ -9,8 +9,8 @@ use raft_log_record_base::{Error, FileId};
 use std::alloc::{AllocError, Global};
 
 /// Returns the error for a file that is damaged after its last good record, which ends at `end`: `Corruption`, with a
-/// text that names the queue, the file's number and this offset, and says what is wrong. Returns `Memory` if there is no
-/// memory for the text.
+/// text that names the queue, the file's number and this offset, and says what is wrong. Returns `Memory` if there is
+/// no memory for the text.
 pub(crate) fn named_damage(alloc: Global, id: FileId, end: Option<usize>, fault: Error) -> Error
     ensures { NamesDamage id end fault result }
 {

@@ -44,9 +44,6 @@ impl DualPipesBuilder {
     }
 
     /// Reads both queues as `recover_for_reading` does, but on the caller's thread: Append's files, and then Rewrite's.
-    /// Changes nothing.
-    ///
-    /// Fails as `recover` does if a file isn't read.
     pub fn recover_for_reading_in_turn<F: FileSystem + Sync, M: ReplayMachine, FA: Factory<M>>(
         &self,
         alloc: Global,

@@ -1,4 +1,5 @@
 """Calls each program rightly and wrongly, and checks its status, what it prints and where."""
+import fcntl
 import os
 import shutil
 import subprocess
@@ -11,6 +12,11 @@ VOTE = b"round\nvote 1 5 2 0 0\nend\n"
 FIRST = "0000000000000001.raftlog"
 SECOND = "0000000000000002.raftlog"
 OF_GROUP_2 = "append 1: group 2: put 0x00ff, 1 bytes\nappend 1: group 2: delete 0x00ff\n"
+PURGED = """before: append: files 1 to 1: 1 files, 183 bytes
+before: rewrite: no files
+after: append: files 1 to 1: 1 files, 183 bytes
+after: rewrite: files 1 to 1: 1 files, 69 bytes
+"""
 FULL = "log/0000000000000001.raftlog: can't grow it: No space left on device"
 
 # The program, its arguments, its status, the stream that has the text, and the text with which it begins, or which is
@@ -35,6 +41,9 @@ CALLS = [
     ("raft_log_ctl", ["dump", "none", "--group", "7x"], 2, "stderr", '--group: "7x"'),
     ("raft_log_ctl", ["check", "none"], 3, "stderr", '"none"'),
     ("raft_log_ctl", ["fork", "low.toml", "copy"], 3, "stderr", '"low.toml"'),
+    ("raft_log_ctl", ["purge", "none"], 3, "stderr", '"none"'),
+    ("raft_log_ctl", ["purge", "low.toml"], 3, "stderr", '"low.toml"'),
+    ("raft_log_ctl", ["purge", "."], 3, "stderr", "no log file in ."),
 ]
 
 
@@ -100,13 +109,30 @@ class Asker:
         if ran.returncode or ran.stdout.decode() != OF_GROUP_2 or ran.stderr:
             self.wrong.append(f"raft_log_ctl dump of one file: {ran}")
 
+    def ask_to_purge(self):
+        """Purges a log of one file, which keeps its bytes, and one whose directory another program has locked."""
+        with tempfile.TemporaryDirectory() as root:
+            path = self.operator_on_one_file(root)
+            if not path:
+                return
+            ran = subprocess.run([path, "purge", f"{root}/"], capture_output=True, timeout=60)
+            directory = os.open(root, os.O_RDONLY)
+            fcntl.flock(directory, fcntl.LOCK_EX)
+            locked = subprocess.run([path, "purge", root], capture_output=True, timeout=60)
+            os.close(directory)
+        self.counts["calls"] += 2
+        if ran.returncode or ran.stdout.decode() != PURGED or ran.stderr:
+            self.wrong.append(f"raft_log_ctl purge: {ran}")
+        if locked.returncode != 3 or locked.stdout or "in use" not in locked.stderr.decode():
+            self.wrong.append(f"raft_log_ctl purge of a locked log: {locked}")
+
     def ask_with_closed_pipe(self):
         """Runs tasks whose output nobody reads: they print no message, and a task that finds damage says so by its status."""
         with tempfile.TemporaryDirectory() as root:
             path = self.operator_on_one_file(root)
             if not path:
                 return
-            self.ask_unread(path, root, {"--help": 0, "dump": 0, "check": 0, "stat": 0})
+            self.ask_unread(path, root, {"--help": 0, "dump": 0, "check": 0, "stat": 0, "purge": 0})
             shutil.copy(f"{root}/{FIRST}", f"{root}/{SECOND}")
             self.ask_unread(path, root, {"dump": 0, "check": 1, "stat": 1})
 

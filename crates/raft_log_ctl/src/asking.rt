@@ -22,12 +22,15 @@ pub enum Asked {
     Done(u8),
     /// A task on the log in these directories.
     Task(Place, Task),
+    /// A purge of the log in these directories. The flag is whether by force.
+    Purge(Place, bool),
 }
 
 /// Reads the arguments. Prints the usage if it is requested, or to standard error if the arguments are wrong.
 pub fn read_arguments<R: Env + Print + Eprint + AllocGlobal>(rt: &R) -> Asked {
     match parsed(rt) {
         Ok(Command::On(place, task)) => Asked::Task(place, task),
+        Ok(Command::Purge(place, force)) => Asked::Purge(place, force),
         Ok(Command::Help) => Asked::Done(told(rt.print(USAGE), DONE)),
         Err(Unread::Usage) => Asked::Done(told(rt.eprint(USAGE), WRONG_ARGUMENTS)),
         Err(Unread::Group(word)) => {

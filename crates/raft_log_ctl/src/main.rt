@@ -13,13 +13,18 @@
 mod asking;
 mod one_file;
 mod pipe;
+mod purging;
+mod refusal;
 mod serving;
 
 use asking::{Asked, read_arguments};
 use log::{LevelFilter, Logged};
+use purging::{open_to_purge, serve_purge};
 use serving::serve;
 use std::process::ExitCode;
 
+// The open of a purge lends its file system to threads. One over real directories is therefore passed on here, where
+// the runtime isn't a parameter.
 fn main(rt: HostRuntime) -> ExitCode {
     let status = match read_arguments(&rt) {
         Asked::Done(status) => status,
@@ -28,6 +33,10 @@ fn main(rt: HostRuntime) -> ExitCode {
             let quiet = Logged::new(&rt, LevelFilter::Error, &rt);
             serve(&rt, &quiet, &place, &task)
         }
+        Asked::Purge(place, force) => match open_to_purge(&rt, &place) {
+            Ok((files, place)) => serve_purge(&rt, files, &place, force),
+            Err(status) => status,
+        },
     };
     ExitCode::from(status)
 }

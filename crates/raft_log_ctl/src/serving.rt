@@ -1,66 +1,20 @@
 //! Runs a task on a log in real directories.
 use crate::asking::{DONE, FAULTY, REFUSED};
 use crate::one_file::read_one_file;
-use crate::pipe::{Pipe, is_closed};
+use crate::pipe::Pipe;
+use crate::refusal::Refusal;
 use log::Log;
 use raft_log_fs::FileSystem;
 use raft_log_fs_memory::MemoryFileSystem;
 use raft_log_fs_os::{
     DirectoryFault, DirectoryFileSystem, FileDevice, open_directories, open_directories_for_reading,
 };
-use raft_log_operator::{CommandFault, Outcome, Place, Task, dump, run};
-use std::alloc::AllocError;
+use raft_log_operator::{Outcome, Place, Task, dump, run};
 use std::fs::File;
 use std::io;
 use std::io::{BufWriter, Write};
 use std::rt::Files;
 use std::thread::Threads;
-use thiserror::Error;
-
-/// Why a task fails.
-#[derive(Debug, Drop, Error)]
-enum Refusal {
-    /// The directories weren't opened.
-    #[error("{0}")]
-    Directory(DirectoryFault),
-    /// The task failed.
-    #[error("{0}")]
-    Task(CommandFault),
-}
-
-impl From<DirectoryFault> for Refusal {
-    fn from(fault: DirectoryFault) -> Refusal {
-        Refusal::Directory(fault)
-    }
-}
-
-impl From<CommandFault> for Refusal {
-    fn from(fault: CommandFault) -> Refusal {
-        Refusal::Task(fault)
-    }
-}
-
-impl From<AllocError> for Refusal {
-    fn from(_error: AllocError) -> Refusal {
-        Refusal::Directory(DirectoryFault::Memory)
-    }
-}
-
-impl From<io::Error> for Refusal {
-    fn from(error: io::Error) -> Refusal {
-        Refusal::Task(CommandFault::Output(error))
-    }
-}
-
-impl Refusal {
-    /// Whether the task failed because the reader of standard output closed it.
-    fn is_closed_pipe(&self) -> bool {
-        match self {
-            Refusal::Task(CommandFault::Output(error)) => is_closed(error),
-            _ => false,
-        }
-    }
-}
 
 /// Runs a task on the log in these directories, and returns the status. Prints a failure to standard error, unless it
 /// is that the reader of standard output closed it; then the status is 0. `quiet` starts the threads, and takes what is

@@ -1,1 +1,2 @@
 mod SoundLemmas
+mod PurgeLemmas

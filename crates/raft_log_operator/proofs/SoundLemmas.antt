@@ -12,7 +12,7 @@ use Rattle.raft_log_offline.specs.Runs.{HasNoHole, Run, finding, runs_of}
 use Rattle.raft_log_offline.specs.declared.checker.ConsistencyChecker.{ConsistencyChecker}
 use Rattle.raft_log_operator.specs.Sound.{AreNone, HasCleanFiles, HasIntactFiles, HaveNoHole, InspectsLog, IsIntactLog}
 use Rattle.raft_log_operator.specs.declared.inspection.LogFaults.{LogFaults}
-use Rattle.raft_log_operator.specs.declared.place.Place.{Place}
+use Rattle.raft_log_command_line.specs.declared.place.Place.{Place}
 
 told_kept : (runs : List Run) → option_and_then (λ k. k.hole_after) (kept runs) ≡ finding runs
 told_kept [] = refl

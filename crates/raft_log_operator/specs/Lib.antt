@@ -1,4 +1,4 @@
 pub mod Tasks
 pub mod Listing
 pub mod Sound
-pub mod Words
+pub mod Purging

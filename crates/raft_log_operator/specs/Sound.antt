@@ -8,11 +8,11 @@ use Rattle.raft_log_replay.specs.Machines.{Batch}
 use Rattle.raft_log_inspection.specs.Intact.{IsClean, IsIntactQueue}
 use Rattle.raft_log_offline.specs.Runs.{HasNoHole, runs_of}
 use Rattle.raft_log_operator.specs.Tasks.{kept_settings}
-use Rattle.raft_log_operator.specs.declared.command.Task.{Task}
-use Rattle.raft_log_operator.specs.declared.command.Task.TheVariants.{Check, Stat}
+use Rattle.raft_log_command_line.specs.declared.command.Task.{Task}
+use Rattle.raft_log_command_line.specs.declared.command.Task.TheVariants.{Check, Stat}
 use Rattle.raft_log_operator.specs.declared.inspection.LogFaults.{LogFaults}
 use Rattle.raft_log_operator.specs.declared.inspection.QueueFaults.{QueueFaults}
-use Rattle.raft_log_operator.specs.declared.place.Place.{Place}
+use Rattle.raft_log_command_line.specs.declared.place.Place.{Place}
 
 -- the log's directories, the main one first
 abbrev pub directories_in : Place → List (List ℕ)

@@ -7,11 +7,11 @@ use Rattle.raft_log_file_settings.specs.Settings.{Settings, default_settings, di
 use Rattle.raft_log_offline.specs.Forks.{FailsToFork, Forks}
 use Rattle.raft_log_record_base.specs.declared.pipe_log.FileId.{FileId}
 use Rattle.raft_log_open.specs.Unpadding.{FailsToUnpad, Unpads}
-use Rattle.raft_log_operator.specs.declared.command.Task.{Task}
-use Rattle.raft_log_operator.specs.declared.command.Task.TheVariants.{Fork, Unpad}
+use Rattle.raft_log_command_line.specs.declared.command.Task.{Task}
+use Rattle.raft_log_command_line.specs.declared.command.Task.TheVariants.{Fork, Unpad}
 use Rattle.raft_log_operator.specs.declared.fault.CommandFault.{CommandFault}
 use Rattle.raft_log_operator.specs.declared.fault.CommandFault.TheVariants.{Log, Output}
-use Rattle.raft_log_operator.specs.declared.place.Place.{Place}
+use Rattle.raft_log_command_line.specs.declared.place.Place.{Place}
 
 -- the default settings for a log in these directories, except that no file is recycled
 abbrev pub kept_settings : Place → Settings

@@ -4,7 +4,7 @@ ghost use Rattle.raft_log_operator.specs.Sound.{IsIntactLog};
 
 use crate::fault::{CommandFault, Outcome};
 use crate::inspection::{QueueFaults, inspect, write_files};
-use crate::place::Place;
+use raft_log_command_line::Place;
 use raft_log_engine::FileSystem;
 use std::alloc::Global;
 use std::io;

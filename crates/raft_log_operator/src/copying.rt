@@ -1,6 +1,6 @@
 //! Copies a log's directories into memory.
 use crate::fault::CommandFault;
-use crate::place::Place;
+use raft_log_command_line::Place;
 use raft_log_engine::{Error, FileSystem, Handle, MemoryFileSystem, Permission};
 use std::alloc::Global;
 use std::io::ErrorKind;

@@ -4,8 +4,8 @@ ghost use Rattle.raft_log_operator.specs.Listing.{IsListed};
 
 use crate::fault::{CommandFault, Outcome};
 use crate::found_file::{FoundFile, find_files};
-use crate::place::Place;
 use crate::text::{FileText, ItemLine};
+use raft_log_command_line::Place;
 use raft_log_engine::{Error, FileSystem, LogItem, LogItemReader};
 use std::alloc::Global;
 use std::io::Write;

@@ -5,9 +5,9 @@ ghost use Rattle.raft_log_offline.specs.Forks.{FailsToFork, Forks};
 ghost use Rattle.raft_log_operator.specs.Tasks.{Copies, FailsToCopy, kept_settings};
 
 use crate::fault::{CommandFault, Outcome};
-use crate::place::Place;
 use crate::settings::kept_settings;
 use log::Log;
+use raft_log_command_line::Place;
 use raft_log_engine::{Error, FileSystem, fork};
 use std::alloc::Global;
 use std::io;

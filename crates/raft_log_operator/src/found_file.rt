@@ -1,6 +1,7 @@
 //! The log files in a log's directories.
 use crate::fault::CommandFault;
-use crate::place::{Place, parted};
+use raft_log_command_line::Place;
+use raft_log_command_line::place::parted;
 use raft_log_engine::{Error, FileId, FileSystem};
 use raft_log_file_format::FileNameExt;
 use std::alloc::Global;

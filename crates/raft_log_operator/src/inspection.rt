@@ -4,8 +4,8 @@ ghost use Rattle.std.specs.String.{string_bytes};
 ghost use Rattle.raft_log_operator.specs.Sound.{InspectsLog, InspectsOne, directories_in};
 
 use crate::fault::CommandFault;
-use crate::place::Place;
 use crate::text::{DamageLine, GapLine};
+use raft_log_command_line::Place;
 use raft_log_engine::{FileSystem, LogQueue};
 use raft_log_inspection::{QueueInspection, inspect_queue};
 use raft_log_offline::laws::findings_are_first_holes;

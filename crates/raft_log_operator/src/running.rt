@@ -4,14 +4,13 @@ ghost use Rattle.raft_log_operator.specs.Sound.{IsSoundFor};
 ghost use Rattle.raft_log_operator.specs.Tasks.{Does, FailsToDo};
 
 use crate::checking::check;
-use crate::command::Task;
 use crate::dumping::dump;
 use crate::fault::{CommandFault, Outcome};
 use crate::forking::fork_into;
-use crate::place::Place;
 use crate::statistics::stat;
 use crate::unpadding::unpad_log;
 use log::Log;
+use raft_log_command_line::{Place, Task};
 use raft_log_engine::FileSystem;
 use std::alloc::Global;
 use std::io::Write;

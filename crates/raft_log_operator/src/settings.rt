@@ -1,9 +1,10 @@
-//! The settings for reading a log that another program owns.
+//! The settings for a log that another program owns.
 ghost use Rattle.std.specs.Prelude.{◌≡◌, IfOk};
 ghost use Rattle.raft_log_file_settings.specs.Settings.{settings_of};
+ghost use Rattle.raft_log_operator.specs.Purging.{purge_settings};
 ghost use Rattle.raft_log_operator.specs.Tasks.{kept_settings};
 
-use crate::place::Place;
+use raft_log_command_line::Place;
 use raft_log_engine::Config;
 use std::alloc::{AllocError, Global};
 
@@ -20,5 +21,15 @@ pub fn kept_settings(alloc: Global, place: &Place) -> Result<Config, AllocError>
     config.dir = dir;
     config.spill_dir = spill_dir;
     config.enable_log_recycle = false;
+    Ok(config)
+}
+
+/// The settings for a purge: those of `kept_settings`, except that Append is past its threshold once it has a second
+/// file.
+pub fn purge_settings(alloc: Global, place: &Place) -> Result<Config, AllocError>
+    ensures { IfOk result (λ config. settings_of config ≡ purge_settings place.now) }
+{
+    let mut config = kept_settings(alloc, place)?;
+    config.purge_threshold = config.target_file_size;
     Ok(config)
 }

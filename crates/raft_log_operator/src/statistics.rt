@@ -6,38 +6,19 @@ use crate::copying::copy_log;
 use crate::fault::{CommandFault, Outcome};
 use crate::found_file::{FoundFile, find_files};
 use crate::inspection::{inspect, write_files};
-use crate::place::Place;
 use crate::settings::kept_settings;
-use crate::text::queue_word;
+use crate::sizes::{Amount, QueueSize};
 use log::Log;
+use raft_log_command_line::Place;
 use raft_log_engine::{
     Engine, Error, FileSystem, LogEngine, LogItem, LogItemContent, LogItemReader, LogQueue,
-    MemoryFileSystem, Permission, PipeLog,
+    MemoryFileSystem, PipeLog,
 };
 use raft_log_record_items::RawEntries;
 use std::alloc::Global;
 use std::io;
-use std::io::{ErrorKind, Write};
+use std::io::Write;
 use std::thread::Threads;
-
-/// A count and a sum of bytes.
-#[derive(Clone, Copy)]
-struct Amount {
-    count: u64,
-    bytes: u64,
-}
-
-impl Amount {
-    fn none() -> Amount {
-        Amount { count: 0, bytes: 0 }
-    }
-
-    /// Counts one more, with so many bytes.
-    fn add(&mut self, bytes: usize) {
-        self.count = self.count.saturating_add(1);
-        self.bytes = self.bytes.saturating_add(bytes as u64);
-    }
-}
 
 /// Writes what a log holds:
 /// - the gaps between its files and the damaged ones, as a check does;
@@ -145,65 +126,9 @@ fn tell_queue<W: Write>(
     queue: LogQueue,
     out: &mut W,
 ) -> Result<u64, CommandFault> {
-    let size = size_of_queue(alloc, files, found, queue)?;
-    write_queue(queue, span_in(found, queue), size, out)?;
-    Ok(size.bytes)
-}
-
-fn size_of_queue(
-    alloc: Global,
-    files: &MemoryFileSystem,
-    found: &[FoundFile],
-    queue: LogQueue,
-) -> Result<Amount, CommandFault> {
-    let mut size = Amount::none();
-    for file in found {
-        if file.id.queue == queue {
-            let path = file.path.as_str();
-            match size_of(files, path) {
-                Ok(bytes) => size.add(bytes),
-                Err(kind) => return Err(CommandFault::at(alloc, path, Error::Io(kind))),
-            }
-        }
-    }
-    Ok(size)
-}
-
-/// The numbers of the first and the last file of a queue, if it has files.
-fn span_in(found: &[FoundFile], queue: LogQueue) -> Option<(u64, u64)> {
-    let mut span = None;
-    for file in found {
-        let seq = file.id.seq;
-        if file.id.queue == queue {
-            span = match span {
-                Some((first, _)) => Some((first, seq)),
-                None => Some((seq, seq)),
-            };
-        }
-    }
-    span
-}
-
-fn write_queue<W: Write>(
-    queue: LogQueue,
-    span: Option<(u64, u64)>,
-    size: Amount,
-    out: &mut W,
-) -> io::Result<()> {
-    let word = queue_word(queue);
-    let Amount { count, bytes } = size;
-    match span {
-        Some((first, last)) => writeln!(
-            out,
-            "{word}: files {first} to {last}: {count} files, {bytes} bytes"
-        ),
-        None => writeln!(out, "{word}: no files"),
-    }
-}
-
-fn size_of(files: &MemoryFileSystem, path: &str) -> Result<usize, ErrorKind> {
-    let handle = files.open(path, Permission::ReadOnly)?;
-    files.file_size(handle)
+    let measured = QueueSize::measure(alloc, files, found, queue)?;
+    writeln!(out, "{measured}")?;
+    Ok(measured.size.bytes)
 }
 
 /// How many bytes of entries, keys and values are in files, live or not.

@@ -5,9 +5,9 @@ ghost use Rattle.raft_log_open.specs.Unpadding.{FailsToUnpad, Unpads};
 ghost use Rattle.raft_log_operator.specs.Tasks.{FailsToTakePadding, TakesPadding, kept_settings};
 
 use crate::fault::{CommandFault, Outcome};
-use crate::place::Place;
 use crate::settings::kept_settings;
 use crate::text::FileText;
+use raft_log_command_line::Place;
 use raft_log_engine::{Error, FileId, FileSystem};
 use raft_log_open::unpad;
 use std::alloc::Global;

@@ -1,5 +1,5 @@
 use Rattle.std.proofs.Common.{rules, map, string_bytes}
-use Rattle.raft_log_operator.proofs.command.parse_dump.Goals as goal
+use Rattle.raft_log_command_line.proofs.command.parse_dump.Goals as goal
 
 pub returns-in_err-group-in-Some-split_first-clause-group : goal.returns-in_err-group-in-Some-split_first-clause-group
 returns-in_err-group-in-Some-split_first-clause-group c = λ word same.

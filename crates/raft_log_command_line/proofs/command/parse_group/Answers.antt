@@ -1,7 +1,7 @@
 use Rattle.std.proofs.Common.{rules, ◌≡◌, Ok}
 use Rattle.std.proofs.lemmas.Fmt.{parse-decimal}
-use Rattle.raft_log_operator.proofs.command.parse_group.Goals as goal
-use Rattle.raft_log_operator.proofs.command.parse_group.Goals.{in-Ok+in_ok-spelled+else-is, in_default}
+use Rattle.raft_log_command_line.proofs.command.parse_group.Goals as goal
+use Rattle.raft_log_command_line.proofs.command.parse_group.Goals.{in-Ok+in_ok-spelled+else-is, in_default}
 
 pub returns-clause-group : goal.returns-clause-group
 returns-clause-group c = λ reported same group small spelled.

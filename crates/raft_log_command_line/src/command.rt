@@ -1,7 +1,7 @@
 //! The program's commands, and how they are spelled.
-ghost use Rattle.std.specs.Prelude.{◌≡◌, ◌≢◌, ◌↔◌, ℕ, IsTrue, IfOk, Option, String, decimal, map, string_bytes};
+ghost use Rattle.std.specs.Prelude.{◌≡◌, ◌≢◌, ◌↔◌, ℕ, Bool, IsTrue, IfOk, Option, String, decimal, map, string_bytes};
 ghost use Rattle.std.specs.declared.alloc.Global.{Global};
-ghost use Rattle.raft_log_operator.specs.Words.{MisnamesGroup, NamesNoGroup, dump_words, fork_words, place_words, spill_words};
+ghost use Rattle.raft_log_command_line.specs.Words.{MisnamesGroup, NamesNoGroup, dump_words, fork_words, place_words, purge_words, spill_words};
 
 use crate::place::{Place, trimmed};
 use std::alloc::{AllocError, Global};
@@ -17,12 +17,17 @@ pub const USAGE: &str = "usage: raft_log_ctl COMMAND
                     their entries; or 'no holes, no damage, no gaps'
   stat DIR          what the log in DIR holds, in numbers; missing and damaged files are listed first
   fork DIR TARGET   copies the log in DIR into TARGET, which may not be there, and tells each copy
+  purge DIR         frees space: deletes files of the log in DIR that hold nothing live, moves what is live out of
+                    other old files, and deletes these; prints the files of both queues before and after
+  purge DIR --force
+                    also moves what is live out of the newer files of the queue Append
   unpad DIR         writes each file of the log in DIR that has an alignment anew without it, and tells which,
                     or 'no padding'
   --help            this text
 
 Of a log with a second directory that one is named last, by --spill-dir DIR2. A log that is in use
-is refused. Only fork and unpad change anything: fork makes TARGET, unpad writes files of the log anew.
+is refused. Only fork, purge and unpad change anything: fork makes TARGET, purge deletes files of the log
+and makes others, unpad writes files of the log anew.
 
 status: 0 done; 1 done, and a hole, a missing or a damaged file was found; 2 wrong arguments; 3 refused
 ";
@@ -34,9 +39,11 @@ pub enum Command {
     Help,
     /// Does a task on a log.
     On(Place, Task),
+    /// Purges a log. The flag is whether by force.
+    Purge(Place, bool),
 }
 
-/// A task on a log.
+/// A task on a log over a borrowed file system. A purge is none, since its engine owns the file system.
 #[derive(Debug, Drop, PartialEq, Eq)]
 pub enum Task {
     /// Lists the log's items, or those of one file: all of them, or those of the group with this number.
@@ -93,7 +100,7 @@ pub enum Unread {
 }
 
 impl From<AllocError> for Unread {
-    ghost use Rattle.raft_log_operator.specs.declared.command.Unread.TheVariants.{Memory};
+    ghost use Rattle.raft_log_command_line.specs.declared.command.Unread.TheVariants.{Memory};
 
     ghost from_gives = { λ _ e. e ≡ Memory };
 
@@ -103,7 +110,7 @@ impl From<AllocError> for Unread {
 }
 
 impl Command {
-    ghost use Rattle.raft_log_operator.specs.Words.{MisnamesDumpedGroup, words_of};
+    ghost use Rattle.raft_log_command_line.specs.Words.{MisnamesDumpedGroup, words_of};
 
     /// The command in these arguments, which follow the program's name. Fails with `Usage` if no command is spelled so,
     /// with `Group` if a dump's `--group` has a wrong number, or with `Memory`.
@@ -136,6 +143,10 @@ impl Command {
         if is(word, "unpad") {
             let place = parse_place(alloc, rest)?;
             return Ok(Command::On(place, Task::Unpad));
+        }
+        if is(word, "purge") {
+            let (place, force) = parse_purge(alloc, rest)?;
+            return Ok(Command::Purge(place, force));
         }
         if is(word, "--help") && rest.is_empty() {
             return Ok(Command::Help);
@@ -212,6 +223,28 @@ fn parse_fork(alloc: Global, words: &[String]) -> Result<(Place, String), Unread
     let place = place_of(alloc, directory.as_str(), rest)?;
     let target = String::from_str(alloc, target.as_str())?;
     Ok((place, target))
+}
+
+/// The log to purge in these words, and whether they ask for force.
+fn parse_purge(alloc: Global, words: &[String]) -> Result<(Place, bool), Unread>
+    ensures ok { IfOk result (λ asked. map string_bytes words.now ≡ purge_words asked.0 asked.1) }
+    ensures usage { result ≡ Err Unread.Usage →
+        (place : Place) → (force : Bool) → map string_bytes words.now ≢ purge_words place force }
+    ensures group { (word : String Global) → result ≢ Err (Unread.Group word) }
+{
+    let Some((directory, behind)) = words.split_first() else {
+        return Err(Unread::Usage);
+    };
+    match behind.split_first() {
+        Some((option, rest)) if is(option, "--force") => {
+            let place = place_of(alloc, directory.as_str(), rest)?;
+            Ok((place, true))
+        }
+        _ => {
+            let place = place_of(alloc, directory.as_str(), behind)?;
+            Ok((place, false))
+        }
+    }
 }
 
 /// The log in these words.

@@ -1,11 +1,11 @@
 -- The command lines of the program `raft_log_ctl`.
-use Rattle.std.specs.Prelude.{◌≡◌, ◌≢◌, ◌<◌, ◌^◌, ℕ, List, [], ◌∷◌, ◌++◌, Option, None, Some, String, codes, decimal, string_bytes}
+use Rattle.std.specs.Prelude.{◌≡◌, ◌≢◌, ◌<◌, ◌^◌, ℕ, Bool, false, true, List, [], ◌∷◌, ◌++◌, Option, None, Some, String, codes, decimal, string_bytes}
 use Rattle.std.specs.declared.alloc.Global.{Global}
-use Rattle.raft_log_operator.specs.declared.command.Command.{Command}
-use Rattle.raft_log_operator.specs.declared.command.Command.TheVariants.{Help, On}
-use Rattle.raft_log_operator.specs.declared.command.Task.{Task}
-use Rattle.raft_log_operator.specs.declared.command.Task.TheVariants.{Check, Dump, Fork, Stat, Unpad}
-use Rattle.raft_log_operator.specs.declared.place.Place.{Place}
+use Rattle.raft_log_command_line.specs.declared.command.Command.{Command}
+use Rattle.raft_log_command_line.specs.declared.command.Command.TheVariants.{Help, On, Purge}
+use Rattle.raft_log_command_line.specs.declared.command.Task.{Task}
+use Rattle.raft_log_command_line.specs.declared.command.Task.TheVariants.{Check, Dump, Fork, Stat, Unpad}
+use Rattle.raft_log_command_line.specs.declared.place.Place.{Place}
 
 -- the arguments that name a log's second directory, for spilled files; none if it has no second one
 abbrev pub spill_words : Option (String Global) → List (List ℕ)
@@ -29,7 +29,16 @@ dump_words place group = string_bytes place.directory ∷ group_words group ++ s
 abbrev pub fork_words : Place → String Global → List (List ℕ)
 fork_words place target = string_bytes place.directory ∷ string_bytes target ∷ spill_words place.spill_directory
 
--- the arguments that ask for a task on a log
+-- the arguments that request a purge by force; none if it isn't by force
+abbrev pub force_words : Bool → List (List ℕ)
+force_words false = []
+force_words true = codes "--force" ∷ []
+
+-- the arguments that name the log to purge, and request force
+abbrev pub purge_words : Place → Bool → List (List ℕ)
+purge_words place force = string_bytes place.directory ∷ force_words force ++ spill_words place.spill_directory
+
+-- the arguments that request a task on a log
 abbrev pub task_words : Place → Task → List (List ℕ)
 task_words place (Dump group) = codes "dump" ∷ dump_words place group
 task_words place Check = codes "check" ∷ place_words place
@@ -41,6 +50,7 @@ task_words place Unpad = codes "unpad" ∷ place_words place
 abbrev pub words_of : Command → List (List ℕ)
 words_of Help = codes "--help" ∷ []
 words_of (On place task) = task_words place task
+words_of (Purge place force) = codes "purge" ∷ purge_words place force
 
 -- this word isn't the decimal number of any group
 abbrev pub NamesNoGroup : List ℕ → Type 0

@@ -26,7 +26,7 @@ BOXES = [
     (16, 236, 694, 86, "#fbe4e4", "Store", "the voters of many groups on one log; one sync a round", "raft_voter_",
      ["store", "recovery", "durability_laws", "records"], "RoundIsAnswered, CutsRoundOff"),
     (718, 142, 346, 180, "#ffffff", "Programs on a log", "over an engine, in memory or in a directory", "raft_log_",
-     [("ctl", "dump, check, stat, fork, purge, unpad"), ("operator", "its library"),
+     [("ctl", "dump, check, fork, purge .."), ("operator", "its library"), ("command_line", "its words"),
       ("examples", "a key, lines, a Raft node's storage"), ("world_engine", "the engine in world's runs"),
       ("session", "texts of sessions"), ("run_laws", "a law on quiet runs")], ""),
     (16, 330, 180, 434, "#ece6f8", "Voter", "the receiver of Raft", "raft_",

@@ -81,7 +81,7 @@ impl GroupCommit {
     }
 
     /// Takes the batches that wait: those of threads that come back from the last round come into this one too.
-    fn gather(&self, mut queue: MutexGuard<'_, Queue>) -> Vec<Waiting> {
+    fn gather<'a>(&'a self, mut queue: MutexGuard<'a, Queue>) -> Vec<Waiting> {
         let Pace { batches, sync } = queue.last;
         let start = Instant::now();
         while queue.waiting.len() < batches && start.elapsed() < sync {

@@ -22,13 +22,17 @@ invariant_of-self g c =
 pub returns-clause-noted : goal.returns-clause-noted
 returns-clause-noted g c =
     let old = c.args.self.now in
+    let s = shows_of g.P.PipeLog.shown old.engine in
+    let t = shows_of g.P.PipeLog.shown c.sync-synced.new.self in
     let answer : c.answer_to-answer.result ≡ sync_answer c.is_err.result =
-    c.answer_to-answer.ensures ∙ sync_answered c.sync-synced.result _ _ c.sync-synced.ensures.err ∙ ap sync_answer (sym c.is_err.ensures.value) in
+    c.answer_to-answer.ensures ∙ sync_answered c.sync-synced.result s t c.sync-synced.ensures.err ∙ ap sync_answer (sym c.is_err.ensures.value) in
     c.note-claim.ensures.noted ∙ ap (λ (a : Answer). old.keeper ++ record { call = Sync; answer = a } ∷ []) answer
 
 pub invariant_of-result : goal.invariant_of-result
 invariant_of-result g c =
     let old = c.args.self.now in
+    let s = shows_of g.P.PipeLog.shown old.engine in
+    let t = shows_of g.P.PipeLog.shown c.sync-synced.new.self in
     let answer : c.answer_to-answer.result ≡ sync_answer c.is_err.result =
-    c.answer_to-answer.ensures ∙ sync_answered c.sync-synced.result _ _ c.sync-synced.ensures.err ∙ ap sync_answer (sym c.is_err.ensures.value) in
+    c.answer_to-answer.ensures ∙ sync_answered c.sync-synced.result s t c.sync-synced.ensures.err ∙ ap sync_answer (sym c.is_err.ensures.value) in
     record { is = ap (λ (p : ℕ × List Served). p.1) c.note-claim.ensures.claim ∙ ap (λ (a : Answer). record { call = Sync; answer = a } ∷ []) answer }

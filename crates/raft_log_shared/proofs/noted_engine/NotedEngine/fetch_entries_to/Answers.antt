@@ -5,12 +5,20 @@ use Rattle.raft_log_shared.proofs.noted_engine.NotedEngine.fetch_entries_to.Goal
 
 pub invariant_of-self : goal.invariant_of-self
 invariant_of-self g c =
-    let old = c.args.self.now in
-    record { leads = read_leads g.L.Opening.began _ (shows_of g.P.PipeLog.shown old.engine) (shows_of g.P.PipeLog.shown c.fetch_entries_to.new.self)
-    c.fetch_entries_to.result old.keeper c.fetch_entries_to.ensures.model old.leads }
+    let a = c.args in
+    let old = a.self.now in
+    let fetched = c.fetch_entries_to in
+    let is = FetchesMessages g.M.Entry.Message.reading a.raft_group_id a.begin a.end a.max_size a.vec.now.items fetched.new.vec.items in
+    record {
+      leads = read_leads g.L.Opening.began is (shows_of g.P.PipeLog.shown old.engine) (shows_of g.P.PipeLog.shown fetched.new.self)
+          fetched.result old.keeper fetched.ensures.model old.leads;
+    }
 
 pub returns-clause-ok : goal.returns-clause-ok
 returns-clause-ok g c =
-    let old = c.args.self.now in
-    read_ok g.L.Opening.began _ (shows_of g.P.PipeLog.shown old.engine) (shows_of g.P.PipeLog.shown c.fetch_entries_to.new.self)
-    c.fetch_entries_to.result old.keeper c.fetch_entries_to.ensures.model old.leads
+    let a = c.args in
+    let old = a.self.now in
+    let fetched = c.fetch_entries_to in
+    let is = FetchesMessages g.M.Entry.Message.reading a.raft_group_id a.begin a.end a.max_size a.vec.now.items fetched.new.vec.items in
+    read_ok g.L.Opening.began is (shows_of g.P.PipeLog.shown old.engine) (shows_of g.P.PipeLog.shown fetched.new.self)
+    fetched.result old.keeper fetched.ensures.model old.leads

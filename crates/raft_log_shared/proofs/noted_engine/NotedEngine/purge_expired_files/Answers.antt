@@ -13,9 +13,11 @@ invariant_of-self g c =
     let old = c.args.self.now in
     let s = shows_of g.P.PipeLog.shown old.engine in
     let t = shows_of g.P.PipeLog.shown c.purge_expired_files-purged.new.self in
-    record { leads = all_lead_more g.L.Opening.began old.keeper c.note-claim.new.self (Purge Expired) (answer_of c.purge_expired_files-purged.result) s t
-    (purge_steps (Vec ℕ) Expired c.purge_expired_files-purged.result s t c.purge_expired_files-purged.ensures.model)
-    (c.note-claim.ensures.noted ∙ ap (λ (a : Answer). old.keeper ++ record { call = Purge Expired; answer = a } ∷ []) c.answer_to-answer.ensures) old.leads }
+    record {
+      leads = all_lead_more g.L.Opening.began old.keeper c.note-claim.new.self (Purge Expired) (answer_of c.purge_expired_files-purged.result) s t
+          (purge_steps (Vec ℕ) Expired c.purge_expired_files-purged.result s t c.purge_expired_files-purged.ensures.model)
+          (c.note-claim.ensures.noted ∙ ap (λ (a : Answer). old.keeper ++ record { call = Purge Expired; answer = a } ∷ []) c.answer_to-answer.ensures) old.leads;
+    }
 
 pub returns-clause-noted : goal.returns-clause-noted
 returns-clause-noted g c =

@@ -15,9 +15,11 @@ invariant_of-self g c =
     let old = c.args.self.now in
     let s = shows_of g.P.PipeLog.shown old.engine in
     let t = shows_of g.P.PipeLog.shown c.sync-synced.new.self in
-    record { leads = all_lead_more g.L.Opening.began old.keeper c.note-claim.new.self Sync (answer_of c.sync-synced.result) s t
-    (sync_steps c.sync-synced.result s t c.sync-synced.ensures.model)
-    (c.note-claim.ensures.noted ∙ ap (λ (a : Answer). old.keeper ++ record { call = Sync; answer = a } ∷ []) c.answer_to-answer.ensures) old.leads }
+    record {
+      leads = all_lead_more g.L.Opening.began old.keeper c.note-claim.new.self Sync (answer_of c.sync-synced.result) s t
+          (sync_steps c.sync-synced.result s t c.sync-synced.ensures.model)
+          (c.note-claim.ensures.noted ∙ ap (λ (a : Answer). old.keeper ++ record { call = Sync; answer = a } ∷ []) c.answer_to-answer.ensures) old.leads;
+    }
 
 pub returns-clause-noted : goal.returns-clause-noted
 returns-clause-noted g c =

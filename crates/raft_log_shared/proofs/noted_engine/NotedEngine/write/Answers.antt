@@ -11,8 +11,10 @@ invariant_of-self g c =
     let s = shows_of g.P.PipeLog.shown old.engine in
     let t = shows_of g.P.PipeLog.shown c.written.new.engine in
     let made = c.written.ensures in
-    record { leads = all_lead_more g.L.Opening.began old.keeper c.written.new.keeper (Write c.args.batch.now false) (answer_of c.written.result.0) s t
-    (write_steps c.args.batch.now c.written.result.0 s t made.model) made.noted old.leads }
+    record {
+      leads = all_lead_more g.L.Opening.began old.keeper c.written.new.keeper (Write c.args.batch.now false) (answer_of c.written.result.0) s t
+          (write_steps c.args.batch.now c.written.result.0 s t made.model) made.noted old.leads;
+    }
 
 pub returns-clause-home : goal.returns-clause-home
 returns-clause-home g c = ∣ c.written.ensures.home ∣₁

@@ -1,6 +1,6 @@
 -- A batch that was written and then synced is durable.
 use Rattle.std.proofs.Common.{◌≡◌, ◌<◌, ℕ, Bool, true, false, List, [], ◌∷◌, ◌++◌, length, map, Option, None, Some, inl, inr, refl, sym, ap, subst, ◌∙◌, arith, append_assoc}
-use Rattle.std.specs.Prelude.{Ok, is_some}
+use Rattle.std.specs.Prelude.{Ok}
 use Rattle.std.proofs.Math.Path.{fun_ext}
 use Rattle.std.proofs.lemmas.Bool.{false≢true, ltb-true}
 use Rattle.raft_log_model_laws.specs.Groups.{of_group, taken}
@@ -14,16 +14,16 @@ use Rattle.raft_log_world.specs.declared.event.Answer.TheVariants.{Done, Found, 
 use Rattle.raft_log_world.specs.declared.event.Call.{Call}
 use Rattle.raft_log_world.specs.declared.event.Call.TheVariants.{Write, Sync, Get, GetEntry, FirstIndex, LastIndex, Fetch, Scan, Compact, Purge}
 use Rattle.raft_log_world.specs.declared.event.Event.TheVariants.{Serve}
-use Rattle.raft_log_world.specs.Kept.{GrowsBy, IsPart, KeepsDurable, durable, pending_in, written_in}
+use Rattle.raft_log_world.specs.Kept.{IsPart, KeepsDurable, durable, pending_in, written_in}
 use Rattle.raft_log_world.specs.Model.{Adds, Answers, BatchRecord, FailsAt, HasWritten, ModelLog, RunsOn, compacts}
-use Rattle.raft_log_world.specs.Model.ModelLog.{resting, left, running, failed}
-use Rattle.raft_log_world.specs.Questions.{BatchesAreWhole, Continues, contents_of}
+use Rattle.raft_log_world.specs.Model.ModelLog.{running, failed}
+use Rattle.raft_log_world.specs.Questions.{BatchesAreWhole, contents_of}
 use Rattle.raft_log_world.specs.Reads.{Contents}
 use Rattle.raft_log_shared.specs.declared.served.Served.{Served}
-use Rattle.raft_log_shared.specs.Calls.{IsExplained, answer_of, events_of, synced, wrote}
+use Rattle.raft_log_shared.specs.Calls.{IsExplained, events_of, synced, wrote}
 use Rattle.raft_log_shared.specs.Durable.{IsDurable, SyncedWritesAreDurable, written_by}
 use Rattle.raft_log_shared.specs.History.{HasPart}
-use Rattle.raft_log_shared.specs.Receipts.{HasClaim, IsIn, IsStamped, Stamp, is_later, sync_as}
+use Rattle.raft_log_shared.specs.Receipts.{IsIn, IsStamped}
 
 taken_twice : (m : Contents) (xs ys : List BatchRecord) → taken (taken m xs) ys ≡ taken m (xs ++ ys)
 taken_twice m xs ys = fun_ext (λ g. fun_ext (λ s. sym (taken_append m g s xs ys)))

@@ -1,10 +1,9 @@
 -- Records and requests that were compared with a history.
-use Rattle.std.proofs.Common.{◌≡◌, ℕ, zero, suc, ◌+◌, ◌<◌, Bool, List, [], ◌∷◌, ◌++◌, length, take, set, get_or, slice_get, Option, None, Some, refl, sym, subst, ap, ◌∙◌, arith}
+use Rattle.std.proofs.Common.{◌≡◌, ℕ, zero, suc, ◌+◌, ◌<◌, List, [], ◌∷◌, ◌++◌, length, take, set, get_or, slice_get, Option, None, Some, refl, sym, subst, ap, ◌∙◌, arith}
 use Rattle.std.specs.List.{All}
 use Rattle.std.proofs.Math.Seq.{take-length}
 use Rattle.std.proofs.lemmas.List.{set-get_or}
 use Rattle.std.proofs.lemmas.List.Elements.{All-more}
-use Rattle.raft_log_record_batches.specs.Batch.{Batch}
 use Rattle.raft_log_shared.specs.declared.served.Served.{Served}
 use Rattle.raft_log_shared.specs.History.{HasPart}
 use Rattle.raft_log_shared.specs.Receipts.{IsIn, Stamp}

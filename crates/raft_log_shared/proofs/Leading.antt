@@ -1,5 +1,5 @@
 -- Each call of the engine is one of the model, and so the history explains all of them.
-use Rattle.std.proofs.Common.{◌≡◌, ℕ, false, List, [], ◌∷◌, ◌++◌, refl, sym, ap, subst, ◌∙◌}
+use Rattle.std.proofs.Common.{◌≡◌, ℕ, false, List, [], ◌∷◌, ◌++◌, refl, sym, subst}
 use Rattle.std.proofs.Math.Logic.{∥∥₁_map}
 use Rattle.std.specs.Prelude.{Err, Ok, Result, IfOk}
 use Rattle.raft_log_engine_laws.specs.EngineState.{EngineState, LogDirectories, said_of}

@@ -1,6 +1,6 @@
 -- The history of a shared engine: the calls that the engine served, in order, and how the model log of `raft_log_world`
 -- explains it. `began` are the logs that the engine had open when it was shared.
-use Rattle.std.specs.Prelude.{◌≡◌, ◌⊎◌, ◌++◌, Bool, true, false, List, [], ◌∷◌, map, Result, Ok, Err}
+use Rattle.std.specs.Prelude.{◌++◌, false, List, [], ◌∷◌, map, Result, Ok, Err}
 use Rattle.raft_log_engine_laws.specs.EngineState.{EngineState, LogDirectories, said_of}
 use Rattle.raft_log_engine_core.specs.ModelCalls.{IsEngineLog}
 use Rattle.raft_log_record_base.specs.declared.errors.Error.{Error}

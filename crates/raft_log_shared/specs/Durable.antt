@@ -1,5 +1,5 @@
 -- What a receipt with a sync says of the log: its batch is durable.
-use Rattle.std.specs.Prelude.{◌≡◌, ◌++◌, ℕ, true, List, [], ◌∷◌, length, Ok}
+use Rattle.std.specs.Prelude.{◌≡◌, ◌++◌, ℕ, true, List, ◌∷◌, length, Ok}
 use Rattle.raft_log_model_laws.specs.Groups.{taken}
 use Rattle.raft_log_engine_laws.specs.EngineState.{said_of}
 use Rattle.raft_log_record_batches.specs.Batch.{Batch}

@@ -1,7 +1,7 @@
 -- The history of an engine: the records of the calls that it served, in order. It exists in proofs alone. A keeper and
 -- each claim are passes of a cell of the standard library: values without bytes. The view of a pass says what the pass
 -- knows of the history.
-use Rattle.std.specs.Prelude.{◌≡◌, ℕ, List, [], ◌++◌, length, Bool, true, false}
+use Rattle.std.specs.Prelude.{◌≡◌, ℕ, List, [], ◌++◌, length, true, false}
 use mathlib.Core.Option.{some}
 use lib.ListN.{get_elem?}
 use Rattle.atomic_table.specs.Seated.{TableId}

@@ -3,7 +3,7 @@ use Rattle.raft_log_record_batches.specs.Batch.{Batch}
 use Rattle.raft_log_world.specs.declared.event.Answer.TheVariants.{Idle}
 use Rattle.raft_log_world.specs.declared.event.Call.{Call}
 use Rattle.raft_log_shared.specs.declared.served.Served.{Served}
-use Rattle.raft_log_shared.specs.Requests.{Wish, asked, wish_of}
+use Rattle.raft_log_shared.specs.Requests.{asked, wish_of}
 use Rattle.raft_log_shared.proofs.Ending.{claims_so}
 use Rattle.raft_log_shared.proofs.hall.noted_ask.Goals as goal
 

@@ -1,6 +1,4 @@
-use Rattle.std.proofs.Common.{◌≡◌, ℕ, ◌∷◌, [], ◌++◌, List, length, ap, ◌∙◌}
-use Rattle.raft_log_shared.specs.declared.served.Served.{Served}
-use Rattle.raft_log_shared.specs.Calls.{answer_of, wrote}
+use Rattle.std.proofs.Common.{◌∷◌, [], ◌++◌, length, ◌∙◌}
 use Rattle.raft_log_shared.proofs.noted_engine.written.Goals as goal
 
 pub returns-clause-noted : goal.returns-clause-noted

@@ -1,4 +1,4 @@
-use Rattle.std.proofs.Common.{◌≡◌, ◌++◌, List, map, ap, ◌∙◌}
+use Rattle.std.proofs.Common.{◌++◌, List, map, ap, ◌∙◌}
 use Rattle.raft_log_record_batches.specs.Batch.{Batch}
 use Rattle.raft_log_world.specs.declared.event.Call.{Call}
 use Rattle.raft_log_shared.proofs.Ending.{are_served, writes_are}

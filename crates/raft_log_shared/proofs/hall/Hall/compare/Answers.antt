@@ -1,4 +1,4 @@
-use Rattle.std.proofs.Common.{List, sym, subst, ◌∙◌}
+use Rattle.std.proofs.Common.{List, subst}
 use Rattle.raft_log_shared.specs.declared.served.Served.{Served}
 use Rattle.raft_log_shared.specs.Requests.{IsAsked, Wish}
 use Rattle.raft_log_shared.proofs.Finding.{same_wish}

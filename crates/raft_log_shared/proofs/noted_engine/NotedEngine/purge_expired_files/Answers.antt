@@ -1,4 +1,4 @@
-use Rattle.std.proofs.Common.{◌≡◌, ℕ, ◌∷◌, [], ◌++◌, List, sym, ap, subst, ◌∙◌}
+use Rattle.std.proofs.Common.{ℕ, ◌∷◌, [], ◌++◌, ap, ◌∙◌}
 use Rattle.std.specs.Global.{Vec}
 use Rattle.raft_log_engine_core.specs.Reads.{shows_of}
 use Rattle.raft_log_world.specs.declared.event.Answer.{Answer}

@@ -14,8 +14,9 @@ use Rattle.raft_log_shared.specs.Receipts.{IsIn, IsStamped, Stamp}
 abbrev pub written_by : List Served → List BatchRecord
 written_by history = written_in said_of (events_of history)
 
--- The batch was written at `place` of the history, and it is durable in the log `last`. Its record is there whole, after
--- some of the batches that were pending in `log` or written before, and before some of those that were written later.
+-- The batch was written at `place` of the history, and it is durable in the log `last`. Its record is there whole,
+-- after some of the batches that were pending in `log` or written before, and before some of those that were written
+-- later.
 pub record IsDurable (log : ModelLog) (history : List Served) (place : ℕ) (batch : Batch) (last : ModelLog)
     : Type 0 where
   pub old : List Served

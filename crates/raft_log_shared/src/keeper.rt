@@ -77,8 +77,8 @@ fn noted<X: Portion, R: Wait>(
     _answer: &Answer,
 ) -> HistoryPass
     requires cell { pass.old.table_id ≡ cell.now.table.shared.table_id }
-    requires knows { cell_view pass.old ≡ knows (cell_view pass.old).all }
-    requires first { X.first ≡ length (cell_view pass.old).all }
+    requires knows { (cell_view pass.old ≡ knows (cell_view pass.old).all)
+        × (X.first ≡ length (cell_view pass.old).all) }
     ensures same { pass.new.table_id ≡ pass.old.table_id }
     ensures noted { cell_view pass.new ≡ knows ((cell_view pass.old).all ++ X.part) }
     ensures named { (result.table_id ≡ pass.old.table_id) × (result.me.1 ≡ []) }

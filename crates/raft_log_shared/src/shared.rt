@@ -33,9 +33,9 @@ use std::thread;
 /// An engine that is lent to threads by reference.
 ///
 /// The engine is at a desk, under a lock that a caller holds while the engine works. Before that, callers hand in their
-/// batches at a hall, whose lock nobody holds for long. If nobody leads, a caller does: it writes all batches that wait,
-/// makes one sync if any caller waits for one, and wakes the callers. So writes that wait share a sync. A thread that
-/// takes both locks takes that of the desk first.
+/// batches at a hall, whose lock nobody holds for long. If nobody leads, a caller does: it writes all batches that
+/// wait, makes one sync if any caller waits for one, and wakes the callers. So writes that wait share a sync. A thread
+/// that takes both locks takes that of the desk first.
 #[derive(Drop)]
 pub struct SharedEngine<P: PipeLog, L: Opening>
 where
@@ -80,8 +80,8 @@ impl<P: PipeLog, L: Opening> SharedEngine<P, L> {
     /// engine has failed: each caller that waits for the sync gets `Failed`. A caller that didn't ask for a sync keeps
     /// its `Ok`: its batch was written, and a later open may find it.
     ///
-    /// The receipt proves that the history has the records of the write and of the sync. There is none, and the error is
-    /// `Memory`, if memory ran out before the engine was called; the batch is unchanged then.
+    /// The receipt proves that the history has the records of the write and of the sync. There is none, and the error
+    /// is `Memory`, if memory ran out before the engine was called; the batch is unchanged then.
     pub fn write<R: Wait + Log>(&self, rt: &R, batch: LogBatch, sync: bool) -> Written<L>
         ensures stamped { IfSome result.receipt (λ stamp. IsStamped batch sync result.result stamp) }
         ensures none { result.receipt ≡ None → (result.result ≡ Err errors.Memory) × (result.batch ≡ batch) }
@@ -148,8 +148,8 @@ impl<P: PipeLog, L: Opening> SharedEngine<P, L> {
         self.hall.lock(rt).put(rt, &self.asks, batch, sync)
     }
 
-    /// Waits until the answer to the request with this number is in the hall, and returns it, or until nobody leads. Then
-    /// this caller leads, and `None` is returned.
+    /// Waits until the answer to the request with this number is in the hall, and returns it, or until nobody leads.
+    /// Then this caller leads, and `None` is returned.
     fn wait<R: Wait>(&self, rt: &R, number: u64) -> Option<Done<L>>
         ensures { IfSome result (λ done. done.ask.number ≡ number) }
     {
@@ -209,8 +209,8 @@ impl<P: PipeLog, L: Opening> SharedEngine<P, L> {
         self.desk.lock(rt).get(raft_group_id, key)
     }
 
-    /// Appends the entries of a group from `begin` on and below `end` to `vec`, as the engine's `fetch_entries_to` does.
-    /// Returns how many they are.
+    /// Appends the entries of a group from `begin` on and below `end` to `vec`, as the engine's `fetch_entries_to`
+    /// does. Returns how many they are.
     pub fn fetch_entries_to<M: MessageExt, R: Wait>(
         &self,
         rt: &R,
@@ -236,8 +236,8 @@ impl<P: PipeLog, L: Opening> SharedEngine<P, L> {
         self.desk.lock(rt).confirm(rt, &self.history, receipts);
     }
 
-    /// Ends the sharing and returns the engine. By the history of its calls, each log that it had open when it was shared
-    /// became a log that it has open now. The history has the records of these receipts.
+    /// Ends the sharing and returns the engine. By the history of its calls, each log that it had open when it was
+    /// shared became a log that it has open now. The history has the records of these receipts.
     pub fn into_engine<R: Wait>(self, rt: &R, receipts: Vec<Receipt<L>>) -> LogEngine<P>
         ensures { ComesBack L.began (shows_of P.shown result) receipts.items }
     {

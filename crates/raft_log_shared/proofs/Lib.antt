@@ -1,0 +1,5 @@
+pub mod Moves
+pub mod Finding
+pub mod Leading
+pub mod Ending
+pub mod Durable

@@ -33,7 +33,7 @@ use Rattle.raft_log_open.specs.Reading.{ReadsQueues}
 use Rattle.raft_log_open.specs.declared.reading.ReadQueues.{ReadQueues}
 use Rattle.raft_log_open.proofs.Whole.{reads_queues}
 
--- why a file isn't read isn't told as an alignment
+-- no file is left unread for the reason `InvalidArgument`
 not_refused : (text : String Global) (mode : RecoveryMode) (last : Bool) (id : FileId) (handle : Handle) (d : Disk) → FailsToReadFound mode last id handle d (errors.InvalidArgument text) → ⊥
 not_refused text mode last id handle d (inl (inl never)) = never
 not_refused text mode last id handle d (inl (inr foreign)) = foreign.told

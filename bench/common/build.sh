@@ -6,7 +6,7 @@ build_program() {
     here="$(cd "$1" && pwd)"
     room="$2"
     shift 2
-    top="$(cd "$here/../.." && pwd)"
+    top="$(cd "$(dirname "${BASH_SOURCE[0]}")/../.." && pwd)"
     name="$(basename "$here")_bench"
     # the lines of crates.txt of these crates, and of those below them
     awk -v wanted="$*" '

@@ -3,7 +3,7 @@
 # runs both so many times, and prints the best of each. Each line that they print has the work, its MB/s (or what UNIT says) and
 # a sum, which must be the same.
 # Usage: bench/common/run.sh FOLDER ROUNDS CRATE..; the crates are those that main.rt.txt names. RT names the toolchain's command.
-# With FOLDER both are run in a new folder below it, which is emptied before each run.
+# ARGS are the arguments of both. With FOLDER both are run in a new folder below it, which is emptied before each run.
 # With CLOCK=processor both are measured by processor time, for a machine with other work beside. With CLOCK=heap the clock tells
 # the bytes of the heap that are in use, and a line tells what its work took of them: with UNIT=k/s bytes a piece, of a million.
 set -euo pipefail
@@ -27,7 +27,7 @@ fi
 apart() {
     local folder
     folder="$(mktemp -d "${FOLDER:-$room}/bench.XXXXXX")"
-    (cd "$folder" && "${clock[@]}" "$1") || { rm -rf "$folder"; exit 1; }
+    (cd "$folder" && "${clock[@]}" "$1" ${ARGS:-}) || { rm -rf "$folder"; exit 1; }
     rm -rf "$folder"
 }
 for _ in $(seq "$rounds"); do

@@ -132,6 +132,14 @@ int32_t dafirondo_compact_to(dafirondo *log, uint64_t group, uint64_t index, uin
 */
 int32_t dafirondo_purge(dafirondo *log, uint64_t *groups, size_t groups_len, size_t *needed);
 
+/* Does one step of what dafirondo_purge() does, so that a program can do other work between two steps. A step copies groups
+** until it has copied `budget` bytes, but at least one group. `more` becomes 1 if more may be due, else 0: repeat the call while
+** it is 1. `groups` gets the groups that the caller should compact. If it has no room for them, the step is done all the same,
+** and `more` is set too. After another error than DAFIRONDO_ROOM, `more` is unchanged.
+*/
+int32_t dafirondo_purge_some(dafirondo *log, uint64_t budget, uint64_t *groups, size_t groups_len, size_t *needed,
+                             uint64_t *more);
+
 /* The three calls below purge regardless of the thresholds. Each syncs Append first, ignores what is pinned, and changes
 ** nothing that the log returns. They fail with DAFIRONDO_FAILED, DAFIRONDO_IO, DAFIRONDO_TRY_AGAIN,
 ** DAFIRONDO_NUMBER_RANGE or DAFIRONDO_MEMORY.

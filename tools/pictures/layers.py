@@ -35,7 +35,7 @@ BOXES = [
     (204, 330, 652, 86, "#dbe9fb", "Engine", "write, sync, read, purge, close", "raft_log_",
      ["engine", "engine_core", "shared"], "LogEngine::write, LogEngine::purge_expired_files"),
     (204, 424, 276, 103, "#e4f0fd", "Purge", "copies what is live, then deletes files", "raft_log_",
-     ["purge", "purge_policy", "purge_copy"], "PurgesAndCounts"),
+     ["purge", "purge_steps", "purge_policy", "purge_copy"], "PurgesAndCounts"),
     (488, 424, 368, 103, "#e4f0fd", "Open", "recovers files; checks and forks logs", "raft_log_",
      ["recovery_scan", "recovery_read", "recovery", "open", "recovery_laws", "offline", "inspection"],
      "OpensDirectory, crashed_engines_open"),

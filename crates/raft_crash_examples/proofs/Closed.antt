@@ -11,7 +11,7 @@ use Rattle.raft_log_file_pipe.specs.declared.pipe_files.PipeFiles.{PipeFiles}
 use Rattle.raft_log_engine.specs.raft_log_fs.specs.Disk.{Disk, File}
 use Rattle.raft_log_engine.specs.raft_log_fs.specs.Calls.{flushed}
 use Rattle.raft_log_engine.specs.raft_log_fs.specs.Image.{IsSound, as_it_stands}
-use Rattle.raft_log_engine.specs.raft_log_fs.proofs.ImageLaws.{stands_is_image}
+use Rattle.raft_log_engine.specs.raft_log_fs.proofs.Public.{stands_is_image}
 use Rattle.raft_log_engine.specs.raft_log_memtables.specs.Views.{view_of}
 use Rattle.raft_log_engine.specs.raft_log_dual_pipes.specs.Closing.{IsOrIsSettled, LiesClosed, closed_log}
 use Rattle.raft_log_engine.specs.raft_log_dual_pipes.specs.ClosingCalls.{ClosesLog}

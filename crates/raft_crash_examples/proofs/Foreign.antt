@@ -3,7 +3,7 @@ use Rattle.std.proofs.Common.{◌+◌, ℕ, List, [], ◌∷◌, ◌++◌, lengt
 use Rattle.std.proofs.lemmas.List.{drop_at}
 use Rattle.raft_log_file_writer.specs.LawsChains.{LiesIn, Meets, spelled}
 use Rattle.raft_log_file_writer.specs.LogFormat.{Format, IsFormat}
-use Rattle.raft_log_file_writer.proofs.LawsChainLaws.{frame_filled, frames_append, spelled-append}
+use Rattle.raft_log_file_writer.proofs.Public.{frame_filled, frames_append, spelled-append}
 use Rattle.raft_log_file_pipe.specs.declared.pipe_files.PipeFiles.{PipeFiles}
 use Rattle.raft_log_engine.specs.raft_log_record_base.specs.declared.pipe_log.LogQueue.TheVariants.{Append, Rewrite}
 use Rattle.raft_log_engine.specs.raft_log_fs.specs.Disk.{Disk}

@@ -9,4 +9,3 @@ mod Said
 pub mod Served
 mod Steps
 mod Valued
-pub mod Voted

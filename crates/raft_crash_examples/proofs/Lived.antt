@@ -3,7 +3,7 @@ use Rattle.std.proofs.Common.{◌≡◌, ◌∙◌, ℕ, List, [], ◌∷◌, �
 use Rattle.std.proofs.lemmas.List.{map-append}
 use Rattle.std.specs.Prelude.{Some}
 use Rattle.raft_log_machine_laws.specs.Fresh.{nothing_stands}
-use Rattle.raft_log_machine_laws.proofs.Follows.{taken_twice}
+use Rattle.raft_log_machine_laws.proofs.Public.{taken_twice}
 use Rattle.raft_log_engine.specs.raft_log_model_laws.specs.Groups.{taken}
 use Rattle.raft_log_engine.specs.raft_log_fs.specs.Disk.{Disk, empty_disk}
 use Rattle.raft_log_engine.specs.raft_log_file_settings.specs.declared.config.Config.{Config}

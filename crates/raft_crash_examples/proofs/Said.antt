@@ -4,21 +4,21 @@ use Rattle.std.specs.Prelude.{IsTrue, Ok, unwrap_or}
 use Rattle.std.specs.Global.{Vec}
 use Rattle.std.proofs.lemmas.Bool.{false≢true, false_from_ne_true}
 use Rattle.std.proofs.lemmas.List.{drop_more}
-use Rattle.raft_log_machine_laws.proofs.Follows.{taken_twice}
+use Rattle.raft_log_machine_laws.proofs.Public.{taken_twice}
 use Rattle.raft_log_engine.specs.raft_log_model_laws.specs.Groups.{taken}
 use Rattle.raft_log_engine.specs.raft_log_model_laws.specs.Item.{items_of}
 use Rattle.raft_log_engine.specs.raft_log_model_laws.specs.Item.Item.{Put}
 use Rattle.raft_log_engine.specs.raft_log_model_laws.specs.Item.Record.{Plain}
 use Rattle.raft_log_engine.specs.raft_log_model_laws.specs.Meaning.{Content, says}
 use Rattle.raft_log_engine.specs.raft_log_model_laws.specs.Meaning.Slot.{Key}
-use Rattle.raft_log_engine.specs.raft_log_model_laws.proofs.Tests.{put_sets}
+use Rattle.raft_log_engine.specs.raft_log_model_laws.proofs.Public.{put_sets}
 use Rattle.raft_log_engine.specs.raft_log_record_items.specs.declared.entry.EntryIndex.{EntryIndex}
 use Rattle.raft_log_engine.specs.raft_log_record_items.specs.declared.item.LogItem.{LogItem}
 use Rattle.raft_log_engine.specs.raft_log_record_items.specs.Items.{put_item}
 use Rattle.raft_log_engine.specs.raft_log_record_frames.specs.Key.{is_internal}
 use Rattle.raft_log_engine.specs.raft_log_record_frames.specs.Meaning.{IsUsers, marked, record_of, tagged, tagged_items, unless_mark}
 use Rattle.raft_log_engine.specs.raft_log_record_frames.specs.declared.marking.Marking.{Marking}
-use Rattle.raft_log_engine.specs.raft_log_record_frames.proofs.Meanings.{keeps_mark, no_mark_key}
+use Rattle.raft_log_engine.specs.raft_log_record_frames.proofs.Public.{keeps_mark, no_mark_key}
 use Rattle.raft_log_engine.specs.raft_log_record_batches.specs.Batch.{Batch, Puts, empty_batch}
 use Rattle.raft_log_engine.specs.raft_log_record_batches.specs.Places.{entry_bytes}
 use Rattle.raft_log_engine.specs.raft_log_dual_pipes.specs.Pipes.{LogRecordValue}

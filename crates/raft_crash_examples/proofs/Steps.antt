@@ -18,7 +18,7 @@ use Rattle.raft_log_engine.specs.raft_log_engine_laws.specs.Reading.{StandsUnder
 use Rattle.raft_log_recovery_laws.specs.ByCalls.{home_of}
 use Rattle.raft_log_recovery_laws.specs.Closed.{ClosesProperly}
 use Rattle.raft_log_recovery_laws.specs.Running.{LeavesNoChance}
-use Rattle.raft_log_recovery_laws.proofs.ProperCloses.{answered_closes_are_proper}
+use Rattle.raft_log_recovery_laws.proofs.Public.{answered_closes_are_proper}
 use Rattle.raft_log_world.specs.declared.event.Answer.TheVariants.{Done}
 use Rattle.raft_log_world.specs.declared.event.Event.TheVariants.{Open}
 use Rattle.raft_log_world.specs.Model.{LosesSome, ModelLog}

@@ -6,7 +6,7 @@ use Rattle.raft_log_engine.specs.raft_log_model_laws.specs.Groups.{taken}
 use Rattle.raft_log_engine.specs.raft_log_model_laws.specs.Meaning.{Content, says}
 use Rattle.raft_log_engine.specs.raft_log_model_laws.specs.Meaning.Slot.{Key}
 use Rattle.raft_log_engine.specs.raft_log_model_laws.specs.Meaning.Content.{Value}
-use Rattle.raft_log_machine_laws.proofs.Follows.{taken_twice}
+use Rattle.raft_log_machine_laws.proofs.Public.{taken_twice}
 use Rattle.raft_log_engine.specs.raft_log_engine_laws.specs.EngineState.{LogMap}
 use Rattle.raft_log_engine.specs.raft_log_engine_laws.specs.Reading.{StandsUnder}
 use Rattle.raft_crash_examples.specs.declared.changing.KeyChange.{KeyChange}

@@ -26,15 +26,15 @@ abbrev pub said_by_both : KeyChange → KeyChange → LogRecordValue
 said_by_both one other = Plain (record { group = one.group; item = word_of one.key.items one.value }
     ∷ record { group = other.group; item = word_of other.key.items other.value } ∷ [])
 
--- The log had the contents `m` before a write of the batch. Now it is `log`. The write succeeded if `answered` is true.
--- - `either`: the log has `m` without the batch, or with it; or the engine has failed, and the batch is pending.
+-- A log with the contents `m` became `log` by a write of the batch. The write succeeded if `answered` is true.
+-- - `either`: the contents are `m`, or `m` with the batch; or the engine has failed, and the batch is pending.
 -- - `has`: if the write succeeded, the log has `m` with the batch, durably.
 pub record MayHave (answered : Bool) (m : LogMap) (batch : LogRecordValue) (log : ModelLog) : Type 0 where
   pub either : IsOpenWith m [] log ⊎ (log ≡ running (taken m (batch ∷ [])) []) ⊎ (log ≡ failed m (batch ∷ []))
   pub has : answered ≡ true → log ≡ running (taken m (batch ∷ [])) []
 
--- Both changes were written in one batch with a sync. The write succeeded if `answered` is true, and failed otherwise.
--- If the log had the contents `m`, with nothing pending, it now is as `MayHave` says.
+-- A write of both changes, in one batch with a sync, succeeded if `answered` is true, and failed otherwise. If the log
+-- had the contents `m` before, with nothing pending, `MayHave` says what it has now.
 abbrev pub TriesBoth : KeyChange → KeyChange → Bool → EngineState → EngineState → Type 0
 TriesBoth one other answered s t = (home : LogDirectories) (m : LogMap) → Represents home s m []
     → HasLog home t (MayHave answered m (said_by_both one other))
@@ -44,7 +44,7 @@ abbrev pub ReadsBoth : EngineState → KeyChange → KeyChange → Option (List 
 ReadsBoth e one other first second = ReadsValue e one.group one.key.items first
     × ReadsValue e other.group other.key.items second
 
--- the log of these settings was opened, and both changes were written in one batch with a sync, as `TriesBoth` says
+-- the log of these settings was opened, and a write of both changes in one batch ended as `TriesBoth` says
 abbrev pub TriesToWrite : {F : Type 0} → (F → Disk) → (F → List ℕ → ℕ → Type 0) → Config → KeyChange → KeyChange → F
     → Bool → EngineState → Type 0
 TriesToWrite disk tells config one other old answered engine =
@@ -56,7 +56,7 @@ abbrev pub LoadsBoth : {F : Type 0} → (F → Disk) → (F → List ℕ → ℕ
 LoadsBoth disk tells config one other old first second =
     OpensAnd disk tells config old (λ opened. ReadsBoth opened one other first second)
 
--- each key has the value that it has after both changes, in this order
+-- neither key had a value at first, and `first` and `second` are the values of the two keys after both changes
 abbrev pub AreBoth : KeyChange → KeyChange → Option (List ℕ) → Option (List ℕ) → Type 0
 AreBoth one other first second = (first ≡ value_behind one.group one.key.items (one ∷ other ∷ []) None)
     × (second ≡ value_behind other.group other.key.items (one ∷ other ∷ []) None)
@@ -65,9 +65,9 @@ AreBoth one other first second = (first ≡ value_behind one.group one.key.items
 abbrev pub IsNeither : Option (List ℕ) → Option (List ℕ) → Type 0
 IsNeither first second = (first ≡ None) × (second ≡ None)
 
--- Two changes were written in one batch, the power went, and both keys were read. Suppose that there was no log at
--- first, both settings name the same directories, and there is no CRC collision. Then both keys have the values of the
--- changes, or neither has a value. If the write succeeded, both have them.
+-- A write of two changes in one batch succeeded or failed, the power went, and both keys were read. Suppose that there
+-- was no log at first, both settings name the same directories, and there is no CRC collision. Then both keys have
+-- their values after both changes (`AreBoth`), or neither has a value. If the write succeeded, `AreBoth` holds.
 pub record WritesBothOrNeither {F : Type 0} (disk : F → Disk) (tells : F → List ℕ → ℕ → Type 0) (config : Config)
     (one other : KeyChange) (again : Config) (old : F) (answered : Bool) (first second : Option (List ℕ))
     : Type 0 where

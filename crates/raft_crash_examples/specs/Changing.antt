@@ -16,7 +16,7 @@ use Rattle.raft_log_engine.specs.raft_log_engine_laws.specs.Holding.{Represents}
 use Rattle.raft_log_world.specs.Model.{HasWritten, ModelLog}
 use Rattle.raft_crash_examples.specs.declared.changing.KeyChange.{KeyChange}
 
--- the item that a change adds to a record: it puts the value at the key, or deletes the key if there is none
+-- the item that a change adds to a record: it puts the value at the key, or deletes the key if there is no value
 abbrev pub word_of : List ℕ → Option (Vec ℕ) → Item (List ℕ) (List ℕ)
 word_of key None = Del key
 word_of key (Some value) = Put key value.items
@@ -25,7 +25,7 @@ word_of key (Some value) = Put key value.items
 abbrev pub said_by : KeyChange → LogRecordValue
 said_by c = Plain (record { group = c.group; item = word_of c.key.items c.value } ∷ [])
 
--- the item that a change adds to a batch: it puts the value at the key, or deletes the key if there is none
+-- the item that a change adds to a batch: it puts the value at the key, or deletes the key if there is no value
 abbrev pub item_of : ℕ → List ℕ → Option (Vec ℕ) → LogItem
 item_of group key None = del_item group key
 item_of group key (Some value) = put_item group key value.items

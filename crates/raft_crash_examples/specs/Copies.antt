@@ -11,8 +11,8 @@ use Rattle.raft_crash_examples.specs.declared.lives.Life.{Life}
 use Rattle.raft_crash_examples.specs.Lives.{AllLiveIn, LivesOn, LivesWithoutChance}
 use Rattle.raft_crash_examples.specs.Saving.{Loads}
 
--- The log of settings `config` was copied into the directory `target`, and `found` was read at the key from the copy,
--- with settings `to`.
+-- The log of settings `config` was copied into the directory `target`. Then the log of settings `to` was opened, and
+-- `found` was read at the key.
 pub record LoadsCopy {F : Type 0} (disk : F → Disk) (tells : F → List ℕ → ℕ → Type 0) (config : Config)
     (target : List ℕ) (to : Config) (group : ℕ) (key : List ℕ) (old : F) (found : Option (List ℕ)) : Type 0 where
   pub after : F
@@ -20,10 +20,10 @@ pub record LoadsCopy {F : Type 0} (disk : F → Disk) (tells : F → List ℕ �
   pub forks : Forks (settings_of config) target copied (disk old) (disk after)
   pub loads : Loads disk tells to group key after found
 
--- A log had any number of lives (each with an open, changes, and an end). Each end was a close or a crash, without a
--- CRC collision. There was no log at first. Then a read of a key gives the same value from the log as from a copy of
--- it. The log's settings need only name its directories, and the copy's settings only its directory. No directory in
--- the copy's directory has the name of a log file.
+-- Suppose that there was no log at first, and then it had any number of lives without a CRC collision. A life is an
+-- open, changes, and a close or a crash. Suppose also that no directory in the copy's target has the name of a log
+-- file. Then a read of a key gives the same value from the log as from the copy. The log's settings need only name its
+-- directories, and the copy's settings only the target.
 abbrev pub CopiesReadAlike : {F : Type 0} → (F → Disk) → (F → List ℕ → ℕ → Type 0) → Type 0 → Type 0
 CopiesReadAlike {F} disk tells C = (lives : List (Life C)) (config : Config) (old left : F)
     → IsBare config (disk old) → AllLiveIn (home_of config) lives → (on : LivesOn disk tells lives old left)

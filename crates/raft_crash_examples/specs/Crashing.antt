@@ -1,5 +1,5 @@
--- Starting a log, saving a key's value in it, and losing power. `disk` gives the disk of a file system's state, and
--- `tells` which sizes it may return as a directory's free space.
+-- Starting a log, saving a key's value in it, and losing power. `disk` gives the disk of a file system's state. `tells`
+-- says which sizes the file system may return as a directory's free space.
 use Rattle.std.specs.Prelude.{◌≡◌, ℕ, List, Option, Some}
 use Rattle.raft_log_engine.specs.raft_log_fs.specs.Disk.{Disk, empty_disk}
 use Rattle.raft_log_engine.specs.raft_log_fs.specs.Image.{IsImage}

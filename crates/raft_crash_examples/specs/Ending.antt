@@ -15,7 +15,7 @@ use Rattle.raft_log_recovery_laws.specs.Running.{LeavesNoChance, active_header, 
 use Rattle.raft_crash_examples.specs.declared.ending.Ending.{Ending}
 use Rattle.raft_crash_examples.specs.declared.ending.Ending.TheVariants.{Close, Crash}
 
--- A close of engine `e`, which may succeed or fail, left the disk `d`. Both disks are sound.
+-- A close of engine `e`, which may succeed or fail, left the disk `d`. The disk before the close and `d` are sound.
 -- - `held`: unless the engine had failed before, the closed log is on `d`.
 -- - `proper`: if the close succeeded, it was proper.
 pub record Closes (succeeded : Bool) (e : EngineState) (d : Disk) : Type 0 where
@@ -29,10 +29,10 @@ abbrev pub Ends : {C : Type 0} → Ending C → EngineState → Disk → Type 0
 Ends (Crash what) e d = IsImage e.pipes.disk d
 Ends Close e d = (succeeded : Bool) × Closes succeeded e d
 
--- `file`, the pipe's active file as a close left it, has no CRC collision:
+-- `file`, the pipe's active file as a close left it, has no CRC collision. `before` is this file before the close.
 -- - It begins with no header other than its own.
--- - Each record in it is one that the pipe wrote there, or that was passed to an unsynced write at that offset.
--- - It doesn't read as a file with an alignment.
+-- - The pipe wrote each record in it at the record's offset, or passed the record to an unsynced write at that offset.
+-- - It doesn't read as a file with an alignment, which this log never writes.
 pub record MeetsWritten (F : Format LogRecord) (files : PipeFiles) (before file : File) : Type 0 where
   pub headers : (other : List ℕ) → HasHeader F other file.content → other ≡ active_header files
   pub records : (at : ℕ) (w : Written LogRecord)

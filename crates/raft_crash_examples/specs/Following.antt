@@ -16,7 +16,7 @@ pub record LivesFollowTheModel {F : Type 0} (disk : F → Disk) (tells : F → L
   pub crashes : EngineCrashesFollowTheModel (Unit {0}) disk
   pub closes : ClosedFilesMeetThePremise
 
--- The log of engine `e`, in the directories `home`, is the log `log` of the model, and `which` holds of that.
+-- The log of engine `e`, in the directories `home`, is the model's log `log`, and `which` holds of `log`.
 pub record HasLog (home : LogDirectories) (e : EngineState) (which : ModelLog → Type 0) : Type 0 where
   pub log : ModelLog
   pub is : IsEngineLog home e log

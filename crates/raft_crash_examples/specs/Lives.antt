@@ -19,7 +19,8 @@ abbrev pub OpensAndChanges : {F : Type 0} → (F → Disk) → (F → List ℕ �
 OpensAndChanges disk tells config changes old engine =
     OpensAnd disk tells config old (λ opened. ChangesKeys changes opened engine)
 
--- One life of a log: it was opened with settings that name its directories, the changes were written, and it ended.
+-- One life of a log. It was opened with settings that name the same directories as those of `life`. Then the changes of
+-- `life` were written, and the engine ended as `life` says.
 pub record LivesOnce {F C : Type 0} (disk : F → Disk) (tells : F → List ℕ → ℕ → Type 0) (life : Life C)
     (old new : F) : Type 0 where
   pub config : Config

@@ -1,5 +1,5 @@
--- Changing keys of a log, purging it, and losing power. `disk` gives the disk of a file system's state, and `tells`
--- which sizes it may return as a directory's free space.
+-- Changing keys of a log, purging it, and losing power. `disk` gives the disk of a file system's state. `tells` says
+-- which sizes the file system may return as a directory's free space.
 use Rattle.std.specs.Prelude.{◌≡◌, ℕ, List, [], Option, None, map}
 use Rattle.raft_log_machine_laws.specs.Fresh.{nothing_stands}
 use Rattle.raft_log_engine.specs.raft_log_model_laws.specs.Groups.{taken}
@@ -18,7 +18,7 @@ use Rattle.raft_crash_examples.specs.Lives.{OpensAndChanges}
 use Rattle.raft_crash_examples.specs.Saving.{Loads}
 
 -- The engine `t` is `s` after purges. If the log of `s` had the contents `m`, with nothing pending, so has the log of
--- `t`. Each of the two engines runs; or it has failed, and its files can be opened.
+-- `t`. Each engine runs, or it has failed and left files that can be opened.
 abbrev pub KeepsTheMap : EngineState → EngineState → Type 0
 KeepsTheMap s t = (home : LogDirectories) (m : LogMap) → HasLog home s (IsOpenWith m [])
     → HasLog home t (IsOpenWith m [])
@@ -28,8 +28,9 @@ abbrev pub map_of : List KeyChange → LogMap
 map_of changes = taken nothing_stands (map said_by changes)
 
 -- A log was opened with the settings `config`, its keys were changed, and purges succeeded or failed. Then there was a
--- crash, and an open with the settings `again` read a key. Suppose that there was no log at first, both settings name
--- the same directories, and there is no CRC collision. Then the value read is that of the key after the changes.
+-- crash, the log was opened with the settings `again`, and a key was read. Suppose that there was no log at first, both
+-- settings name the same directories, and there is no CRC collision. Then the value read is that of the key after the
+-- changes.
 pub record ReadsBehindPurges {F : Type 0} (disk : F → Disk) (tells : F → List ℕ → ℕ → Type 0) (config : Config)
     (changes : List KeyChange) (again : Config) (group : ℕ) (key : List ℕ) (old : F) (found : Option (List ℕ))
     : Type 0 where

@@ -28,16 +28,18 @@ pub record ChangesAndCloses {F : Type 0} (disk : F → Disk) (tells : F → List
   pub changed : OpensAndChanges disk tells config changes old engine
   pub closes : ClosesProperly engine.pipes (disk left)
 
--- A log was opened, changed and closed twice, and then a key was read. Suppose that there was no log at first, and all
--- settings name the same directories. Then the key has the value that it has after all changes.
+-- A log was opened, changed and closed twice: first with the changes `before`, then with `after`. Then `found` was read
+-- at a key. Suppose that there was no log at first, and all settings name the same directories. Then `found` is the
+-- value that the key has after all changes.
 abbrev pub ReadsAllChanges : {F : Type 0} → (F → Disk) → (first second last : Config) → (before after : List KeyChange)
     → (group : ℕ) (key : List ℕ) (old : F) (found : Option (List ℕ)) → Type 0
 ReadsAllChanges disk first second last before after group key old found = IsBare first (disk old)
     → home_of second ≡ home_of first → home_of last ≡ home_of first
     → found ≡ value_behind group key (before ++ after) None
 
--- A close left the pipe's active file. It begins with all that the pipe wrote to it, which are whole records, and then
--- has another record of the file. That record wasn't passed to an unsynced write at its offset.
+-- `file` is the pipe's active file after a close. It has its header, then `own`, which are all records that the pipe
+-- wrote to it, and then `foreign`, another record of this file. `foreign` wasn't passed to an unsynced write at its
+-- offset.
 pub record LeavesForeignBehind (F : Format LogRecord) (files : PipeFiles) (old new : Disk) : Type 0 where
   pub before : File
   pub was : old.files files.writer.handle.file ≡ Some before
@@ -57,7 +59,7 @@ pub record LeavesForeignBehind (F : Format LogRecord) (files : PipeFiles) (old n
   pub unhanded : IsHandedIn file.changes (length (active_header files) + length (spelled own)) foreign.bytes → ⊥
 
 -- If a close leaves such a record in either queue (`LeavesForeignBehind`), there is a CRC collision. A close that fails
--- may leave one, in a recycled file.
+-- may leave such a record, in a recycled file.
 abbrev pub ForeignRecordsBehindACloseAreChance : Type 0
 ForeignRecordsBehindACloseAreChance = (home : LogDirectories) (e : EngineState) (m : LogMap)
     (pending : List LogRecordValue) → Represents home e m pending → (d : Disk)

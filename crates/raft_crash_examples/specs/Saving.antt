@@ -18,7 +18,7 @@ put_of group key value = Plain (record { group = group; item = Put key value } �
 abbrev pub PutsKey : ℕ → List ℕ → List ℕ → Bool → EngineState → EngineState → Type 0
 PutsKey group key value sync s t = WritesRecord (put_of group key value) sync s t
 
--- the log of these settings was opened, and a value was saved at a key, which a sync made durable
+-- the log of these settings was opened, and a value was put at a key with a sync
 abbrev pub Saves : {F : Type 0} → (F → Disk) → (F → List ℕ → ℕ → Type 0) → Config → ℕ → List ℕ → List ℕ → F
     → EngineState → Type 0
 Saves disk tells config group key value old engine =

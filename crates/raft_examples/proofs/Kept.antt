@@ -2,7 +2,7 @@
 use Rattle.std.proofs.Common.{◌≡◌, ℕ, true, List, subst}
 use Rattle.raft_voter_messages.specs.declared.reply.VoterState.{VoterState}
 use Rattle.raft_voter_messages.specs.StoredForms.{IsState, state_fits, state_text}
-use Rattle.raft_voter_messages.proofs.Bytes.{state_read_back}
+use Rattle.raft_voter_messages.proofs.Public.{state_read_back}
 
 -- a state that is read from what was written of one is that state, but for what is known of its log
 pub read_back :

@@ -2,9 +2,7 @@
 use Rattle.std.proofs.Common.{◌≡◌, ℕ, Some, List, [], refl, ◌∙◌, ap}
 use Rattle.raft_log_fs.specs.Disk.{Wrote, File, Disk, at_rest, overwritten}
 use Rattle.raft_log_fs.specs.Calls.{created, after_change, flushed, Changes, Creates}
-use Rattle.raft_log_fs.proofs.Updates.{file_here}
-use Rattle.raft_log_fs.proofs.ChangeLaws.{overwritten_at_end}
-use Rattle.raft_log_fs.proofs.TouchingLaws.{has_done}
+use Rattle.raft_log_fs.proofs.Public.{file_here, has_done, overwritten_at_end}
 
 pub saved : (path : List ℕ) (id : ℕ) (bytes : List ℕ) (old made written new : Disk) → Creates path id old made → Changes id (after_change (Wrote 0 bytes)) made written
     → Changes id flushed written new → new.files id ≡ Some (at_rest bytes)

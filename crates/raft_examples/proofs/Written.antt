@@ -9,7 +9,7 @@ use Rattle.raft_log_extents.specs.declared.place.Place.{Place}
 use Rattle.raft_log_extents.specs.Entries.{place_in, place_of, run_of}
 use Rattle.raft_log_memtable_index.specs.Shown.{span, MayFollow, Shown}
 use Rattle.raft_log_memtable.specs.Room.{promised, CanTake, IsReady, Promise}
-use Rattle.raft_log_memtable.proofs.Ready.{ready_can, ready_more, ready_none, ready_renamed}
+use Rattle.raft_log_memtable.proofs.Public.{ready_can, ready_more, ready_none, ready_renamed}
 
 -- the place in this block
 in_block : FileBlockHandle → Place → Place

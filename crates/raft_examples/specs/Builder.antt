@@ -8,8 +8,8 @@ use Rattle.raft_log_recovery.specs.Recovering.{RecoversLog}
 use Rattle.raft_log_recovery.specs.Scanning.{ScansLog}
 use Rattle.raft_log_recovery.specs.declared.builder.DualPipesBuilder.{DualPipesBuilder}
 
--- The files of the log with the settings `config` were found, and the batches of its queues were read into `append` and
--- `rewrite`. `old` and `new` are the disk before and after.
+-- A scan found the files of the log with the settings `config`. The replay machine `append` has read Append's files,
+-- and `rewrite` those of Rewrite. Damaged files were truncated. `old` and `new` are the disk before and after.
 pub record ReadsInto {M : Type 0} (reads : LogQueue → List Batch → M → Type 0) (config : Config)
     (append rewrite : M) (old new : Disk) : Type 0 where
   pub begun : DualPipesBuilder

@@ -5,7 +5,8 @@ use Rattle.raft_log_file_settings.specs.declared.recovery_mode.RecoveryMode.{Rec
 use Rattle.raft_log_recovery_scan.specs.Scanned.{Scans}
 use Rattle.raft_log_recovery_scan.specs.declared.scanning.ScannedFiles.{ScannedFiles}
 
--- the directories were scanned; `append` and `rewrite` are how many files of each queue were found and kept
+-- The directories were scanned. `append` and `rewrite` are how many files each queue has after the last gap in its
+-- numbers.
 pub record FindsFiles (directories : List (List ℕ)) (mode : RecoveryMode) (append rewrite : ℕ)
     (old new : Disk) : Type 0 where
   pub scanned : ScannedFiles

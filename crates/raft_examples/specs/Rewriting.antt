@@ -1,4 +1,4 @@
--- What the example that rewrites one group does, with the parts of a purge. `s` and `t` are the engine's states before
+-- What the example does that rewrites one group; it calls parts of a purge. `s` and `t` are the engine's states before
 -- and after.
 use Rattle.std.specs.Prelude.{ℕ}
 use Rattle.raft_log_machine_laws.specs.Calls.Which.{InAppend, InRewrite}
@@ -9,7 +9,7 @@ use Rattle.raft_log_purge_copy.specs.Groups.{RewritesGroup}
 use Rattle.raft_log_purge_copy.specs.Marks.{CarriesMarks}
 
 -- Append was synced, and the owed tombstones were written. Then what `group` has in files of Append up to `gate` was
--- rewritten, and Rewrite was synced.
+-- copied to Rewrite, and Rewrite was synced.
 pub record MovesGroup (group gate : ℕ) (s t : EngineState) : Type 0 where
   pub synced : LogPipes
   pub syncs : SyncsQueue InAppend s.pipes synced

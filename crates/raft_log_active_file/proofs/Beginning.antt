@@ -8,11 +8,7 @@ use Rattle.raft_log_fs.specs.Image.{IsSound}
 use Rattle.raft_log_fs.specs.Calls.{created, counted, at_stop}
 use Rattle.raft_log_file_writer.specs.LogFormat.{Format, IsFormat}
 use Rattle.raft_log_file_writer.specs.LogQueue.{Past, IsAbsent}
-use Rattle.raft_log_fs.proofs.Updates.{name_case, name_here, name_apart, file_apart}
-use Rattle.raft_log_fs.proofs.ImageLaws.{named_is_used}
-use Rattle.raft_log_fs.proofs.NamesLaws.{creation_leaves}
-use Rattle.raft_log_fs.proofs.KeptLaws.{IsCalm}
-use Rattle.raft_log_fs.proofs.TouchingLaws.{names_then}
+use Rattle.raft_log_fs.proofs.Public.{creation_leaves, file_apart, name_apart, name_case, name_here, named_is_used, names_then, IsCalm}
 use Rattle.raft_log_active_file.specs.States.{IsNew}
 use Rattle.raft_log_active_file.specs.Standing.{Names, OwnsPaths, Stands}
 use Rattle.raft_log_active_file.specs.Beginning.{IsFresh, fresh_queue, BeginsNumbered}

@@ -16,9 +16,7 @@ use Rattle.raft_log_file_writer.specs.LogQueue.{Past, LogFiles, IsAbsent}
 use Rattle.raft_log_fs.specs.Touching.{TouchesOnly}
 use Rattle.raft_log_fs.specs.declared.handle.Handle.{Handle}
 use Rattle.raft_log_fs.specs.declared.handle.Permission.TheVariants.{ReadWrite}
-use Rattle.raft_log_fs.proofs.KeptLaws.{IsCalm, kept_create, calm_either}
-use Rattle.raft_log_fs.proofs.CauseLaws.{fails_whole, fails_after}
-use Rattle.raft_log_fs.proofs.NamesLaws.{creation_leaves}
+use Rattle.raft_log_fs.proofs.Public.{calm_either, creation_leaves, fails_after, fails_whole, kept_create, IsCalm}
 use Rattle.raft_log_file_writer.specs.declared.writer.LogFileWriter.{LogFileWriter}
 use Rattle.raft_log_active_file.specs.Queue.{with_room}
 use Rattle.raft_log_active_file.specs.States.{IsNew}

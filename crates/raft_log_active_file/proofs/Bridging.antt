@@ -12,7 +12,7 @@ use Rattle.raft_log_file_writer.specs.LawsChains.{Written}
 use Rattle.raft_log_file_writer.specs.KeepsSynced.{kept_records}
 use Rattle.raft_log_file_writer.specs.LogFormat.{Format, IsFormat}
 use Rattle.raft_log_file_writer.specs.LogQueue.{Past, LogFiles, Found, IsThere, IsAbsent, ReadsFiles, HoldsLast, IsLeftover, EndsInOnePlace, past_from, found_from, recent, rotated}
-use Rattle.raft_log_file_writer.proofs.LogQueueLaws.{queue_is_kept}
+use Rattle.raft_log_file_writer.proofs.Public.{queue_is_kept}
 use Rattle.raft_log_active_file.specs.Queue.{with_more, synced}
 use Rattle.raft_log_active_file.specs.Bridge.{said, filed, logged, IsFileQueue, ReadsAsFiles, StepsTo, GapsStay}
 use Rattle.raft_log_active_file.specs.NumberedLaws.{ReadsAsNumbered, TakesNumberedSteps}

@@ -12,8 +12,7 @@ use Rattle.raft_log_fs.specs.Image.{IsSound}
 use Rattle.raft_log_file_writer.specs.LawsChains.{Written, spelled}
 use Rattle.raft_log_file_writer.specs.LogFormat.{Format, IsFormat}
 use Rattle.raft_log_file_writer.specs.LogQueue.{LogFiles, HoldsLast, recent}
-use Rattle.raft_log_fs.proofs.CauseLaws.{fails_still, fails_after}
-use Rattle.raft_log_fs.proofs.TouchingLaws.{same_file}
+use Rattle.raft_log_fs.proofs.Public.{fails_after, fails_still, same_file}
 use Rattle.raft_log_fs.specs.declared.handle.Handle.{Handle}
 use Rattle.raft_log_file_writer.specs.Writer.{IsWritten, KeepsWritten, WritesAtPlace, FailsToWriteAt, WritesNext, FailsToWriteNext, CutsBehind, ends_there, is_cut, Closes, FailsToClose, reach, TakesUp, goes_on, begins as writes_header, FailsToTakeUp, not_measured, not_begun, CanBeTakenUp, IsTakenUp, taken_up}
 use Rattle.raft_log_file_writer.specs.declared.writer.LogFileWriter.{LogFileWriter}

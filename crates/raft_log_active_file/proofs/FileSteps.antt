@@ -1,5 +1,5 @@
 -- What each call on a queue's last file makes of what is known of it.
-use Rattle.std.specs.List.{All, Contains}
+use Rattle.std.specs.List.{All}
 use Rattle.std.proofs.Common.{◌≡◌, ◌⊎◌, ℕ, ◌+◌, ◌-◌, ◌<◌, ◌≤◌, List, [], ◌∷◌, ◌++◌, length, take, drop, get_or, refl, sym, ◌∙◌, ap, subst, inl, inr, arith, length-append}
 use Rattle.std.proofs.Math.Seq.{drop-nil, drop-append-add}
 use Rattle.std.proofs.lemmas.List.{append-nil, append_assoc, drop-drop, drop_at, drop_all, nil_from_length, take_at, length-take, length-take-le, length-drop, length-replicate, drop-replicate, drop-append-le, take-append-le, take-take, get_or-append_right, get_or-drop, get_or-take, ext_get_or}
@@ -8,13 +8,11 @@ use Rattle.std.proofs.lemmas.Bool.{cases_lt}
 use Rattle.raft_log_fs.specs.Disk.{Change, Wrote, ShortenedTo, GrewTo, File, at_rest, zeros, grown, overwritten}
 use Rattle.raft_log_fs.specs.Image.{Spares}
 use Rattle.raft_log_fs.specs.Calls.{with_change, after_change, flushed, InPart, IsTorn}
-use Rattle.raft_log_file_writer.specs.LawsChains.{Written, AreFrames, spelled, HoldsNoFrame}
+use Rattle.raft_log_file_writer.specs.LawsChains.{Written, AreFrames, spelled}
 use Rattle.raft_log_file_writer.specs.KeepsSynced.{HoldsChain, HoldsAtLeast, IsStale, StandsBehind, kept_records}
 use Rattle.raft_log_file_writer.specs.LogFormat.{Format, IsFormat}
 use Rattle.raft_log_file_writer.specs.LogQueue.{LogFiles, recent, HeaderStands, HoldsLast, IsPast}
-use Rattle.raft_log_file_writer.proofs.LawsChainLaws.{spelled-append, frame_filled, frames_front}
-use Rattle.raft_log_file_writer.proofs.KeepsSyncedLaws.{holds_at_least, holds_written, holds_more, holds_shortened, holds_grown, holds_in_front, holds_used_again, holds_prefilled, holds_read, holds_synced, all_at_least}
-use Rattle.raft_log_file_writer.proofs.ShorteningLaws.{reads_whole, settled_at_least}
+use Rattle.raft_log_file_writer.proofs.Public.{all_at_least, frame_filled, frames_front, holds_at_least, holds_grown, holds_in_front, holds_more, holds_read, holds_shortened, holds_synced, holds_used_again, holds_written, reads_whole, settled_at_least, spelled-append}
 use Rattle.raft_log_active_file.specs.Queue.{whole, finished, with_more, synced, settled, with_room, begun}
 use Rattle.raft_log_active_file.specs.States.{HoldsMore, IsActive, IsFront, IsCut, IsNew, IsHeaded}
 
@@ -233,11 +231,6 @@ module _ {R : Type 0} (F : Format R) where
   pub new_over : (header stale : List ℕ) (q : LogFiles R) → IsNew F (begun header stale q) (at_rest stale)
   new_over header stale q = record { chain = holds_used_again (F.IsFrame q.last header) (length header) stale; is = refl }
 
-  -- one that was filled ahead of its use with what holds no record
-  pub new_blank : (header stale : List ℕ) (q : LogFiles R) (file : File) → file.content ≡ stale → HoldsNoFrame (F.IsFrame q.last header) file.synced
-      → ((at : ℕ) (bytes : List ℕ) → Contains file.changes (Wrote at bytes) → HoldsNoFrame (F.IsFrame q.last header) bytes) → IsNew F (begun header stale q) file
-  new_blank header stale q file is blank writes = record { chain = holds_prefilled (F.IsFrame q.last header) (length header) stale file blank writes; is = is }
-
   -- Room is made ahead.
 
   chain_longer : (n start : ℕ) (header stale more : List ℕ) (durable pending : List (Written R)) (file : File) → HoldsChain (F.IsFrame n header) start stale durable pending file
@@ -266,11 +259,6 @@ module _ {R : Type 0} (F : Format R) where
         headed = header_changed q.header (GrewTo size) content file (λ place less touched. touched) is.headed;
         all = grew ∙ ap (λ (b : List ℕ). grown room b) is.all ∙ over_grown (whole q) q.stale room;
       }
-
-  -- how far it grew where the growth was refused
-  pub grown_in_part : (size : ℕ) (old new : List ℕ) → InPart (GrewTo size) old new → (room : ℕ) × (new ≡ grown room old)
-  grown_in_part size old new (count, fits, is) =
-      (length old + count, is ∙ ap (λ (k : ℕ). old ++ zeros k) (let same : count ≡ length old + count - length old = omega arith in same))
 
   module _ (lawful : IsFormat F) where
     pub active_written : (q : LogFiles R) (w : Written R) (file : File) → F.IsFrame q.last q.header w.bytes w.value → IsActive F q file

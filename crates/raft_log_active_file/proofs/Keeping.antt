@@ -5,8 +5,8 @@ use Rattle.raft_log_fs.specs.Image.{IsImage}
 use Rattle.raft_log_file_writer.specs.LogFormat.{Format, IsFormat, CanTellFormat}
 use Rattle.raft_log_file_writer.specs.LogQueue.{LogFiles, HasLogFiles, HoldsLast, IsLeftover, kept_to, NoChanceInLast, Anything}
 use Rattle.raft_log_fs.specs.Touching.{HasFile}
-use Rattle.raft_log_file_writer.proofs.LogQueueLaws.{queue_is_kept, queue_is_readable, queue_restarts}
-use Rattle.raft_log_fs.proofs.TouchingLaws.{names_same}
+use Rattle.raft_log_file_writer.proofs.Public.{queue_is_kept, queue_is_readable, queue_restarts}
+use Rattle.raft_log_fs.proofs.Public.{names_same}
 use Rattle.raft_log_active_file.specs.Standing.{Names, Stands}
 use Rattle.raft_log_active_file.specs.Laws.{FilesAreKept, FilesAreReadable, FilesRestart}
 use Rattle.raft_log_active_file.proofs.Standing.{place_moved}

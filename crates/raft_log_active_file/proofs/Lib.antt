@@ -1,3 +1,4 @@
+pub mod Public
 pub mod FileSteps
 pub mod Standing
 pub mod Keeping

@@ -10,8 +10,7 @@ use Rattle.raft_log_file_writer.specs.LawsChains.{Written, Refuses, Reads, spell
 use Rattle.raft_log_file_writer.specs.LogFormat.{Format, IsFormat, HasHeader, ReadsFile}
 use Rattle.raft_log_file_writer.specs.LogQueue.{Past, LogFiles, recent, HoldsLast, IsPast, IsLeftover}
 use Rattle.raft_log_fs.specs.Touching.{HasFile}
-use Rattle.raft_log_file_writer.proofs.LawsChainLaws.{reads_unique, nothing_refuses}
-use Rattle.raft_log_file_writer.proofs.KeepsSyncedLaws.{holds_at_least, holds_changed, holds_read}
+use Rattle.raft_log_file_writer.proofs.Public.{holds_at_least, holds_changed, holds_read, nothing_refuses, reads_unique}
 use Rattle.raft_log_active_file.specs.Queue.{whole, begun}
 use Rattle.raft_log_active_file.specs.States.{IsFront, IsNew}
 use Rattle.raft_log_active_file.specs.Standing.{Names, Stands}

@@ -18,9 +18,7 @@ use Rattle.raft_log_file_writer.specs.LogQueue.{LogFiles, HoldsLast, IsPast, rot
 use Rattle.raft_log_fs.specs.Touching.{HasFile, TouchesOnly}
 use Rattle.raft_log_fs.specs.declared.handle.Handle.{Handle}
 use Rattle.raft_log_fs.specs.declared.handle.Permission.TheVariants.{ReadWrite}
-use Rattle.raft_log_fs.proofs.KeptLaws.{IsCalm, kept_create, kept_delete, kept_rename, calm_either}
-use Rattle.raft_log_fs.proofs.CauseLaws.{fails_whole, fails_after, later_then}
-use Rattle.raft_log_fs.proofs.NamesLaws.{creation_leaves, deletion_leaves, renaming_leaves}
+use Rattle.raft_log_fs.proofs.Public.{calm_either, creation_leaves, deletion_leaves, fails_after, fails_whole, kept_create, kept_delete, kept_rename, later_then, renaming_leaves, IsCalm}
 use Rattle.raft_log_file_writer.specs.declared.writer.LogFileWriter.{LogFileWriter}
 use Rattle.raft_log_active_file.specs.Queue.{finished, with_room}
 use Rattle.raft_log_active_file.specs.States.{IsNew}

@@ -7,9 +7,7 @@ use Rattle.raft_log_fs.specs.Image.{IsSound}
 use Rattle.raft_log_fs.specs.Calls.{renamed}
 use Rattle.raft_log_file_writer.specs.LogFormat.{Format}
 use Rattle.raft_log_file_writer.specs.LogQueue.{LogFiles}
-use Rattle.raft_log_fs.proofs.Updates.{name_case, name_apart}
-use Rattle.raft_log_fs.proofs.NamesLaws.{renaming_leaves}
-use Rattle.raft_log_fs.proofs.TouchingLaws.{names_then}
+use Rattle.raft_log_fs.proofs.Public.{name_apart, name_case, names_then, renaming_leaves}
 use Rattle.raft_log_active_file.specs.Standing.{Names, Stands}
 use Rattle.raft_log_active_file.specs.Bridge.{GapsStay}
 use Rattle.raft_log_active_file.proofs.Standing.{place_moved}

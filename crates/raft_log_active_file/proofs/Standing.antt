@@ -13,11 +13,7 @@ use Rattle.raft_log_fs.specs.Calls.{with_change, after_change, flushed, created,
 use Rattle.raft_log_file_writer.specs.LogFormat.{Format, IsFormat}
 use Rattle.raft_log_file_writer.specs.LogQueue.{Past, LogFiles, IsPast, rotated, recent}
 use Rattle.raft_log_fs.specs.Touching.{HasFile, TouchesOnly, TouchesOnlyNames}
-use Rattle.raft_log_fs.proofs.Updates.{name_case, name_here, name_apart, file_here, file_apart}
-use Rattle.raft_log_fs.proofs.ImageLaws.{named_is_used}
-use Rattle.raft_log_fs.proofs.NamesLaws.{creation_leaves, deletion_leaves, renaming_leaves}
-use Rattle.raft_log_fs.proofs.KeptLaws.{IsCalm}
-use Rattle.raft_log_fs.proofs.TouchingLaws.{same_file, has_calm, has_weaker, has_done, has_changed, has_synced, touches_change, touches_sync, names_same, names_then}
+use Rattle.raft_log_fs.proofs.Public.{creation_leaves, deletion_leaves, file_apart, file_here, has_calm, has_changed, has_done, has_synced, has_weaker, name_apart, name_case, name_here, named_is_used, names_same, names_then, renaming_leaves, same_file, touches_change, touches_sync, IsCalm}
 use Rattle.raft_log_active_file.specs.Queue.{finished}
 use Rattle.raft_log_active_file.specs.States.{IsNew}
 use Rattle.raft_log_active_file.specs.Standing.{Names, HaveOneFile, HaveOneName, IsPlace, OwnsPaths, Stands}

@@ -16,16 +16,15 @@ use Rattle.raft_log_file_writer.specs.LogQueue.{LogFiles, HoldsLast, IsPast, IsL
 use Rattle.raft_log_fs.specs.Touching.{HasFile}
 use Rattle.raft_log_fs.specs.declared.handle.Handle.{Handle}
 use Rattle.raft_log_fs.specs.declared.handle.Permission.TheVariants.{ReadWrite}
-use Rattle.raft_log_fs.proofs.CauseLaws.{fails_change, fails_whole, fails_after}
-use Rattle.raft_log_fs.proofs.TouchingLaws.{same_file, touches_same}
-use Rattle.raft_log_file_writer.specs.Writer.{needs_header, TakesUp, goes_on, begins as writes_header, FailsToTakeUp, not_measured, not_begun, CanBeTakenUp}
+use Rattle.raft_log_fs.proofs.Public.{fails_after, fails_change, fails_whole, same_file, touches_same}
+use Rattle.raft_log_file_writer.specs.Writer.{needs_header, TakesUp, goes_on, begins as writes_header}
 use Rattle.raft_log_file_writer.specs.declared.writer.LogFileWriter.{LogFileWriter}
 use Rattle.raft_log_active_file.specs.Queue.{whole, finished, with_room, settled, begun}
 use Rattle.raft_log_active_file.specs.States.{IsActive, IsFront, IsCut, IsNew}
 use Rattle.raft_log_active_file.specs.Standing.{Names, HaveOneName, OwnsPaths, Stands}
 use Rattle.raft_log_active_file.specs.Reopening.{reread}
-use Rattle.raft_log_active_file.proofs.FileSteps.{front_cut, front_tried, front_holds, cut_holds, cut_past, cut_flushed_holds, past_settled, past_holds, new_over, new_holds}
-use Rattle.raft_log_active_file.proofs.Standing.{have_one_name, stands_weaker, stands_changed, stands_synced, stands_done, stands_touched}
+use Rattle.raft_log_active_file.proofs.FileSteps.{front_cut, front_tried, front_holds, cut_holds, cut_past, cut_flushed_holds, past_settled, new_over, new_holds}
+use Rattle.raft_log_active_file.proofs.Standing.{have_one_name, stands_changed, stands_synced, stands_done, stands_touched}
 use Rattle.raft_log_active_file.proofs.Reopening.{stands_as, new_shortened, empty_holds, leftover_front, leftover_end, leftover_new}
 use Rattle.raft_log_active_file.specs.LastFile.{IsActiveTo}
 use Rattle.raft_log_active_file.specs.Exits.{IsOpen, IsGiven, Begins, FailsToBegin, BeginMakes}
@@ -49,15 +48,6 @@ right_handle handle P d has kind (why, none) = let here = has.is in cc
 
 shortened_later : (handle : Handle) (size : ℕ) (old new : Disk) → Changes handle.file (after_change (ShortenedTo size)) old new → IsLater old new
 shortened_later handle size old new changes = record { failures = omega (arith, ap (λ (d : Disk). d.failures) changes.done); stopped = λ stops. ap (λ (d : Disk). d.stopped) changes.done ∙ stops }
-
-synced_later : (handle : Handle) (old new : Disk) → Changes handle.file flushed old new → IsLater old new
-synced_later handle old new changes = record { failures = omega (arith, ap (λ (d : Disk). d.failures) changes.done); stopped = λ stops. ap (λ (d : Disk). d.stopped) changes.done ∙ stops }
-
-pub trimmed_later : (handle : Handle) (size : ℕ) (old new : Disk) → Trims handle size old new → IsLater old new
-trimmed_later handle size old new trims =
-    let first = shortened_later handle size old trims.cut trims.shortens in
-    let next = synced_later handle trims.cut new trims.syncs in
-    record { failures = omega (arith, first.failures, next.failures); stopped = λ stops. next.stopped (first.stopped stops) }
 
 module _ {R : Type 0} (F : Format R) (own : List ℕ → Type 0) (lawful : IsFormat F) (owns : OwnsPaths F own) where
   -- without records it makes no difference that they are durable
@@ -224,23 +214,6 @@ module _ {R : Type 0} (F : Format R) (own : List ℕ → Type 0) (lawful : IsFor
           stands = subst (λ (h : Handle). Stands F own base next path h.file (IsActiveTo F writer.capacity next) N new) (sym at.handle_is)
               (subst (λ (d : Disk). Stands F own base next path handle.file (IsActiveTo F writer.capacity next) N d) (sym same) active);
         }),
-      )
-
-  pub goes_not_on : (handle : Handle) (end : ℕ) (header : List ℕ) (error : ErrorKind) (old trimmed new : Disk) → TrimsLeftover F own handle (Some end) old trimmed → IsLater old trimmed
-      → FailsToTakeUp handle [] false error trimmed new → (CanBeTakenUp handle trimmed → Fails trimmed new) → FailsToReopen F own handle (Some end) header old new
-  goes_not_on handle end header error old trimmed new trims later (not_begun file is short writes) fails base q path N head was = absurd (no_header_short file.content short)
-  goes_not_on handle end header error old trimmed new trims later (not_measured why same) fails base q path N head was =
-      let (front, begins, s) = trims base q path N was in
-      let next = reread front [] q in (
-        fails_after old trimmed new later (fails (record { permitted = was.permitted; there = λ gone. (let there = s.file.is in cc (gone, there)) })),
-        (
-          front,
-          [],
-          begins,
-          inr (0, refl),
-          subst (StandsWithRecords F own base next) (sym same)
-              (record { path = path; id = handle.file; N = N; stands = stands_weaker F own base next path handle.file (IsPast F q.last (finished next)) (HoldsLast F next) N trimmed (λ file past. past_holds F lawful next file past) s }),
-        ),
       )
 
   -- Or behind a header that its empty file gets.

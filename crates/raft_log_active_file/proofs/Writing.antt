@@ -1,7 +1,7 @@
 -- What the writer's calls make of the last file of a queue.
 use Rattle.std.specs.Prelude.{Result, Ok, Err}
 use Rattle.std.specs.declared.io.ErrorKind.{ErrorKind}
-use Rattle.std.proofs.Common.{◌≡◌, ℕ, ◌+◌, ◌-◌, ◌≤◌, List, [], ◌∷◌, ◌++◌, length, take, max, refl, sym, ◌∙◌, ap, subst, inl, inr, arith, length-append}
+use Rattle.std.proofs.Common.{◌≡◌, ℕ, ◌+◌, ◌-◌, ◌≤◌, List, [], ◌∷◌, ◌++◌, length, take, refl, sym, ◌∙◌, ap, subst, inl, inr, arith, length-append}
 use Rattle.std.proofs.lemmas.List.{append-nil, length-replicate, length-take, take_all}
 use Rattle.std.proofs.lemmas.Bool.{cases_lt}
 use Rattle.raft_log_fs.specs.Disk.{Wrote, ShortenedTo, GrewTo, File, Disk, zeros, grown, overwritten}
@@ -12,10 +12,10 @@ use Rattle.raft_log_file_writer.specs.LogQueue.{LogFiles, HoldsLast}
 use Rattle.raft_log_fs.specs.Arguments.{WrongWriter, WrongHandle}
 use Rattle.raft_log_fs.specs.Exits.{FailsToSync}
 use Rattle.raft_log_fs.specs.declared.handle.Handle.{Handle}
-use Rattle.raft_log_fs.proofs.ChangeLaws.{overwritten_torn}
+use Rattle.raft_log_fs.proofs.Public.{overwritten_torn}
 use Rattle.raft_log_file_writer.specs.Writer.{MakesRoom, is_there, is_allocated, is_refused, WritesAtPlace, FailsToWriteAt, CutsBehind, ends_there, is_cut, Closes, FailsToClose, not_cut, not_synced, reach, allocated}
 use Rattle.raft_log_file_writer.specs.declared.writer.LogFileWriter.{LogFileWriter}
-use Rattle.raft_log_file_writer.proofs.WriterLaws.{reach_far, reach_near}
+use Rattle.raft_log_file_writer.proofs.Public.{reach_far, reach_near}
 use Rattle.raft_log_active_file.specs.Queue.{whole, with_more, with_room, settled, synced, begun}
 use Rattle.raft_log_active_file.specs.States.{IsActive, IsFront, IsCut, IsNew}
 use Rattle.raft_log_active_file.specs.Standing.{Names, HaveOneName, OwnsPaths, Stands}
@@ -36,9 +36,6 @@ module _ {R : Type 0} (F : Format R) where
   no_room q =
       let none : grown 0 q.stale ≡ q.stale = ap (λ (k : ℕ). q.stale ++ zeros k) (let zero_left : 0 - length q.stale ≡ 0 = omega arith in zero_left) ∙ append-nil q.stale in
       λ i. record q { stale = none i }
-
-  length-grown_to : (size : ℕ) (old : List ℕ) → length (grown size old) ≡ max size (length old)
-  length-grown_to size old = omega (arith, length-append old (zeros (size - length old)), length-replicate {A = ℕ} (size - length old) 0)
 
   -- room that was made, or some of it
   roomy : (capacity to size : ℕ) (q : LogFiles R) (content : List ℕ) (file : File) → capacity ≤ to → size ≤ to → InPart (GrewTo size) file.content content → IsActiveTo F capacity q file

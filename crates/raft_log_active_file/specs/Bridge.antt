@@ -1,5 +1,5 @@
 -- The log's model sees a queue as numbered files with records (`FileQueue`). These definitions say which numbered files
--- correspond to the files on a disk, and what is read of them after a stop.
+-- correspond to the files on a disk, and what a read of the queue gives after a stop.
 use Rattle.std.specs.Prelude.{◌≡◌, ℕ, ◌+◌, ◌<◌, ◌≤◌, List, [], ◌∷◌, ◌++◌, map, suc, zero}
 use Rattle.raft_log_model_laws.specs.Item.{Record}
 use Rattle.raft_log_machine_laws.specs.Files.{LogFile, FileQueue, FileEvent, FileStep, IsRead, AllBehind}
@@ -27,9 +27,10 @@ abbrev pub logged : {R E V : Type 0} → (R → Record E V) → Found R → LogF
 logged says found = record { number = found.number; records = said says found.records }
 
 -- `files` are the numbered files of the queue `q`, whose live range begins at `first`.
--- - `gone`, `full`: the files from `low` on and below `first`, and the live range without its last file.
--- - `last`, `synced`, `pending`: the last file's number, synced records and unsynced records.
--- - `gap`, `behind`: the number just below `low` has no file, and each file of `behind` has a lower number.
+-- - `gone`: the files with numbers from `low` up to `first - 1`.
+-- - `full`: the live range without its last file.
+-- - `last`, `synced`, `pending`: the last file's number, its synced records and its unsynced records.
+-- - `gap`, `behind`: no file has the number `low - 1`, and each file of `behind` has a lower number than that.
 pub record IsFileQueue {R E V : Type 0} (says : R → Record E V) (F : Format R) (q : LogFiles R)
     (low first : ℕ)
     (d : Disk) (files : FileQueue E V) : Type 0 where
@@ -46,8 +47,8 @@ pub record IsFileQueue {R E V : Type 0} (says : R → Record E V) (F : Format R)
   pub gap : (m : ℕ) → suc m ≡ low → IsAbsent F m d
 
 -- After any stop without a CRC collision, the last file has its synced records and a prefix `kept` of its pending ones.
--- A read of the queue from any number up to `first` gives the numbered files from there on, the last one with these
--- records.
+-- A read of the queue may begin at any number up to `first`. It gives the numbered files from this number on, and of
+-- the last file it gives these records.
 abbrev pub ReadsAsFiles : {R E V : Type 0} → (R → Record E V) → Format R → LogFiles R → ℕ → ℕ → Disk
     → FileQueue E V
     → Type 0
@@ -57,7 +58,7 @@ ReadsAsFiles {R} {E} {V} says F q low first d files = (image : Disk) → IsImage
     × ((s : ℕ) → s ≤ first → (found : List (Found R)) → ReadsFrom F image s found
     → IsRead low files kept s (map (logged says) found))
 
--- by the step `event`, the numbered files `files` can become those of the queue `q` on the disk `d`
+-- the step `event` can change the numbered files `files` into those of the queue `q` on the disk `d`
 abbrev pub StepsTo : {R E V : Type 0} → (R → Record E V) → Format R → FileEvent E V → FileQueue E V
     → LogFiles R
     → ℕ → ℕ → Disk → Type 0

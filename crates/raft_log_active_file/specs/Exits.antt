@@ -1,6 +1,6 @@
--- What is on disk after each call on the last file of a queue, whether it succeeds or fails. `F` is the format of the
--- files; `own` says which paths are the queue's. Since the disk `base`, only these have changed. `N` are the names on
--- the disk.
+-- What is on disk after each call on the last file of a queue, whether the call succeeds or fails. `F` is the format of
+-- the files. `own` says which paths are the queue's; since the disk `base`, only these paths and their files have
+-- changed. `N` gives the node number of each path's file.
 use Rattle.std.specs.Prelude.{◌≡◌, ℕ, ◌⊎◌, true, List, [], ◌∷◌, length}
 use Rattle.raft_log_fs.specs.Disk.{Disk}
 use Rattle.raft_log_fs.specs.Causes.{Fails}
@@ -44,8 +44,8 @@ abbrev pub IsHeld : {R : Type 0} → Format R → (List ℕ → Type 0) → Disk
     → List ℕ → Names → Disk → Type 0
 IsHeld F own base writer q path N d = Stands F own base q path writer.handle.file (HoldsLast F q) N d
 
--- If a queue was open to the writer, a record with these bytes was appended to it: it is the last pending one. Zeros
--- may have been allocated after it.
+-- Suppose a queue was open to the writer, and `bytes` encode a record in the queue's last file. Then this record was
+-- appended, and is the last pending one. Zeros may have been allocated after the record.
 abbrev pub AppendsRecord : {R : Type 0} → Format R → (List ℕ → Type 0) → List ℕ → LogFileWriter → LogFileWriter
     → Disk → Disk → Type 0
 AppendsRecord {R} F own bytes before after old new = (base : Disk) (q : LogFiles R) (w : Written R)
@@ -54,8 +54,8 @@ AppendsRecord {R} F own bytes before after old new = (base : Disk) (q : LogFiles
     → (room : ℕ) × IsOpen F own base after (with_more (w ∷ []) (with_room room q)) path N new
 
 -- What a failed write of the record `w` leaves.
--- - `CutBack`: what was written of it was truncated away and the file synced. All records before it are durable.
--- - `Failed`: the truncation or its sync failed too. The record may be on disk, and counts as the last pending one.
+-- - `CutBack`: the file was truncated after the records before `w`, and synced. These records are durable.
+-- - `Failed`: the truncation, or the sync after it, failed too. `w` may be on disk, and counts as the last pending one.
 abbrev pub AppendLeaves : {R : Type 0} → Format R → (List ℕ → Type 0) → WriteFault → Disk → Written R
     → LogFiles R → LogFileWriter → LogFileWriter
     → List ℕ → Names → Disk → Type 0
@@ -64,8 +64,8 @@ AppendLeaves F own (CutBack kind) base w q before after path N new = IsOpen F ow
 AppendLeaves F own (Failed kind) base w q before after path N new = (room : ℕ) × IsHeld F own base before
     (with_more (w ∷ []) (with_room room q)) path N new
 
--- A record with these bytes wasn't appended. If a queue was open to the writer, a file call failed, and `AppendLeaves`
--- says what is left of the queue.
+-- The record that `bytes` encode wasn't appended. Suppose a queue was open to the writer. Then a file call failed, and
+-- `AppendLeaves` says what is left of the queue.
 abbrev pub FailsToAppend : {R : Type 0} → Format R → (List ℕ → Type 0) → List ℕ → WriteFault
     → LogFileWriter → LogFileWriter → Disk → Disk → Type 0
 FailsToAppend {R} F own bytes fault before after old new = (base : Disk) (q : LogFiles R) (w : Written R)
@@ -73,9 +73,9 @@ FailsToAppend {R} F own bytes fault before after old new = (base : Disk) (q : Lo
     → F.IsFrame q.last q.header w.bytes w.value → w.bytes ≡ bytes → IsOpen F own base before q path N old
     → Fails old new × AppendLeaves F own fault base w q before after path N new
 
--- The file calls of a failed append. The fault has the error of one of them:
--- - `CutBack`: that of the write. The file was then truncated after the earlier records, and synced.
--- - `Failed`: that of the truncation after the failed write, or of its sync.
+-- The file calls of a failed append. The fault has the error of one of these calls:
+-- - `CutBack`: the error of the write. The file was then truncated after the earlier records, and synced.
+-- - `Failed`: the error of the truncation after the failed write, or of the sync after the truncation.
 abbrev pub AppendMakes : WriteFault → LogFileWriter → LogFileWriter → List ℕ → ℕ → Disk → Disk → Type 0
 AppendMakes (CutBack kind) before after bytes target old new = (middle : LogFileWriter) × (between : Disk)
     × FailsToWriteNext before middle bytes target kind old between × Closes middle after between new
@@ -83,8 +83,8 @@ AppendMakes (Failed kind) before after bytes target old new = (middle : LogFileW
     × (error : ErrorKind) × FailsToWriteNext before middle bytes target error old between
     × FailsToClose middle after kind between new
 
--- A file didn't get its header: its size couldn't be read, or writing the header failed, or the sync after that.
--- `error` is the error of the call that failed.
+-- A file didn't get its header: the file's size couldn't be read, the header couldn't be written, or the sync after
+-- that failed. `error` is the error of the call that failed.
 abbrev pub BeginMakes : Handle → List ℕ → ErrorKind → Disk → Disk → Type 0
 BeginMakes handle header error old new = FailsToTakeUp handle header true error old new
     ⊎ ((writer : LogFileWriter) × (between : Disk) × TakesUp handle header true writer old between
@@ -98,13 +98,13 @@ pub record BeginsBy (handle : Handle) (header : List ℕ) (writer : LogFileWrite
   pub takes : TakesUp handle header true writer old between
   pub syncs : Syncs writer.handle between new
 
--- if a queue was open to the writer, all its records were synced, and it is still open to the writer
+-- if a queue was open to the writer before, it still is, and now all its records are durable
 abbrev pub SyncsAll : {R : Type 0} → Format R → (List ℕ → Type 0) → LogFileWriter → Disk → Disk → Type 0
 SyncsAll {R} F own writer old new = (base : Disk) (q : LogFiles R) (path : List ℕ) (N : Names)
     → IsOpen F own base writer q path N old → IsOpen F own base writer (synced q) path N new
 
--- A sync of the file failed. If a queue was open to the writer, a file call failed, and the queue's last file still
--- holds its records (`IsHeld`).
+-- A sync of the file failed. Suppose a queue was open to the writer. Then a file call failed, and the queue's last file
+-- still holds its records (`IsHeld`).
 abbrev pub FailsToSyncAll : {R : Type 0} → Format R → (List ℕ → Type 0) → LogFileWriter → Disk → Disk
     → Type 0
 FailsToSyncAll {R} F own writer old new = (base : Disk) (q : LogFiles R) (path : List ℕ) (N : Names)
@@ -116,15 +116,15 @@ abbrev pub Finishes : {R : Type 0} → Format R → (List ℕ → Type 0) → Lo
 Finishes {R} F own before after old new = (base : Disk) (q : LogFiles R) (path : List ℕ) (N : Names)
     → IsOpen F own base before q path N old → IsFinished F own base after q path N new
 
--- The file wasn't finished. If a queue was open to the writer, a file call failed, and the queue's last file still
--- holds its records (`IsHeld`).
+-- The file wasn't finished. Suppose a queue was open to the writer. Then a file call failed, and the queue's last file
+-- still holds its records (`IsHeld`).
 abbrev pub FailsToFinish : {R : Type 0} → Format R → (List ℕ → Type 0) → LogFileWriter → Disk → Disk
     → Type 0
 FailsToFinish {R} F own before old new = (base : Disk) (q : LogFiles R) (path : List ℕ) (N : Names)
     → IsOpen F own base before q path N old → Fails old new × IsHeld F own base before q path N new
 
--- The queue's files are on the disk. Its last file has its number but not its header: its content is still what it held
--- when it got its number. The handle may write the file.
+-- The queue's files are on the disk. The last file has its number but no header yet: it still has the bytes that it
+-- held when it got the number. The handle may write the last file.
 abbrev pub IsGiven : {R : Type 0} → Format R → (List ℕ → Type 0) → Disk → Handle → LogFiles R → List ℕ
     → Names → Disk → Type 0
 IsGiven F own base handle q path N d = (handle.permission ≡ ReadWrite)
@@ -138,8 +138,8 @@ Begins {R} F own handle header writer old new = (base : Disk) (q : LogFiles R) (
     → IsGiven F own base handle (begun header stale q) path N old
     → (room : ℕ) × IsOpen F own base writer (with_room room (begun header stale q)) path N new
 
--- Writing `header` failed. If the queue's last file had no header yet, a file call failed. Any part of the header may
--- be on disk, but no record.
+-- The last file didn't get `header`. Suppose the queue's last file had no header before. Then a file call failed. Any
+-- part of the header may be on disk, but no record.
 abbrev pub FailsToBegin : {R : Type 0} → Format R → (List ℕ → Type 0) → Handle → List ℕ → Disk → Disk
     → Type 0
 FailsToBegin {R} F own handle header old new = (base : Disk) (q : LogFiles R) (stale : List ℕ)

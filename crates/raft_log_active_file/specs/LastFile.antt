@@ -1,4 +1,5 @@
--- The states of a queue's last file, each with `capacity`, the largest length that the file's writer expects.
+-- The states of a queue's last file. Each of them says that the file is at most `capacity` bytes long, the capacity of
+-- the file's writer.
 use Rattle.std.specs.Prelude.{ℕ, ◌≤◌, List, length}
 use Rattle.raft_log_fs.specs.Disk.{File}
 use Rattle.raft_log_file_writer.specs.LawsChains.{Written}
@@ -20,8 +21,8 @@ pub record IsFrontTo {R : Type 0} (F : Format R) (capacity : ℕ) (q : LogFiles 
   pub front : IsFront F q more file
   pub ends : length file.content ≤ capacity
 
--- after a failed write of the records `more`, the file was truncated to the records before; it is at most `capacity`
--- bytes long
+-- The file was truncated after a failed write of the records `more`: it has exactly its header and its earlier records.
+-- It is at most `capacity` bytes long.
 pub record IsCutTo {R : Type 0} (F : Format R) (capacity : ℕ) (q : LogFiles R) (more : List (Written R))
     (file : File) : Type 0 where
   pub cut : IsCut F q more file

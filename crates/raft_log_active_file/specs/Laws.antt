@@ -7,9 +7,10 @@ use Rattle.raft_log_file_writer.specs.LogQueue.{LogFiles, HoldsLast, IsLeftover,
 use Rattle.raft_log_fs.specs.Touching.{TouchesOnlyNames}
 use Rattle.raft_log_active_file.specs.Standing.{Names, OwnsPaths, Stands}
 
--- What is read of a queue after a stop without a CRC collision. Of its earlier files, all records are read; of the last
--- one, all durable records and a prefix of the pending ones. This is true of a queue whose last file holds its records,
--- and of one that a stop left.
+-- A read of a queue after a stop without a CRC collision gives all records of the earlier files. Of the last file it
+-- gives all durable records and a prefix of the pending ones.
+-- - `holding`: this is true if the last file holds its records (`HoldsLast`).
+-- - `left_over`: this is true if the last file is as an earlier stop left it (`IsLeftover`).
 pub record FilesAreKept {R : Type 0} (F : Format R) (own : List ℕ → Type 0) : Type 0 where
   pub holding : (base : Disk) (q : LogFiles R) (path : List ℕ) (id : ℕ) (N : Names) (d : Disk)
       → Stands F own base q path id (HoldsLast F q) N d → KeepsQueue F q d
@@ -23,8 +24,8 @@ FilesAreReadable {R} F own = CanTellFormat F → (base : Disk) (q : LogFiles R) 
     (N : Names) (d : Disk)
     → IsSound d → Stands F own base q path id Anything N d → IsReadable F q d
 
--- A stop without a CRC collision leaves the queue again, now based on the image. The last file has its durable records
--- and its first `count` pending ones, all durable.
+-- A stop without a CRC collision leaves the queue on the disk `image`. The last file then has its durable records and,
+-- for some `count`, its first `count` pending ones. All of them are durable now.
 abbrev pub FilesRestart : {R : Type 0} → Format R → (List ℕ → Type 0) → Type 0
 FilesRestart {R} F own = CanTellFormat F → (base : Disk) (q : LogFiles R) (path : List ℕ) (id : ℕ)
     (N : Names) (d image : Disk)

@@ -8,11 +8,13 @@ use Rattle.raft_log_active_file.specs.Standing.{OwnsPaths}
 use Rattle.raft_log_active_file.specs.declared.format.File.{File}
 
 -- Whether file names at `place` have a plus sign before the number. Each of the `count` directories has two places. The
--- directory's position in the list is for names without a sign, that position plus `count` for names with a sign.
+-- place of names without a sign is the directory's position in the list. The place of names with a sign is this
+-- position plus `count`.
 abbrev pub has_sign : ℕ → ℕ → Bool
 has_sign count place = nat_le count place
 
--- the place for names with a sign, or without one, in the directory at the position `place`
+-- The place of names in the directory at the position `place`: of names with a sign if `signed` is true, otherwise of
+-- names without one.
 abbrev pub place_of : ℕ → ℕ → Bool → ℕ
 place_of count place signed = cond signed (count + place) place
 
@@ -40,8 +42,8 @@ IsUnaligned format = format.alignment ≡ 0
 
 -- The paths fit the format of a queue's files.
 -- - `owns`: the queue owns all paths of numbers below the limit.
--- - `numbered`, `lies`: the ordinary path of a number is a path of this number. At a place for names without a sign, it
---   is in the directory of the place.
+-- - `numbered`: the ordinary path of a number is a path of this number.
+-- - `lies`: at a place for names without a sign, the ordinary path is in the directory of this place.
 -- - `kept`, `apart`: the queue owns the paths of reserved names, and none of them is a path of a number.
 -- - `headed`: the header of each format without an alignment is a header of the queue's files.
 pub record IsLayout {R : Type 0} (F : Format R) (own : List ℕ → Type 0) (paths : FilePaths) : Type 0 where

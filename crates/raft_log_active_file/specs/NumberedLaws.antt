@@ -24,11 +24,11 @@ ReadsAsNumbered {R} {E} {V} says F own = CanTellFormat F → (base : Disk) (q : 
     → ReadsAsFiles says F q low first d files
 
 -- Each change of the queue is a step of its numbered files.
--- - `elsewhere`: on another disk, if no gap was filled, the numbered files are the same.
+-- - `elsewhere`: the numbered files are the same on any disk where numbers that had no file still have none.
 -- - `grows`, `syncs`, `rotates`: records are written, or synced, or the queue rotates.
 -- - `raises`: the live range begins at `to` now, and the files before `to` leave it.
--- - `reads_again`: an open reads the files from `to` on, and the live range begins at `to` again. The first `count`
--- pending records are kept.
+-- - `reads_again`: an open reads the files from `to` on, some of which may be below the live range. The live range then
+-- begins at `to`. The first `count` pending records are kept.
 pub record NumberedSteps {R E V : Type 0} (says : R → Record E V) (F : Format R) (q : LogFiles R)
     (low first : ℕ)
     (d : Disk) (files : FileQueue E V) : Type 0 where

@@ -39,13 +39,13 @@ BeginsQueue {R} F own header path handle writer old new = (base : Disk) (older :
     × IsOpen F own base writer (with_room room (fresh_queue older header)) path
     (update bytes_eq old.names path (Some handle.file)) new × IsAbsent F 0 new
 
--- The queue may still begin. Or the files of `q` are on the disk, and its last file holds its records, perhaps with
--- zeros allocated after them.
+-- Either the queue may still begin, or the files of `q` are on the disk and its last file holds its records. In the
+-- second case zeros may be allocated after the records.
 abbrev pub IsHalfBegun : {R : Type 0} → Format R → (List ℕ → Type 0) → Disk → LogFiles R → Disk → Type 0
 IsHalfBegun F own base q d = IsFresh F own base d ⊎ ((room : ℕ) × StandsWithRecords F own base (with_room room q) d)
 
--- The call to begin the queue failed. If the queue could begin before it, a file call failed, and there is no file 0.
--- Either the queue may still begin, or its file 1 exists without a record.
+-- The call to begin the queue failed. Suppose the queue could begin before the call. Then a file call failed, and there
+-- is no file 0. Either the queue may still begin, or its file 1 exists without a record.
 abbrev pub FailsToBeginQueue : {R : Type 0} → Format R → (List ℕ → Type 0) → List ℕ → List ℕ → Disk → Disk
     → Type 0
 FailsToBeginQueue {R} F own header path old new = (base : Disk) (older : ℕ → Past R)

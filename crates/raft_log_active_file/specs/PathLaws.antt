@@ -15,7 +15,7 @@ use Rattle.raft_log_record_base.specs.declared.pipe_log.LogQueue.{LogQueue}
 use Rattle.raft_log_record_base.specs.declared.pipe_log.LogQueue.TheVariants.{Append, Rewrite}
 use Rattle.raft_log_fs.specs.Disk.{IsPathIn, IsPlain}
 use Rattle.raft_log_file_format.specs.Name.{IsNamed, EndsWith, number_text, reserved_suffix, signed_digits, sixteen_digits, suffix_of}
-use Rattle.raft_log_file_format.proofs.Names.{written_text}
+use Rattle.raft_log_file_format.proofs.Public.{written_text}
 use Rattle.raft_log_active_file.specs.Layout.{has_sign, plain_place}
 use Rattle.raft_log_active_file.specs.PlaceLaws.{plain_first}
 use Rattle.raft_log_active_file.specs.Paths.{IsPathWith, reserved_suffix_of, directory_at, numbered_path, reserved_path}

@@ -25,7 +25,7 @@ with_more ws q = record q { pending = q.pending ++ ws }
 abbrev pub synced : {R : Type 0} → LogFiles R → LogFiles R
 synced q = record q { durable = recent q; pending = [] }
 
--- the queue after its last file was truncated after its records and synced, so that no stale bytes follow them
+-- the queue once its last file was truncated at the end of its records and synced, so that it has no stale bytes
 abbrev pub settled : {R : Type 0} → LogFiles R → LogFiles R
 settled q = record q { stale = []; durable = recent q; pending = [] }
 

@@ -9,17 +9,16 @@ use Rattle.raft_log_record_base.specs.Number.{u64_bytes}
 use Rattle.raft_log_record_base.specs.declared.pipe_log.LogQueue.{LogQueue}
 use Rattle.raft_log_record_base.specs.declared.pipe_log.LogQueue.TheVariants.{Append, Rewrite}
 use Rattle.raft_log_record_base.specs.declared.pipe_log.Version.TheVariants.{V1, V2}
-use Rattle.raft_log_record_base.proofs.Grammar.{prefix_free}
+use Rattle.raft_log_record_base.proofs.Public.{prefix_free}
 use Rattle.raft_log_fs.specs.Disk.{zeros}
 use Rattle.raft_log_file_writer.specs.LawsChains.{IsSelfDelimiting, CanTell}
 use Rattle.raft_log_file_writer.specs.LogFormat.{HasHeader, IsFormat}
 use Rattle.raft_log_file_format.specs.Header.{magic, header_at, header_bytes, IsFileHeader}
 use Rattle.raft_log_file_format.specs.Name.{EndsWith, suffix_of}
 use Rattle.raft_log_file_format.specs.declared.header.LogFileFormat.{LogFileFormat}
-use Rattle.raft_log_file_format.proofs.Headers.{is_header}
+use Rattle.raft_log_file_format.proofs.Public.{is_header}
 use Rattle.raft_log_record_frames.specs.Record.{IsRecord}
-use Rattle.raft_log_record_frames.proofs.Frames.{one_record, frames_take_bytes}
-use Rattle.raft_log_record_frames.proofs.Fronts.{record_is_told, no_frame_in_zeros}
+use Rattle.raft_log_record_frames.proofs.Public.{frames_take_bytes, no_frame_in_zeros, one_record, record_is_told}
 use Rattle.raft_log_active_file.specs.Layout.{IsLayout, IsUnaligned}
 use Rattle.raft_log_active_file.specs.Paths.{IsPathWith, IsOwnPath, reserved_path, reserved_suffix_of}
 use Rattle.raft_log_active_file.specs.QueueFiles.{IsRecordIn, IsAHeader, log_format, log_paths}
@@ -154,7 +153,7 @@ self_delimiting n header = record {
       omega (arith, long));
 }
 
--- a record of a file is signed, or not, by the format that the file's header has
+-- the format in a file's header decides whether the file's records are signed
 in_format : (n : ℕ) (header bytes : List ℕ) (format : LogFileFormat) (said : LogRecord)
     → IsFileHeader header format → IsRecordIn n header bytes said
     → IsRecord (signature format.version n) bytes said.items said.entries

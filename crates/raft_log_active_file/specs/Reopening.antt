@@ -13,7 +13,8 @@ IsReadTo {R} F n (Some end) file = (header : List ℕ) × (ws : List (Written R)
     × (end ≡ length header + length (spelled ws))
 IsReadTo F n None file = (header : List ℕ) → HasHeader F header file.content → ⊥
 
--- the queue after its last file was read: it has `header`, all its records are durable, and `stale` may follow them
+-- The queue after its last file was read. This file has `header`, all its records are durable, and `stale` are its
+-- stale bytes.
 abbrev pub reread : {R : Type 0} → List ℕ → List ℕ → LogFiles R → LogFiles R
 reread header stale q =
     record q { header = header; stale = stale; durable = recent q; pending = [] }

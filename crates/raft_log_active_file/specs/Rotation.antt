@@ -53,20 +53,22 @@ IsLeftTurned F own base q header stale d = StandsWithRecords F own base q d ⊎
     ((room : ℕ) × StandsWithRecords F own base (with_room room (rotated header stale q)) d)
 
 -- The queue has rotated into the next file, at the path `to`, which held the bytes `stale` before. The queue is open to
--- the writer, and zeros may be allocated. If a number below the old last one had no file, it still has none.
+-- the writer, and zeros may be allocated in the next file. If a number below that of the old active file had no file,
+-- it still has none.
 abbrev pub QueueGoesOnInNext : {R : Type 0} → Format R → (List ℕ → Type 0) → Disk → LogFileWriter → LogFiles R
     → List ℕ → List ℕ → List ℕ → Names → Disk → Disk → Type 0
 QueueGoesOnInNext F own base writer q header stale to N old new = (room : ℕ)
     × IsOpen F own base writer (with_room room (rotated header stale q)) to N new × GapsStay F q old new
 
--- The rotation failed because a file call failed. The queue is unchanged or has a next file without records, and its
--- last file holds its records. If a number below the old last one had no file, it still has none.
+-- The rotation failed because a file call failed. The queue has the same files as before, or also a next file without
+-- records (`IsLeftTurned`). If a number below that of the old active file had no file, it still has none.
 abbrev pub StaysBehind : {R : Type 0} → Format R → (List ℕ → Type 0) → Disk → LogFiles R → List ℕ
     → List ℕ → Disk → Disk → Type 0
 StaysBehind F own base q header stale old new = Fails old new
     × IsLeftTurned F own base q header stale new × GapsStay F q old new
 
--- if the queue was open to the writer `before`, it has rotated into a new file, which has this handle
+-- If the queue could rotate (`CanRotate`) and was open to the writer `before`, it has rotated into a new file. `handle`
+-- is the new file's handle.
 abbrev pub RotatesToNew : {R : Type 0} → Format R → (List ℕ → Type 0) → List ℕ → List ℕ → LogFileWriter
     → LogFileWriter → Handle → Disk → Disk → Type 0
 RotatesToNew {R} F own header to before after handle old new = (base : Disk) (q : LogFiles R)
@@ -74,7 +76,8 @@ RotatesToNew {R} F own header to before after handle old new = (base : Disk) (q 
     → CanRotate F q header to → IsOpen F own base before q path N old
     → QueueGoesOnInNext F own base after q header [] to (update bytes_eq N to (Some handle.file)) old new
 
--- Rotating into a new file failed. If the queue was open to the writer, `StaysBehind` says what is left of it.
+-- Rotating into a new file failed. If the queue could rotate and was open to the writer, `StaysBehind` says what is
+-- left of the queue.
 abbrev pub FailsToRotateToNew : {R : Type 0} → Format R → (List ℕ → Type 0) → List ℕ → List ℕ
     → LogFileWriter → Disk → Disk → Type 0
 FailsToRotateToNew {R} F own header to before old new = (base : Disk) (q : LogFiles R) (path : List ℕ)
@@ -82,8 +85,8 @@ FailsToRotateToNew {R} F own header to before old new = (base : Disk) (q : LogFi
     → CanRotate F q header to → IsOpen F own base before q path N old
     → StaysBehind F own base q header [] old new
 
--- if the queue was open to the writer `before`, it has rotated into a file kept for recycling, which was renamed from
--- `from` to `to`
+-- Suppose the queue could rotate, was open to the writer `before`, and kept the file at `from` for recycling
+-- (`IsSpare`). Then it has rotated into this file, which was renamed from `from` to `to`.
 abbrev pub RotatesOver : {R : Type 0} → Format R → (List ℕ → Type 0) → List ℕ → Handle → List ℕ → List ℕ
     → LogFileWriter → LogFileWriter → Disk → Disk → Type 0
 RotatesOver {R} F own header handle from to before after old new = (base : Disk) (q : LogFiles R)
@@ -93,8 +96,8 @@ RotatesOver {R} F own header handle from to before after old new = (base : Disk)
     → QueueGoesOnInNext F own base after q header stale to
     (update bytes_eq (update bytes_eq N from None) to (Some handle.file)) old new
 
--- Rotating into a file kept for recycling failed. If the queue was open to the writer, `StaysBehind` says what is left
--- of it.
+-- Rotating into a file kept for recycling failed. Suppose the queue could rotate, was open to the writer, and kept the
+-- file at `from` for recycling. Then `StaysBehind` says what is left of the queue.
 abbrev pub FailsToRotateOver : {R : Type 0} → Format R → (List ℕ → Type 0) → List ℕ → Handle → List ℕ
     → List ℕ → LogFileWriter → Disk → Disk → Type 0
 FailsToRotateOver {R} F own header handle from to before old new = (base : Disk) (q : LogFiles R)
@@ -119,8 +122,10 @@ pub record RotatesBy (before : LogFileWriter) (header : List ℕ) (Names : Handl
   pub names : Names handle closed named
   pub begins : BeginsBy handle header after named new
 
--- A rotation failed: the active file couldn't be truncated or synced, or the next file couldn't be created or renamed,
--- or it didn't get its header. `error` is the error of the failed call.
+-- A rotation failed. `error` is the error of the failed call.
+-- - `unfinished`: the active file couldn't be truncated or synced.
+-- - `unnamed`: the next file couldn't be created or renamed.
+-- - `unbegun`: the next file didn't get its header.
 pub data RotationMakes (before : LogFileWriter) (header : List ℕ) (Fails : ErrorKind → Disk → Disk → Type 0)
     (Names : Handle → Disk → Disk → Type 0) (error : ErrorKind) (old new : Disk) : Type 0 where
   unfinished : (after : LogFileWriter) → FailsToClose before after error old new
@@ -139,16 +144,16 @@ pub record CanDrop {R : Type 0} (F : Format R) (own : List ℕ → Type 0) (q : 
   pub id : ℕ
   pub named : N gone ≡ Some id
 
--- If the queue was open to the writer, its file at `gone` was deleted, and the rest of the queue is unchanged. If a
--- number below the last one had no file, it still has none.
+-- If the queue was open to the writer and its file at `gone` may be deleted (`CanDrop`), this file was deleted. The
+-- rest of the queue is unchanged. If a number below that of the active file had no file, it still has none.
 abbrev pub Drops : {R : Type 0} → Format R → (List ℕ → Type 0) → List ℕ → Disk → Disk → Type 0
 Drops {R} F own gone old new = (base : Disk) (writer : LogFileWriter) (q : LogFiles R) (path : List ℕ)
     (N : Names)
     → CanDrop F own q gone N → IsOpen F own base writer q path N old
     → IsOpen F own base writer q path (update bytes_eq N gone None) new × GapsStay F q old new
 
--- Deleting the file at `gone` failed. If the queue was open to the writer, a file call failed, and the queue's last
--- file still holds its records.
+-- Deleting the file at `gone` failed. Suppose the queue was open to the writer and this file may be deleted. Then a
+-- file call failed, and the queue's last file still holds its records.
 abbrev pub FailsToDrop : {R : Type 0} → Format R → (List ℕ → Type 0) → List ℕ → Disk → Disk → Type 0
 FailsToDrop {R} F own gone old new = (base : Disk) (writer : LogFileWriter) (q : LogFiles R)
     (path : List ℕ) (N : Names)

@@ -6,7 +6,7 @@ use Rattle.raft_log_file_writer.specs.LogFormat.{Format}
 use Rattle.raft_log_file_writer.specs.LogQueue.{LogFiles, IsPast}
 use Rattle.raft_log_fs.specs.Touching.{HasFile, TouchesOnlyNames}
 
--- the node number of the file that each path names, if it names one
+-- for each path, the node number of the file that it names; `None` if it names no file
 abbrev pub Names : Type 0
 Names = List ℕ → Option ℕ
 
@@ -31,7 +31,8 @@ OwnsPaths F own = (m : ℕ) (path : List ℕ) → m < F.limit → F.IsPath m pat
 -- The files of a queue are on the disk `d`, whose names are `N`.
 -- - `at`, `named`, `file`: the last file is at `path`, has the node number `id`, and `P` holds for it.
 -- - `alone`, `none`: no other file has the last file's number, and no file has a higher number.
--- - `older`, `single`: a file with a lower number is as the queue has finished it, and no two files have one number.
+-- - `older`: a file with a lower number is finished: it has exactly its header and records, all synced.
+-- - `single`: no two files with lower numbers have the same number.
 -- - `others`: since `base`, only the queue's own paths and files have changed.
 pub record Stands {R : Type 0} (F : Format R) (own : List ℕ → Type 0) (base : Disk) (q : LogFiles R)
     (path : List ℕ) (id : ℕ) (P : File → Type 0) (N : Names) (d : Disk) : Type 0 where

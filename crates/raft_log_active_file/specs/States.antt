@@ -8,21 +8,21 @@ use Rattle.raft_log_file_writer.specs.LogFormat.{Format}
 use Rattle.raft_log_file_writer.specs.LogQueue.{LogFiles, HeaderStands}
 use Rattle.raft_log_active_file.specs.Queue.{whole}
 
--- the last file holds its records (`HoldsChain`); the records `more` count as pending, as any part of them may be on
--- disk
+-- The last file holds its records (`HoldsChain`). The records `more` count as pending too, as any part of them may be
+-- on disk.
 abbrev pub HoldsMore : {R : Type 0} → Format R → LogFiles R → List (Written R) → File → Type 0
 HoldsMore F q more file = HoldsChain (F.IsFrame q.last q.header) (length q.header) q.stale q.durable
     (q.pending ++ more) file
 
 -- The file is active: its content is its header, its records, and the stale bytes that these haven't overwritten. The
--- header is durable, and what is synced and unsynced of the records is as `HoldsChain` says.
+-- header is durable. `HoldsChain` says which records are durable and which are pending.
 pub record IsActive {R : Type 0} (F : Format R) (q : LogFiles R) (file : File) : Type 0 where
   pub chain : HoldsChain (F.IsFrame q.last q.header) (length q.header) q.stale q.durable q.pending file
   pub headed : HeaderStands q.header file
   pub all : file.content ≡ whole q ++ drop (length (whole q)) q.stale
 
 -- The file is as a failed write left it: it has its header and its records, and anything may follow. The record of that
--- write is in `more`, as it may be wholly on disk.
+-- write is in `more`, as the whole record may be on disk.
 pub record IsFront {R : Type 0} (F : Format R) (q : LogFiles R) (more : List (Written R))
     (file : File) : Type 0 where
   pub chain : HoldsMore F q more file

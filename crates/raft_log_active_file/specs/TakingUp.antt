@@ -1,5 +1,5 @@
 -- What is on disk after an attempt to reopen the last file of a queue. The call truncates the file after its last whole
--- record and syncs it; the writer continues there. `F`, `own`, `base` and `N` are as in `Exits`.
+-- record and syncs it. The writer continues at the file's new end. `F`, `own`, `base` and `N` are as in `Exits`.
 use Rattle.std.specs.Prelude.{◌≡◌, ℕ, ◌⊎◌, false, Option, Some, None, List, [], unwrap_or}
 use Rattle.std.specs.declared.io.ErrorKind.{ErrorKind}
 use Rattle.raft_log_fs.specs.Disk.{Disk, at_rest, grown}
@@ -30,7 +30,8 @@ pub record IsLeftBehind {R : Type 0} (F : Format R) (own : List ℕ → Type 0) 
 abbrev pub HandleBeginsWith : {R : Type 0} → Format R → Handle → List ℕ → Disk → Type 0
 HandleBeginsWith F handle header d = HasFile handle.file (λ file. HasHeader F header file.content) d
 
--- `front` is the header that the queue's last file has from now on: its own, or `header` if it has none (`None`)
+-- `front` is the header that the queue's last file has from now on. With `Some end`, it is the header that the file
+-- begins with. With `None`, the file has no header, and gets `header`.
 abbrev pub GoesOnBehind : {R : Type 0} → Format R → Handle → Option ℕ → List ℕ → Disk → List ℕ → Type 0
 GoesOnBehind F handle (Some end) header d front = HandleBeginsWith F handle front d
 GoesOnBehind F handle None header d front = front ≡ header
@@ -59,7 +60,7 @@ IsTrimmed F own base handle (Some end) q path N old new = (front : List ℕ) × 
 IsTrimmed F own base handle None q path N old new = (recent q ≡ [])
     × Stands F own base q path handle.file (λ file. file ≡ at_rest []) N new
 
--- the stale bytes of the handle's file, `stale`, are all bytes that the file has on the disk `d`, or allocated zeros
+-- `stale`, the stale bytes of the handle's file, are either all bytes that the file has on the disk `d`, or only zeros
 abbrev pub IsWhatItHeld : Handle → List ℕ → Disk → Type 0
 IsWhatItHeld handle stale d = HasFile handle.file (λ file. stale ≡ file.content) d
     ⊎ ((room : ℕ) × (stale ≡ grown room []))
@@ -81,7 +82,7 @@ TrimsLeftover {R} F own handle end old new = (base : Disk) (q : LogFiles R) (pat
     → IsTrimmed F own base handle end q path N old new
 
 -- Truncating the queue's last file failed. Suppose the queue was as a stop left it. Then a file call failed, and the
--- queue still has all records that were read. A last file without a header may get any (`header`).
+-- queue still has all records that were read. If the last file had no header, any `header` may count as its header.
 abbrev pub FailsToTrim : {R : Type 0} → Format R → (List ℕ → Type 0) → Handle → Option ℕ → Disk → Disk
     → Type 0
 FailsToTrim {R} F own handle end old new = (base : Disk) (q : LogFiles R) (path : List ℕ) (N : Names)
@@ -103,8 +104,8 @@ abbrev pub TakesUpBy : Handle → Option ℕ → List ℕ → LogFileWriter → 
 TakesUpBy handle (Some end) header writer old new = TakesUp handle [] false writer old new
 TakesUpBy handle None header writer old new = BeginsBy handle header writer old new
 
--- the calls that reopen a file: it is truncated at `end`, or at 0 if it has no header, and synced; then a writer is
--- opened
+-- The calls that reopen a file. The file is truncated at `end`, or at 0 if it has no header, and synced. Then a writer
+-- is opened.
 pub record ReopensBy (handle : Handle) (end : Option ℕ) (header : List ℕ) (writer : LogFileWriter)
     (old new : Disk) : Type 0 where
   pub trimmed : Disk

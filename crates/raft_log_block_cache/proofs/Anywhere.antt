@@ -8,7 +8,7 @@ use Rattle.raft_log_model_laws.specs.Item.Item.{Run, Clean, Compact, Put, Del}
 use Rattle.raft_log_model_laws.specs.Holes.{Window}
 use Rattle.raft_log_model_laws.specs.Groups.{Map, of_group, taken}
 use Rattle.raft_log_model_laws.specs.Renamed.{renamed, renamed_tagged}
-use Rattle.raft_log_model_laws.proofs.RenamedLaws.{of_group_renamed}
+use Rattle.raft_log_model_laws.proofs.Public.{of_group_renamed}
 use Rattle.std.proofs.lemmas.List.{length-map}
 use Rattle.raft_log_machine_laws.specs.Log.{View}
 use Rattle.raft_log_machine_laws.specs.Tables.{GrowsTo}
@@ -24,11 +24,9 @@ use Rattle.raft_log_extents.specs.Entries.{place_of}
 use Rattle.raft_log_memtable_index.specs.Shown.{MayAllFollow, MayFollow, Shown, next_span, span}
 use Rattle.raft_log_memtable_index.specs.Bridge.{Located, in_queue, located}
 use Rattle.raft_log_memtables.specs.Batch.{MayFollowAll, all_shown, all_written}
-use Rattle.raft_log_memtables.proofs.Applied.{items_renamed, written_items}
+use Rattle.raft_log_memtables.proofs.Public.{items_renamed, view_grows, written_in, written_items}
 use Rattle.raft_log_dual_pipes.specs.State.{LogOnDisk}
 use Rattle.raft_log_memtables.specs.Views.{AreMeant, view_of}
-use Rattle.raft_log_memtables.proofs.Growing.{view_grows}
-use Rattle.raft_log_memtables.proofs.WrittenEntries.{written_in}
 use Rattle.raft_log_block_cache.specs.Stored.{AreStored, Each, EntryLiesIn, IsStored, entries_at, file_bytes, part, queue_in}
 use Rattle.raft_log_block_cache.specs.Written.{AnyFileMayTakeIt, IsLaidOver}
 use Rattle.raft_log_block_cache.proofs.Laid.{items_say}

@@ -39,15 +39,6 @@ module _ {M : Type 0} (reading : List ℕ → Option M) (v : LogPipes) where
   none_read [] cache error is = (is, refl)
   none_read (e ∷ es) cache error is = inl (is, refl)
 
-  -- behind one that is read come the others
-  pub read_more : (es rest : List EntryIndex) (e : EntryIndex) (old next last : BlockCache) (m : M) (more : List M) → es ≡ e ∷ rest → ReadsEntry reading v e old next m
-      → ReadsEntries reading v rest next last more → ReadsEntries reading v es old last (m ∷ more)
-  read_more es rest e old next last m more is one others = subst (λ l. ReadsEntries reading v l old last (m ∷ more)) (sym is) (next, one, others)
-
-  pub unread_more : (es rest : List EntryIndex) (e : EntryIndex) (old next last : BlockCache) (m : M) (error : Error) → es ≡ e ∷ rest → ReadsEntry reading v e old next m
-      → AreUnread reading v rest next last error → AreUnread reading v es old last error
-  unread_more es rest e old next last m error is one others = subst (λ l. AreUnread reading v l old last error) (sym is) (inr (inr (next, m, one, others)))
-
   pub unread_now : (es rest : List EntryIndex) (e : EntryIndex) (old new : BlockCache) (error : Error) → es ≡ e ∷ rest → IsEntryUnread reading v e old new error → AreUnread reading v es old new error
   unread_now es rest e old new error is why = subst (λ l. AreUnread reading v l old new error) (sym is) (inr (inl why))
 

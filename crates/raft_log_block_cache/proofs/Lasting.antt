@@ -13,7 +13,7 @@ use Rattle.raft_log_record_items.specs.declared.item.LogItem.{LogItem}
 use Rattle.raft_log_record_items.specs.Placed.{entries_len, written, written_entry}
 use Rattle.raft_log_record_frames.specs.Meaning.{tagged_items}
 use Rattle.raft_log_record_frames.specs.Record.{block_bytes, block_of}
-use Rattle.raft_log_record_frames.proofs.Made.{block_more}
+use Rattle.raft_log_record_frames.proofs.Public.{block_more}
 use Rattle.raft_log_record_batches.specs.Batch.{batch_bytes, block_place}
 use Rattle.raft_log_record_batches.specs.Places.{entry_bytes}
 use Rattle.raft_log_extents.specs.declared.place.Place.{Place}

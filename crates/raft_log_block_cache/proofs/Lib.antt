@@ -1,3 +1,4 @@
+pub mod Public
 pub mod KeptBlocks
 pub mod Entries
 mod Bounds

@@ -3,7 +3,7 @@ use Rattle.std.proofs.Common.{◌≡◌, ℕ, zero, suc, ◌+◌, ◌-◌, ◌<�
 use Rattle.std.specs.Prelude.{slice_index_or}
 use Rattle.std.proofs.lemmas.Bool.{cases_Bool, cases_lt}
 use Rattle.std.proofs.lemmas.Bool.Decides.{Decides-eqb}
-use Rattle.raft_log_fs.proofs.TouchingLaws.{same_file}
+use Rattle.raft_log_fs.proofs.Public.{same_file}
 use Rattle.raft_log_fs.specs.Disk.{File, Disk}
 use Rattle.raft_log_fs.specs.declared.handle.Handle.{Handle}
 use Rattle.raft_log_file_writer.specs.LogQueue.{LogFiles}
@@ -15,7 +15,7 @@ use Rattle.raft_log_active_file.specs.Layout.{FilePaths, path_of}
 use Rattle.raft_log_file_pipe.specs.Files.{IsPipe, IsSpan, Listed}
 use Rattle.raft_log_file_pipe.specs.Reading.{IsListed, IsReadAt}
 use Rattle.raft_log_file_pipe.specs.declared.pipe_files.PipeFiles.{PipeFiles}
-use Rattle.raft_log_file_pipe.proofs.Lists.{path_numbered, span_end}
+use Rattle.raft_log_file_pipe.proofs.Public.{path_numbered, span_end}
 use Rattle.raft_log_dual_pipes.specs.Queues.{QueueLayout, IsQueueLayout}
 use Rattle.raft_log_dual_pipes.specs.State.{RunsQueue, Spanned}
 use Rattle.raft_log_block_cache.specs.Stored.{BlockLiesIn, StoredBlockIsRead, block_at, file_bytes, part}

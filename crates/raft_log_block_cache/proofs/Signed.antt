@@ -2,8 +2,7 @@
 use Rattle.std.proofs.Common.{◌≡◌, ℕ, ◌<◌, ◌^◌, List, ◌++◌, map, refl, sym, ◌∙◌, ap, subst, arith, unwrap_or}
 use Rattle.std.specs.Int.{w64}
 use Rattle.std.proofs.lemmas.List.{append_cancel_left}
-use Rattle.raft_log_record_base.proofs.Fixed.{is_high_first}
-use Rattle.raft_log_record_base.proofs.Grammar.{prefix_free}
+use Rattle.raft_log_record_base.proofs.Public.{is_high_first, prefix_free}
 use Rattle.raft_log_record_base.specs.Files.{signature, version_number}
 use Rattle.raft_log_record_base.specs.Number.{IsU64, u64_bytes}
 use Rattle.raft_log_record_base.specs.declared.pipe_log.Version.{Version}

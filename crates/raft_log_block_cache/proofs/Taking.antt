@@ -9,7 +9,7 @@ use Rattle.raft_log_model_laws.specs.Groups.{of_group}
 use Rattle.raft_log_extents.specs.declared.place.Place.{Place}
 use Rattle.raft_log_memtable_index.specs.Shown.{Shown, IsOrderly, MayAllFollow, all_stepped, span, stepped}
 use Rattle.raft_log_memtable_index.specs.Bridge.{Located, in_queue, located}
-use Rattle.raft_log_memtable_index.proofs.Spans.{orderly_stepped, span_stepped}
+use Rattle.raft_log_memtable_index.proofs.Public.{orderly_stepped, span_stepped}
 use Rattle.raft_log_dual_pipes.specs.State.{LogOnDisk}
 use Rattle.raft_log_block_cache.specs.Stored.{Each, IsStored}
 use Rattle.raft_log_block_cache.specs.Written.{RunIsStored, TakenEntriesAreStored}

@@ -12,9 +12,7 @@ use Rattle.raft_log_record_base.specs.declared.pipe_log.LogQueue.TheVariants.{Ap
 use Rattle.raft_log_record_base.specs.declared.pipe_log.Version.TheVariants.{V2}
 use Rattle.raft_log_record_items.specs.declared.item.LogItem.{LogItem}
 use Rattle.raft_log_record_frames.specs.Record.{IsBlock, IsRecord, block_bytes, block_of, footer_bytes, header_bytes, record_bytes, record_len}
-use Rattle.raft_log_record_frames.proofs.Blocks.{block_again}
-use Rattle.raft_log_record_frames.proofs.Headers.{header_words}
-use Rattle.raft_log_record_frames.proofs.Made.{four_bytes, header-length}
+use Rattle.raft_log_record_frames.proofs.Public.{block_again, four_bytes, header-length, header_words}
 use Rattle.raft_log_record_batches.specs.Batch.{Batch, batch_bytes}
 use Rattle.raft_log_file_format.specs.Header.{header_bytes as file_header}
 use Rattle.raft_log_file_format.specs.declared.header.LogFileFormat.{LogFileFormat}

@@ -1,5 +1,6 @@
 -- The cache of one entry block: which block it has, and how entries are read through it. Below, `v` are the log's open
--- pipes, and `old` and `new` the cache before and after a call.
+-- pipes, one for each queue. `old` is the cache before a call, and `new` the cache after it. `reading` gives the
+-- message that an entry's bytes parse as, if they do.
 use Rattle.std.specs.Prelude.{◌≡◌, ℕ, ◌+◌, ◌-◌, ◌≤◌, ◌⊎◌, None, Option, Some, List, [], ◌∷◌, ◌++◌, length, IsOk, Err}
 use Rattle.raft_log_fs.specs.Reading.{IsUnread}
 use Rattle.raft_log_fs.specs.declared.handle.Handle.{Handle}
@@ -89,8 +90,8 @@ IsEntryUnread {M} reading v entry old new error = (IsUnplaced entry error × (ne
     ⊎ (KeepsBlock v block old new × (IsNoEntry entry.entry_offset entry.entry_len new error
     ⊎ Parses {M = M} (Err error) (reading (part entry.entry_offset entry.entry_len new.bytes.items))))))
 
--- `entry` was read as `message`: its block is cached now, the entry is inside that block, and its bytes parse as
--- `message`, as `reading` says
+-- `entry` was read as `message`. Its block is cached now, the entry is inside that block, and its bytes parse as
+-- `message`.
 pub record ReadsEntry {M : Type 0} (reading : List ℕ → Option M) (v : LogPipes) (entry : EntryIndex)
     (old new : BlockCache) (message : M) : Type 0 where
   pub block : FileBlockHandle

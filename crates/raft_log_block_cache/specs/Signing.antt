@@ -20,8 +20,8 @@ signed_for b context = batch_bytes (signature_of context) b.items b.entries
 abbrev pub record_said : Batch → LogRecord
 record_said b = record { items = map plain_item b.items; entries = b.entries }
 
--- unless `b` is empty: for each file of a queue, `signed` gives bytes that are read in this file as one record with the
--- contents of `b`
+-- If `b` isn't empty, `signed` gives bytes for each file of a queue. In that file, they parse as one record with the
+-- contents of `b`.
 abbrev pub SaysItself : (LogFileContext → List ℕ) → Batch → Type 0
 SaysItself signed b = (b.items ≡ [] → ⊥) → (says : LogRecord → Record (List ℕ) (List ℕ)) (queue : LogQueue)
     (directories : List (List ℕ))

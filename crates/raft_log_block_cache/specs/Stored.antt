@@ -1,5 +1,5 @@
 -- Which bytes a log has at each location: those that were written there as the file's header and records. Below, `q` is
--- a queue, `s` and `t` are logs on disks, and `v` is what the tables show of each group.
+-- a queue, `s` and `t` are logs on disks, and `v` is what the memtables show of each group.
 use Rattle.std.specs.Prelude.{◌≡◌, ℕ, ◌+◌, ◌-◌, ◌≤◌, Bool, true, false, cond, List, [], ◌∷◌, ◌++◌, length, take, drop, IsOk}
 use Rattle.std.proofs.Common.{nat_eq}
 use Rattle.raft_log_model_laws.specs.Groups.{Map}
@@ -111,7 +111,7 @@ abbrev pub StoredEntriesStay : Type 0 → Type 0
 StoredEntriesStay R = (s t : LogOnDisk R) → KeepsLog s t → (v : ℕ → Shown) → AreStored s v
     → AreStored t v × ((m : Map (List ℕ) (List ℕ)) → AreMeant (entries_at s) v m → AreMeant (entries_at t) v m)
 
--- Let a block's location be inside what was written to the queue of a running pipe. If a read of this location
+-- A pipe runs over the queue `q`, and a block's location is inside what was written to `q`. If a read of this location
 -- succeeds, it returns the bytes that were written there.
 abbrev pub StoredBlockIsRead : {R : Type 0} → QueueLayout R → Type 0
 StoredBlockIsRead {R} layout = IsQueueLayout layout → (files : PipeFiles) (q : Spanned R) (d : Disk)

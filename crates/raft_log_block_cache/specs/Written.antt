@@ -1,4 +1,4 @@
--- After a batch is written, its entries are in the log, at the locations that the tables get for them.
+-- After a batch is written, its entries are in the log, at the locations that the memtables record for them.
 use Rattle.std.specs.Prelude.{◌≡◌, ℕ, ◌≤◌, true, List, [], length, IsOk}
 use Rattle.raft_log_model_laws.specs.Item.{Item, Tagged, Record, items_of}
 use Rattle.raft_log_model_laws.specs.Item.Item.{Run}
@@ -32,8 +32,11 @@ RunIsStored s x = Unit {0}
 abbrev pub RunsAreStored : {R : Type 0} → LogOnDisk R → List (Tagged Place (List ℕ)) → Type 0
 RunsAreStored s xs = (g : ℕ) → Each (RunIsStored s) (of_group g xs)
 
--- After the tables `v` apply a batch with the items `xs`, all entries that they show are in the log. Premises: those
--- that they showed before were in the log, the batch's are in Append, and the batch may follow what the tables show.
+-- After the tables `v` apply a batch with the items `xs`, all entries that the tables show are in the log. Premises:
+-- - Each table is in order (`IsOrderly`).
+-- - All entries that the tables showed before are in the log.
+-- - The entries of the batch are in Append.
+-- - The batch may follow what the tables show (`MayFollowAll`).
 abbrev pub TakenEntriesAreStored : Type 0 → Type 0
 TakenEntriesAreStored R = (s : LogOnDisk R) (n : ℕ) (v : ℕ → Shown) (xs : List (Tagged Place (List ℕ)))
     → ((g : ℕ) → IsOrderly (v g)) → MayFollowAll v xs → AreStored s v → RunsAreStored s xs
@@ -60,7 +63,8 @@ WrittenEntriesAreStored R = (s : LogOnDisk R) (said : R) (block : FileBlockHandl
     × (all_written (entries_at s) (placed_items block items entries) ≡ tagged_items (entry_bytes entries) items)
 
 -- Suppose that a batch with the record `y` may follow what the tables show, and that the tables' entries are in the
--- log. Then `y` may be appended to any file `n` of Append: the tables' view becomes some view `u` by that (`GrowsTo`).
+-- log. Then `y` may be appended to file `n` of Append, whatever `n` is: there is a view `u` that the tables have after
+-- it (`GrowsTo`).
 abbrev pub AnyFileMayTakeIt : Type 0 → Type 0
 AnyFileMayTakeIt R = (s : LogOnDisk R) (v : ℕ → Shown) (m : Map (List ℕ) (List ℕ)) (items : List LogItem)
     (entries : List ℕ) (y : Record (List ℕ) (List ℕ)) → AreMeant (entries_at s) v m → AreStored s v

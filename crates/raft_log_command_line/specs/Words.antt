@@ -21,7 +21,7 @@ abbrev pub group_words : Option ℕ → List (List ℕ)
 group_words None = []
 group_words (Some group) = codes "--group" ∷ decimal group ∷ []
 
--- the arguments that name the log to list, and the group
+-- the arguments of a dump: the log to list, and the group
 abbrev pub dump_words : Place → Option ℕ → List (List ℕ)
 dump_words place group = string_bytes place.directory ∷ group_words group ++ spill_words place.spill_directory
 
@@ -34,7 +34,7 @@ abbrev pub force_words : Bool → List (List ℕ)
 force_words false = []
 force_words true = codes "--force" ∷ []
 
--- the arguments that name the log to purge, and request force
+-- the arguments of a purge: the log to purge, and `--force` if the purge is by force
 abbrev pub purge_words : Place → Bool → List (List ℕ)
 purge_words place force = string_bytes place.directory ∷ force_words force ++ spill_words place.spill_directory
 

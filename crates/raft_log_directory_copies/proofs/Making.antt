@@ -1,19 +1,16 @@
 -- A file is made in a directory, and one more.
-use Rattle.std.specs.Prelude.{Ok, Contains, ◌⊎◌, bytes_eq}
-use Rattle.std.proofs.Common.{◌≡◌, ℕ, Bool, true, cond, Option, Some, None, List, [], ◌∷◌, ◌++◌, ◌+◌, ◌<◌, length, take, drop, get_or, refl, sym, ◌∙◌, ap, subst, inl, inr, arith}
+use Rattle.std.specs.Prelude.{Ok, Contains, bytes_eq}
+use Rattle.std.proofs.Common.{◌≡◌, ℕ, Bool, Option, Some, None, List, [], ◌∷◌, ◌++◌, ◌+◌, ◌<◌, length, take, drop, get_or, refl, sym, ◌∙◌, ap, subst, inl, inr}
 use Rattle.std.proofs.lemmas.Bool.{cases_Bool, false≢true}
 use Rattle.std.proofs.lemmas.List.{append_cancel_left, map-append, take_more}
-use Rattle.std.proofs.lemmas.List.Elements.{All-nil, All-push, All-weaker, Contains-append_left, Contains-push}
+use Rattle.std.proofs.lemmas.List.Elements.{All-push, All-weaker, Contains-append_left, Contains-push}
 use Rattle.std.proofs.lemmas.Slice.Eq.{bytes_eq-Decides}
 use Rattle.raft_log_fs.specs.Disk.{Disk, File, Wrote, at_rest, overwritten}
 use Rattle.raft_log_fs.specs.Image.{IsSound}
-use Rattle.raft_log_fs.specs.Calls.{Changes, Creates, MakesDirectory, after_change, created, flushed}
-use Rattle.raft_log_fs.specs.Reading.{IsListing}
-use Rattle.raft_log_fs.proofs.Updates.{name_here, file_here}
-use Rattle.raft_log_fs.proofs.ChangeLaws.{overwritten_at_end}
-use Rattle.raft_log_fs.proofs.TouchingLaws.{has_done, names_create, names_file, names_then, other_names_stay, touches_change, touches_sync}
+use Rattle.raft_log_fs.specs.Calls.{Changes, Creates, after_change, created, flushed}
+use Rattle.raft_log_fs.proofs.Public.{file_here, has_done, name_here, names_create, names_file, names_then, other_names_stay, overwritten_at_end, touches_change, touches_sync}
 use Rattle.raft_log_directory_copies.specs.declared.stored_file.StoredFile.{StoredFile}
-use Rattle.raft_log_directory_copies.specs.Copies.{HoldsExactly, IsAtRest, IsUnnamed, MakesFile, name_of, names_of, path_in}
+use Rattle.raft_log_directory_copies.specs.Copies.{HoldsExactly, IsAtRest, MakesFile, name_of, names_of, path_in}
 
 -- A file that was made, written and synced has the bytes.
 
@@ -44,13 +41,6 @@ made path id bytes old begun written new sound sound_begun sound_written creates
     }
 
 -- A directory with some files.
-
-pub holds_none : (directory : List ℕ) (d : Disk) → d.directories directory ≡ true → IsUnnamed directory d → HoldsExactly [] directory d
-holds_none directory d there unnamed = record {
-  there = there;
-  kept = All-nil (λ (file : StoredFile). IsAtRest (path_in directory (name_of file)) file.bytes.items d);
-  only = λ name plain named. absurd (named (unnamed name plain));
-}
 
 -- one name is that of one path
 one_name : (directory a b : List ℕ) → path_in directory a ≡ path_in directory b → a ≡ b
@@ -97,23 +87,4 @@ holds_next directory files i file path bytes old new lt is at same holds makes =
 
 -- The directory is made first.
 
-always : (b was : Bool) → b ≡ true → cond b true was ≡ true
-always b was is = ap (λ (c : Bool). cond c true was) is
-
-pub made_there : (directory : List ℕ) (old new : Disk) → MakesDirectory directory old new → new.directories directory ≡ true
-made_there directory old new makes =
-    ap (λ (d : Disk). d.directories directory) makes.done ∙ always (bytes_eq directory directory) (old.directories directory) ((bytes_eq-Decides directory directory).1 refl)
-
 -- A directory whose listing is empty has no file.
-
-none_there : (o : Option ℕ) → (o ≡ None → ⊥) ⊎ (o ≡ None)
-none_there None = inr refl
-none_there (Some id) = inl (λ is. cc)
-
-pub unnamed_there : (directory : List ℕ) (d : Disk) (names : List (List ℕ)) → names ≡ [] → IsListing directory d names → IsUnnamed directory d
-unnamed_there directory d names empty listing = λ name plain. elim (none_there (d.names (path_in directory name))) [
-  | inl named ↦
-      let inside : Contains [] name = subst (λ (l : List (List ℕ)). Contains l name) empty (listing.all name plain named) in
-      absurd (omega (arith, inside.1))
-  | inr is ↦ is
-]

@@ -4,7 +4,7 @@ use Rattle.raft_log_fs.specs.Disk.{Disk}
 use Rattle.raft_log_file_writer.specs.LogQueue.{LogFiles}
 use Rattle.raft_log_fs.specs.Touching.{TouchesOnlyNames}
 use Rattle.raft_log_active_file.specs.Queue.{with_more, with_room}
-use Rattle.raft_log_active_file.proofs.Standing.{stands_rebased}
+use Rattle.raft_log_active_file.proofs.Public.{stands_rebased}
 use Rattle.raft_log_active_file.specs.Layout.{path_of}
 use Rattle.raft_log_active_file.specs.LastFile.{IsActiveTo}
 use Rattle.raft_log_file_pipe.specs.declared.pipe_files.PipeFiles.{PipeFiles}

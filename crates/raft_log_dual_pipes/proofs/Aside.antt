@@ -3,13 +3,13 @@ use Rattle.std.proofs.Common.{◌≡◌, ℕ, ◌<◌, ◌≤◌, List, ◌∙�
 use Rattle.raft_log_fs.specs.Disk.{Disk}
 use Rattle.raft_log_file_writer.specs.LogQueue.{LogFiles, HoldsLast, IsLeftover}
 use Rattle.raft_log_fs.specs.Touching.{TouchesOnlyNames}
-use Rattle.raft_log_active_file.proofs.Standing.{stands_elsewhere}
+use Rattle.raft_log_active_file.proofs.Public.{stands_elsewhere}
 use Rattle.raft_log_active_file.specs.Layout.{path_of}
 use Rattle.raft_log_active_file.specs.Rotation.{StandsWithRecords}
 use Rattle.raft_log_active_file.specs.LastFile.{IsActiveTo}
 use Rattle.raft_log_file_pipe.specs.Files.{Listed, IsKeptForUse, IsPipe}
 use Rattle.raft_log_file_pipe.specs.declared.pipe_files.PipeFiles.{PipeFiles}
-use Rattle.raft_log_file_pipe.proofs.Lists.{span_end, span_moved, kept_all, kept_is_own}
+use Rattle.raft_log_file_pipe.proofs.Public.{kept_all, kept_is_own, span_end, span_moved}
 use Rattle.raft_log_dual_pipes.specs.Queues.{QueueLayout, IsQueueLayout}
 use Rattle.raft_log_dual_pipes.specs.State.{Spanned, RunsQueue, HoldsQueue, IsStopped}
 use Rattle.raft_log_dual_pipes.specs.Steps.{OtherQueueStays}

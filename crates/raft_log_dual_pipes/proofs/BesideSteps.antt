@@ -10,7 +10,7 @@ use Rattle.raft_log_record_base.specs.declared.errors.Error.TheVariants as error
 use Rattle.raft_log_file_format.specs.Header.{header_bytes}
 use Rattle.raft_log_active_file.specs.Queue.{with_more, with_room, synced}
 use Rattle.raft_log_active_file.specs.Bridge.{IsFileQueue, GapsStay}
-use Rattle.raft_log_active_file.proofs.Bridging.{takes_numbered_steps}
+use Rattle.raft_log_active_file.proofs.Public.{takes_numbered_steps}
 use Rattle.raft_log_active_file.specs.Rotation.{StandsWithRecords}
 use Rattle.raft_log_record_base.specs.declared.pipe_log.LogQueue.{LogQueue}
 use Rattle.raft_log_record_base.specs.declared.pipe_log.FileBlockHandle.{FileBlockHandle}
@@ -21,7 +21,7 @@ use Rattle.raft_log_file_pipe.specs.Exits.{SameFiles, RotationLeaves}
 use Rattle.raft_log_file_pipe.specs.Files.{IsSpan}
 use Rattle.raft_log_file_pipe.specs.Purging.{PurgeLeaves}
 use Rattle.raft_log_file_pipe.specs.declared.pipe_files.PipeFiles.{PipeFiles}
-use Rattle.raft_log_file_pipe.proofs.Turning.{pipe_same}
+use Rattle.raft_log_file_pipe.proofs.Public.{pipe_same}
 use Rattle.raft_log_machine_laws.specs.Model.{Files}
 use Rattle.raft_log_machine_laws.specs.Moves.{grown, settled_files, raised_files}
 use Rattle.raft_log_machine_laws.specs.Calls.Which.{InAppend, InRewrite}

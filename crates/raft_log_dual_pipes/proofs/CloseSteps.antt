@@ -5,18 +5,18 @@ use Rattle.raft_log_model_laws.specs.Groups.{Map, taken}
 use Rattle.raft_log_fs.specs.Disk.{Disk}
 use Rattle.raft_log_file_writer.specs.LogQueue.{LogFiles}
 use Rattle.raft_log_active_file.specs.Queue.{settled}
-use Rattle.raft_log_active_file.proofs.Bridging.{takes_numbered_steps}
+use Rattle.raft_log_active_file.proofs.Public.{takes_numbered_steps}
 use Rattle.raft_log_active_file.specs.Rotation.{StandsWithRecords}
 use Rattle.raft_log_fs.specs.Touching.{TouchesOnlyNames}
 use Rattle.raft_log_file_pipe.specs.Files.{Listed}
 use Rattle.raft_log_file_pipe.specs.Closing.{AreBelow, IsSettledBy, LeavesClosed, StaysLeft}
 use Rattle.raft_log_file_pipe.specs.declared.pipe_files.PipeFiles.{PipeFiles}
-use Rattle.raft_log_file_pipe.proofs.SettingAside.{pipe_below, pipe_below_first}
+use Rattle.raft_log_file_pipe.proofs.Public.{pipe_below, pipe_below_first}
 use Rattle.raft_log_machine_laws.specs.Model.{Files}
 use Rattle.raft_log_machine_laws.specs.Calls.{Which, LeavesOut, Settles, FailsWhole, from_at, queue_at, put}
 use Rattle.raft_log_machine_laws.specs.Calls.Which.{InAppend, InRewrite}
 use Rattle.raft_log_machine_laws.specs.Log.{View, IsAt}
-use Rattle.raft_log_machine_laws.proofs.CallLaws.{append_left_out, rewrite_left_out}
+use Rattle.raft_log_machine_laws.proofs.Public.{append_left_out, rewrite_left_out}
 use Rattle.raft_log_dual_pipes.specs.Queues.{QueueLayout, TwoQueues, AreTwoQueues, layout_at}
 use Rattle.raft_log_dual_pipes.specs.State.{LogOnDisk, Pipes, spanned_at, RunsQueue, Run, Ties}
 use Rattle.raft_log_dual_pipes.specs.Turning.{in_span}

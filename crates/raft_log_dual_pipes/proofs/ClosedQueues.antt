@@ -9,19 +9,18 @@ use Rattle.raft_log_fs.specs.Disk.{Disk}
 use Rattle.raft_log_fs.specs.Image.{IsImage, IsSound}
 use Rattle.raft_log_file_writer.specs.LogQueue.{Past, NoChanceInLast}
 use Rattle.raft_log_fs.specs.Touching.{TouchesOnlyNames}
-use Rattle.raft_log_fs.proofs.TouchingLaws.{names_same}
+use Rattle.raft_log_fs.proofs.Public.{names_same}
 use Rattle.raft_log_active_file.specs.Queue.{with_room}
 use Rattle.raft_log_active_file.specs.Beginning.{fresh_queue}
 use Rattle.raft_log_active_file.specs.Bridge.{filed, IsFileQueue, GapsStay}
-use Rattle.raft_log_active_file.proofs.Bridging.{takes_numbered_steps}
-use Rattle.raft_log_active_file.proofs.Standing.{place_moved}
+use Rattle.raft_log_active_file.proofs.Public.{place_moved, takes_numbered_steps}
 use Rattle.raft_log_file_pipe.specs.declared.pipe_files.PipeFiles.{PipeFiles}
 use Rattle.raft_log_machine_laws.specs.Model.{Files}
 use Rattle.raft_log_machine_laws.specs.DirectoryImages.{empty_file}
 use Rattle.raft_log_machine_laws.specs.Calls.{Which, put}
 use Rattle.raft_log_machine_laws.specs.Calls.Which.{InAppend, InRewrite}
 use Rattle.raft_log_machine_laws.specs.Log.{IsLog, IsLogOf}
-use Rattle.raft_log_machine_laws.proofs.LogLaws.{fewer}
+use Rattle.raft_log_machine_laws.proofs.Public.{fewer}
 use Rattle.raft_log_dual_pipes.specs.Queues.{QueueLayout, IsQueueLayout, TwoQueues, AreTwoQueues, layout_at}
 use Rattle.raft_log_dual_pipes.specs.State.{Spanned, LogOnDisk, spanned_at, with_spanned, RunsQueue, HasSpan, Ties}
 use Rattle.raft_log_dual_pipes.specs.Crash.{MayRead, readings_of, AllowsIn}

@@ -5,10 +5,10 @@ use Rattle.raft_log_machine_laws.specs.Files.{FileQueue}
 use Rattle.raft_log_fs.specs.Disk.{Disk}
 use Rattle.raft_log_fs.specs.Image.{IsImage}
 use Rattle.raft_log_file_writer.specs.LogQueue.{NoChanceInLast, kept_to}
-use Rattle.raft_log_fs.proofs.TouchingLaws.{names_same}
+use Rattle.raft_log_fs.proofs.Public.{names_same}
 use Rattle.raft_log_active_file.specs.Standing.{Names}
 use Rattle.raft_log_active_file.specs.Bridge.{IsFileQueue, GapsStay}
-use Rattle.raft_log_active_file.proofs.Standing.{place_moved}
+use Rattle.raft_log_active_file.proofs.Public.{place_moved}
 use Rattle.raft_log_machine_laws.specs.Calls.{ReadAgain, read_files}
 use Rattle.raft_log_dual_pipes.specs.Queues.{QueueLayout, IsQueueLayout, TwoQueues}
 use Rattle.raft_log_dual_pipes.specs.State.{Spanned}

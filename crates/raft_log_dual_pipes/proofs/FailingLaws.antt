@@ -15,7 +15,7 @@ use Rattle.raft_log_machine_laws.specs.Calls.{Which, LeavesOut}
 use Rattle.raft_log_machine_laws.specs.Calls.Which.{InAppend, InRewrite}
 use Rattle.raft_log_machine_laws.specs.Log.{View, LogEnds}
 use Rattle.raft_log_machine_laws.specs.Tables.{GrowsTo}
-use Rattle.raft_log_machine_laws.proofs.CallLaws.{stands_log, failed_whole, append_left_out, rewrite_left_out, append_may_be_there}
+use Rattle.raft_log_machine_laws.proofs.Public.{append_left_out, append_may_be_there, failed_whole, rewrite_left_out, stands_log}
 use Rattle.raft_log_dual_pipes.specs.Queues.{TwoQueues, AreTwoQueues, layout_at, SaysRecord}
 use Rattle.raft_log_dual_pipes.specs.State.{LogOnDisk, Pipes, pipe_at, Ties}
 use Rattle.raft_log_dual_pipes.specs.Steps.{next_log}

@@ -12,7 +12,7 @@ use Rattle.raft_log_active_file.specs.Bridge.{GapsStay}
 use Rattle.raft_log_active_file.specs.LastFile.{IsActiveTo}
 use Rattle.raft_log_active_file.specs.Layout.{path_of}
 use Rattle.raft_log_active_file.specs.Rotation.{StandsWithRecords}
-use Rattle.raft_log_active_file.proofs.Rotating.{open_left}
+use Rattle.raft_log_active_file.proofs.Public.{open_left}
 use Rattle.raft_log_file_pipe.specs.Files.{IsPipe}
 use Rattle.raft_log_file_pipe.specs.declared.pipe_files.PipeFiles.{PipeFiles}
 use Rattle.raft_log_dual_pipes.specs.Queues.{QueueLayout, IsQueueLayout}

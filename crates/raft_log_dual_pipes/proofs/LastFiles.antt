@@ -5,17 +5,14 @@ use Rattle.raft_log_fs.specs.Calls.{flushed}
 use Rattle.raft_log_fs.specs.Disk.{Disk, File}
 use Rattle.raft_log_fs.specs.Exits.{Syncs}
 use Rattle.raft_log_fs.specs.Image.{IsFileImage, IsImage}
-use Rattle.raft_log_fs.proofs.ImageLaws.{only_at_rest}
-use Rattle.raft_log_fs.proofs.TouchingLaws.{same_file}
-use Rattle.raft_log_fs.proofs.Updates.{file_here}
+use Rattle.raft_log_fs.proofs.Public.{file_here, only_at_rest, same_file}
 use Rattle.raft_log_record_base.specs.declared.pipe_log.LogQueue.{LogQueue}
 use Rattle.raft_log_file_format.specs.Header.{header_bytes}
 use Rattle.raft_log_file_writer.specs.LawsChains.{LiesIn, Reads, Refuses, spelled}
 use Rattle.raft_log_file_writer.specs.KeepsSynced.WasWritten.{own_record}
 use Rattle.raft_log_file_writer.specs.LogFormat.{Format, IsFormat, NoChanceInFile}
 use Rattle.raft_log_file_writer.specs.LogQueue.{LogFiles, recent}
-use Rattle.raft_log_file_writer.proofs.LawsChainLaws.{reads_further}
-use Rattle.raft_log_file_writer.proofs.KeepsSyncedLaws.{record_lies}
+use Rattle.raft_log_file_writer.proofs.Public.{reads_further, record_lies}
 use Rattle.raft_log_active_file.specs.QueueFiles.{IsRecordIn, log_format, log_paths}
 use Rattle.raft_log_active_file.specs.QueueFilesLaws.{is_layout}
 use Rattle.raft_log_active_file.specs.Paths.{IsOwnPath}

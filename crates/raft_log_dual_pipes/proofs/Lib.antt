@@ -1,3 +1,4 @@
+pub mod Public
 pub mod AppendStep
 pub mod Aside
 pub mod BesideSteps

@@ -4,7 +4,7 @@ use Rattle.raft_log_machine_laws.specs.Files.{FileQueue}
 use Rattle.raft_log_fs.specs.Disk.{Disk}
 use Rattle.raft_log_fs.specs.Touching.{TouchesOnlyNames}
 use Rattle.raft_log_active_file.specs.Bridge.{IsFileQueue, GapsStay}
-use Rattle.raft_log_active_file.proofs.Bridging.{takes_numbered_steps}
+use Rattle.raft_log_active_file.proofs.Public.{takes_numbered_steps}
 use Rattle.raft_log_file_pipe.specs.declared.pipe_files.PipeFiles.{PipeFiles}
 use Rattle.raft_log_machine_laws.specs.Model.{Files}
 use Rattle.raft_log_machine_laws.specs.Calls.{Which, queue_at, from_at, put}
@@ -31,12 +31,6 @@ module _ {R E V : Type 0} (log : TwoQueues R E V) (two : AreTwoQueues log) where
   -- a queue that runs holds its records
   pub runs_hold : (layout : QueueLayout R) → IsQueueLayout layout → (files : PipeFiles) (q : Spanned R) (d : Disk) → RunsQueue layout files q d → HoldsQueue layout q.files d
   runs_hold layout told files q d runs = inl (pipe_left layout told d files q.files d runs.pipe)
-
-  pub run_holds : (p : Pipes) (s : LogOnDisk R) → Run log p s → HoldsBoth log s
-  run_holds p s run = record {
-    append = runs_hold log.append two.append p.append s.append s.disk run.append;
-    rewrite = runs_hold log.rewrite two.rewrite p.rewrite s.rewrite s.disk run.rewrite;
-  }
 
   -- the other queue has no fewer gaps
   gaps_aside : (layout : QueueLayout R) → IsQueueLayout layout → (theirs : List ℕ → Type 0) → ((path : List ℕ) → layout.own path → theirs path → ⊥) → (files : PipeFiles) (q : Spanned R) (old new : Disk) → RunsQueue layout files q old

@@ -10,7 +10,7 @@ use Rattle.raft_log_file_writer.specs.LogFormat.{Format}
 use Rattle.raft_log_file_writer.specs.LogQueue.{LogFiles, rotated}
 use Rattle.raft_log_active_file.specs.Queue.{with_room, settled, synced, with_more}
 use Rattle.raft_log_active_file.specs.Bridge.{said, filed, IsFileQueue, GapsStay}
-use Rattle.raft_log_active_file.proofs.Bridging.{takes_numbered_steps}
+use Rattle.raft_log_active_file.proofs.Public.{takes_numbered_steps}
 use Rattle.raft_log_machine_laws.specs.Moves.{Moves, settled_files, grown}
 use Rattle.raft_log_dual_pipes.specs.Quiet.{QuietTo}
 

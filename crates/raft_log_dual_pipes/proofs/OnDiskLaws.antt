@@ -18,8 +18,7 @@ use Rattle.raft_log_machine_laws.specs.Model.{no_files}
 use Rattle.raft_log_machine_laws.specs.Log.{View, IsLog}
 use Rattle.raft_log_machine_laws.specs.Calls.{Which}
 use Rattle.raft_log_machine_laws.specs.Calls.Which.{InAppend, InRewrite}
-use Rattle.raft_log_machine_laws.proofs.Sound.{fresh_sound}
-use Rattle.raft_log_machine_laws.proofs.CallLaws.{stands_log}
+use Rattle.raft_log_machine_laws.proofs.Public.{fresh_sound, stands_log}
 use Rattle.raft_log_dual_pipes.specs.Queues.{TwoQueues, AreTwoQueues}
 use Rattle.raft_log_dual_pipes.specs.State.{LogOnDisk, Pipes, Ties}
 use Rattle.raft_log_dual_pipes.specs.Beginning.{begun_queue, stopped_log}

@@ -9,7 +9,7 @@ use Rattle.raft_log_fs.specs.Image.{IsSound}
 use Rattle.raft_log_file_writer.specs.KeepsSynced.{kept_records}
 use Rattle.raft_log_file_writer.specs.LogQueue.{Past, LogFiles, recent, IsLeftover, IsAbsent}
 use Rattle.raft_log_fs.specs.Touching.{HasFile, TouchesOnlyNames}
-use Rattle.raft_log_fs.proofs.TouchingLaws.{names_same}
+use Rattle.raft_log_fs.proofs.Public.{names_same}
 use Rattle.raft_log_record_base.specs.declared.errors.Error.{Error}
 use Rattle.raft_log_record_base.specs.declared.errors.Error.TheVariants as errors
 use Rattle.raft_log_file_format.specs.Header.{header_bytes}
@@ -27,7 +27,7 @@ use Rattle.raft_log_file_pipe.specs.Opening.OpenLeaves.{not_begun, not_taken_up}
 use Rattle.raft_log_file_pipe.specs.declared.found_files.FoundFiles.{FoundFiles}
 use Rattle.raft_log_file_pipe.specs.declared.new_files.NewFiles.{NewFiles}
 use Rattle.raft_log_file_pipe.specs.declared.pipe_files.PipeFiles.{PipeFiles}
-use Rattle.raft_log_file_pipe.proofs.Lists.{path_numbered, span_end, span_moved, kept_all}
+use Rattle.raft_log_file_pipe.proofs.Public.{kept_all, path_numbered, span_end, span_moved}
 use Rattle.raft_log_machine_laws.specs.Calls.{Which}
 use Rattle.raft_log_dual_pipes.specs.Queues.{QueueLayout, IsQueueLayout, TwoQueues, AreTwoQueues, layout_at}
 use Rattle.raft_log_dual_pipes.specs.State.{Spanned, LogOnDisk, spanned_at, IsStopped, Ties}

@@ -10,14 +10,13 @@ use Rattle.raft_log_record_base.specs.declared.errors.Error.{Error}
 use Rattle.raft_log_record_base.specs.declared.errors.Error.TheVariants as errors
 use Rattle.raft_log_active_file.specs.Queue.{with_room, synced}
 use Rattle.raft_log_active_file.specs.Bridge.{filed, IsFileQueue, GapsStay}
-use Rattle.raft_log_active_file.proofs.Bridging.{takes_numbered_steps}
+use Rattle.raft_log_active_file.proofs.Public.{takes_numbered_steps}
 use Rattle.raft_log_active_file.specs.Standing.{Names}
 use Rattle.raft_log_file_pipe.specs.Files.{IsSpan}
 use Rattle.raft_log_file_pipe.specs.Exits.{SameFiles, RotationLeaves, SyncsPipe, FailsToSyncPipe}
 use Rattle.raft_log_file_pipe.specs.Purging.{IsRaised, Purges, PurgeLeaves}
 use Rattle.raft_log_file_pipe.specs.declared.pipe_files.PipeFiles.{PipeFiles}
-use Rattle.raft_log_file_pipe.proofs.Lists.{span_end}
-use Rattle.raft_log_file_pipe.proofs.Turning.{pipe_same}
+use Rattle.raft_log_file_pipe.proofs.Public.{pipe_same, span_end}
 use Rattle.raft_log_machine_laws.specs.Model.{Files}
 use Rattle.raft_log_machine_laws.specs.Moves.{settled_files, raised_files}
 use Rattle.raft_log_machine_laws.specs.Notes.{AllBelow}

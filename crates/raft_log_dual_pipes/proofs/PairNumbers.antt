@@ -7,7 +7,7 @@ use Rattle.raft_log_fs.specs.Disk.{Disk}
 use Rattle.raft_log_fs.specs.Causes.{Fails}
 use Rattle.raft_log_file_writer.specs.LawsChains.{Written}
 use Rattle.raft_log_file_writer.specs.LogQueue.{LogFiles}
-use Rattle.raft_log_fs.proofs.CauseLaws.{fails_after, fails_still}
+use Rattle.raft_log_fs.proofs.Public.{fails_after, fails_still}
 use Rattle.raft_log_record_base.specs.declared.errors.Error.{Error}
 use Rattle.raft_log_record_base.specs.declared.errors.Error.TheVariants as errors
 use Rattle.raft_log_record_base.specs.declared.pipe_log.LogQueue.{LogQueue}
@@ -26,7 +26,7 @@ use Rattle.raft_log_file_pipe.specs.Appending.TurnsElsewhere.{elsewhere, nowhere
 use Rattle.raft_log_file_pipe.specs.Appending.AppendFails.{not_turned, not_written}
 use Rattle.raft_log_file_pipe.specs.Files.{IsSpan, Listed}
 use Rattle.raft_log_file_pipe.specs.Purging.{HasFarFile, PurgeLeaves}
-use Rattle.raft_log_file_pipe.proofs.Lists.{span_end}
+use Rattle.raft_log_file_pipe.proofs.Public.{span_end}
 use Rattle.raft_log_file_pipe.specs.declared.new_files.NewFiles.{NewFiles}
 use Rattle.raft_log_file_pipe.specs.declared.pipe_files.PipeFiles.{PipeFiles}
 use Rattle.raft_log_machine_laws.specs.Calls.{Which}

@@ -17,7 +17,7 @@ use Rattle.raft_log_dual_pipes.specs.State.{Spanned, with_spanned, pipe_at, with
 use Rattle.raft_log_dual_pipes.specs.OpenOrClosed.{both_open, with_open, IsOpenOrClosed}
 use Rattle.raft_log_dual_pipes.specs.Own.{log_layout}
 use Rattle.raft_log_dual_pipes.specs.PipeCalls.{SameRules}
-use Rattle.raft_log_dual_pipes.specs.Pipes.{OnePipe, LogPipes, LogSense, IsPipeOf, RunsOn, State, files_of, is_failed, layout_of, one_at, queue_of, queues}
+use Rattle.raft_log_dual_pipes.specs.Pipes.{OnePipe, LogPipes, LogSense, IsPipeOf, RunsOn, State, files_of, layout_of, one_at, queue_of, queues}
 
 abbrev pub append_with : Which → LogPipes → OnePipe → OnePipe
 append_with InAppend v o = o
@@ -30,15 +30,6 @@ rewrite_with InRewrite v o = o
 -- the pipes with another such one, on another disk
 abbrev pub with_one : Which → LogPipes → OnePipe → Disk → LogPipes
 with_one which v o d = record { append = append_with which v o; rewrite = rewrite_with which v o; disk = d }
-
--- the directories of a queue
-abbrev pub directories_at : Which → LogSense → List (List ℕ)
-directories_at InAppend log = log.append
-directories_at InRewrite log = log.rewrite
-
-pub pipe_of : (which : Which) (log : LogSense) (v : LogPipes) (s : State) → RunsOn log v s → IsPipeOf (queue_of which) (directories_at which log) (one_at which v)
-pipe_of InAppend log v s run = run.append
-pipe_of InRewrite log v s run = run.rewrite
 
 pub two_of : (log : LogSense) (v : LogPipes) (s : State) → RunsOn log v s → AreTwoQueues (queues log)
 two_of log v s run = record {
@@ -94,24 +85,6 @@ same_files InRewrite log v t files same run = subst (λ (fs : PipeFiles). Run (q
 pub either_false : (a b : Bool) → (a || b) ≡ false → (a ≡ false) × (b ≡ false)
 either_false false b h = (refl, h)
 either_false true b h = absurd (false≢true (sym h))
-
-pub both_alive : (v : LogPipes) → is_failed v ≡ false → (v.append.failed ≡ false) × (v.rewrite.failed ≡ false)
-both_alive v h = either_false v.append.failed v.rewrite.failed h
-
-pub alive_of : (log : LogSense) (v : LogPipes) (s : State) → RunsOn log v s → is_failed v ≡ false
-alive_of log v s run = ap (λ b. b || v.rewrite.failed) run.append.alive ∙ run.rewrite.alive
-
-or_false : (b : Bool) → (b || false) ≡ b
-or_false true = refl
-or_false false = refl
-
--- the pair has failed where the pipe that was called has
-pub failed_by : (which : Which) (v : LogPipes) (o : OnePipe) (d : Disk) → is_failed v ≡ false → is_failed (with_one which v o d) ≡ o.failed
-failed_by InAppend v o d alive = ap (λ b. o.failed || b) (both_alive v alive).1 ∙ or_false o.failed
-failed_by InRewrite v o d alive = ap (λ b. b || o.failed) (both_alive v alive).0
-
-pub tells : (X : Type 0) (a b : Bool) → a ≡ b → (IsTrue b ↔ X) → (IsTrue a ↔ X)
-tells X a b same h = subst (λ (c : Bool). IsTrue c ↔ X) (sym same) h
 
 -- whether the error is that of a failure that couldn't be mended
 abbrev pub is_failure : Error → Bool

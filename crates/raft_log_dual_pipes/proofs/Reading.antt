@@ -6,7 +6,7 @@ use Rattle.raft_log_fs.specs.Disk.{Disk}
 use Rattle.raft_log_fs.specs.Image.{IsSound}
 use Rattle.raft_log_file_writer.specs.LogQueue.{LogFiles, Found, ReadsFrom}
 use Rattle.raft_log_active_file.specs.Bridge.{logged, IsFileQueue, ReadsAsFiles}
-use Rattle.raft_log_active_file.proofs.Bridging.{reads_as_numbered}
+use Rattle.raft_log_active_file.proofs.Public.{reads_as_numbered}
 use Rattle.raft_log_dual_pipes.specs.Queues.{QueueLayout, IsQueueLayout, TwoQueues}
 use Rattle.raft_log_dual_pipes.specs.State.{HoldsQueue}
 use Rattle.raft_log_dual_pipes.specs.Crash.{IsReadAs, MayRead, HeldIsAllowed}

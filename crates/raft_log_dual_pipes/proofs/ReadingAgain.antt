@@ -7,9 +7,7 @@ use Rattle.raft_log_machine_laws.specs.Whereabouts.{Whereabouts}
 use Rattle.raft_log_machine_laws.specs.Files.{FileQueue, records_of}
 use Rattle.raft_log_machine_laws.specs.Files.FileEvent.{Read}
 use Rattle.raft_log_machine_laws.specs.Machine.Event.{Reopen}
-use Rattle.raft_log_machine_laws.proofs.FileLaws.{file_step_numbers}
-use Rattle.raft_log_machine_laws.proofs.DirectoryLaws.{read_queue}
-use Rattle.raft_log_machine_laws.proofs.ImageLaws.{opens}
+use Rattle.raft_log_machine_laws.proofs.Public.{file_step_numbers, kept_first, opens, read_queue, sound_step}
 use Rattle.raft_log_fs.specs.Disk.{Disk}
 use Rattle.raft_log_file_writer.specs.LawsChains.{Written}
 use Rattle.raft_log_file_writer.specs.KeepsSynced.{kept_records}
@@ -17,14 +15,12 @@ use Rattle.raft_log_file_writer.specs.LogFormat.{Format}
 use Rattle.raft_log_file_writer.specs.LogQueue.{LogFiles, recent}
 use Rattle.raft_log_fs.specs.Touching.{TouchesOnlyNames}
 use Rattle.raft_log_active_file.specs.Bridge.{IsFileQueue, GapsStay}
-use Rattle.raft_log_active_file.proofs.Bridging.{takes_numbered_steps}
+use Rattle.raft_log_active_file.proofs.Public.{takes_numbered_steps}
 use Rattle.raft_log_file_pipe.specs.declared.pipe_files.PipeFiles.{PipeFiles}
 use Rattle.raft_log_machine_laws.specs.Model.{Files, Model, IsModelSound, machine_of, running}
 use Rattle.raft_log_machine_laws.specs.Log.{IsLog}
 use Rattle.raft_log_machine_laws.specs.Calls.{Which, ReadAgain, read_files, from_at, queue_at, put}
 use Rattle.raft_log_machine_laws.specs.Calls.Which.{InAppend, InRewrite}
-use Rattle.raft_log_machine_laws.proofs.Sound.{sound_step}
-use Rattle.raft_log_machine_laws.proofs.LogLaws.{kept_first}
 use Rattle.raft_log_dual_pipes.specs.Queues.{TwoQueues, AreTwoQueues, layout_at}
 use Rattle.raft_log_dual_pipes.specs.State.{Spanned, LogOnDisk, spanned_at, Ties}
 use Rattle.raft_log_dual_pipes.specs.OpenOrClosed.{OpenPipes, with_open, IsOpenOrClosed}

@@ -5,7 +5,7 @@ use Rattle.raft_log_machine_laws.specs.Files.{FileQueue}
 use Rattle.raft_log_fs.specs.Disk.{Disk}
 use Rattle.raft_log_fs.specs.Causes.{Fails}
 use Rattle.raft_log_file_writer.specs.LawsChains.{Written}
-use Rattle.raft_log_fs.proofs.CauseLaws.{fails_after, fails_still}
+use Rattle.raft_log_fs.proofs.Public.{fails_after, fails_still}
 use Rattle.raft_log_file_writer.specs.LogQueue.{LogFiles, rotated}
 use Rattle.raft_log_record_base.specs.declared.errors.Error.{Error}
 use Rattle.raft_log_record_base.specs.declared.errors.Error.TheVariants as errors
@@ -24,7 +24,7 @@ use Rattle.raft_log_file_pipe.specs.Appending.TurnsElsewhere.{elsewhere, nowhere
 use Rattle.raft_log_file_pipe.specs.Appending.AppendFails.{not_turned, not_written}
 use Rattle.raft_log_file_pipe.specs.declared.pipe_files.PipeFiles.{PipeFiles}
 use Rattle.raft_log_file_pipe.specs.declared.new_files.NewFiles.{NewFiles}
-use Rattle.raft_log_file_pipe.proofs.Turning.{pipe_same}
+use Rattle.raft_log_file_pipe.proofs.Public.{pipe_same}
 use Rattle.raft_log_machine_laws.specs.Moves.{Moved, grown}
 use Rattle.raft_log_dual_pipes.specs.Queues.{QueueLayout, IsQueueLayout, SaysRecord}
 use Rattle.raft_log_dual_pipes.specs.State.{AreThere}

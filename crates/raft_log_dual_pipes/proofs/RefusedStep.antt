@@ -10,7 +10,7 @@ use Rattle.raft_log_record_base.specs.declared.errors.Error.{Error}
 use Rattle.raft_log_record_base.specs.declared.errors.Error.TheVariants as errors
 use Rattle.raft_log_file_format.specs.Header.{header_bytes}
 use Rattle.raft_log_active_file.specs.Bridge.{IsFileQueue}
-use Rattle.raft_log_active_file.proofs.Standing.{stands_rebased}
+use Rattle.raft_log_active_file.proofs.Public.{stands_rebased}
 use Rattle.raft_log_active_file.specs.Rotation.{StandsWithRecords}
 use Rattle.raft_log_file_writer.specs.LogQueue.{HoldsLast}
 use Rattle.raft_log_file_pipe.specs.declared.pipe_files.PipeFiles.{PipeFiles}

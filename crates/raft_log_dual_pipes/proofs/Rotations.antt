@@ -4,13 +4,13 @@ use Rattle.std.proofs.lemmas.List.{append-nil, append_assoc, drop-drop, drop-rep
 use Rattle.raft_log_fs.specs.Disk.{Disk, File, grown, zeros}
 use Rattle.raft_log_fs.specs.Exits.{Syncs}
 use Rattle.raft_log_fs.specs.Touching.{HasFile}
-use Rattle.raft_log_fs.proofs.TouchingLaws.{same_file}
+use Rattle.raft_log_fs.proofs.Public.{same_file}
 use Rattle.raft_log_record_base.specs.declared.pipe_log.LogQueue.{LogQueue}
 use Rattle.raft_log_file_format.specs.Header.{header_bytes}
 use Rattle.raft_log_file_writer.specs.LawsChains.{AreFrames, Refuses, Written, spelled}
 use Rattle.raft_log_file_writer.specs.LogFormat.{Format, HasHeader}
 use Rattle.raft_log_file_writer.specs.LogQueue.{IsPast, LogFiles, Past, recent, rotated}
-use Rattle.raft_log_file_writer.proofs.LawsChainLaws.{spelled-append}
+use Rattle.raft_log_file_writer.proofs.Public.{spelled-append}
 use Rattle.raft_log_active_file.specs.QueueFiles.{IsRecordIn, log_format, log_paths}
 use Rattle.raft_log_active_file.specs.QueueFilesLaws.{is_layout}
 use Rattle.raft_log_active_file.specs.Paths.{IsOwnPath}
@@ -19,7 +19,7 @@ use Rattle.raft_log_file_pipe.specs.Calls.{TurnsBy}
 use Rattle.raft_log_file_pipe.specs.Exits.{IsStaleOfNext}
 use Rattle.raft_log_file_pipe.specs.Files.{AllKept, IsPipe, Listed}
 use Rattle.raft_log_file_pipe.specs.declared.pipe_files.PipeFiles.{PipeFiles}
-use Rattle.raft_log_file_pipe.proofs.Lists.{path_numbered, span_end}
+use Rattle.raft_log_file_pipe.proofs.Public.{path_numbered, span_end}
 use Rattle.raft_log_active_file.specs.Beginning.{fresh_queue}
 use Rattle.raft_log_active_file.specs.Layout.{FilePaths, path_of}
 use Rattle.raft_log_active_file.specs.Queue.{whole, with_more, with_room}

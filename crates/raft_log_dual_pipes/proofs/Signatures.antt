@@ -5,14 +5,13 @@ use Rattle.raft_log_fs.specs.Disk.{zeros}
 use Rattle.raft_log_file_writer.specs.LawsChains.{AreFrames, Refuses, Written, spelled}
 use Rattle.raft_log_file_format.specs.Header.{IsFileHeader, IsPayload, header_bytes, magic}
 use Rattle.raft_log_file_format.specs.declared.header.LogFileFormat.{LogFileFormat}
-use Rattle.raft_log_file_format.proofs.Headers.{header_length}
+use Rattle.raft_log_file_format.proofs.Public.{header_length}
 use Rattle.raft_log_record_base.specs.Files.{signature, version_number}
 use Rattle.raft_log_record_base.specs.declared.pipe_log.Version.{Version}
 use Rattle.raft_log_record_base.specs.declared.pipe_log.Version.TheVariants.{V1, V2}
 use Rattle.raft_log_record_items.specs.declared.item.LogItem.{LogItem}
 use Rattle.raft_log_record_frames.specs.Record.{IsFooter, IsRecord}
-use Rattle.raft_log_record_frames.proofs.Footers.{one_signature}
-use Rattle.raft_log_record_frames.proofs.Frames.{one_frame}
+use Rattle.raft_log_record_frames.proofs.Public.{one_frame, one_signature}
 use Rattle.raft_log_active_file.specs.declared.record.LogRecord.{LogRecord}
 use Rattle.raft_log_active_file.specs.QueueFiles.{IsRecordIn}
 use Rattle.raft_log_active_file.specs.QueueFilesLaws.{zeros_hold_none}

@@ -8,7 +8,7 @@ use Rattle.raft_log_active_file.specs.Layout.{path_of}
 use Rattle.raft_log_file_pipe.specs.Closing.{NumbersStay}
 use Rattle.raft_log_file_pipe.specs.Files.{Listed, IsSpan}
 use Rattle.raft_log_file_pipe.specs.declared.pipe_files.PipeFiles.{PipeFiles}
-use Rattle.raft_log_file_pipe.proofs.Lists.{path_numbered}
+use Rattle.raft_log_file_pipe.proofs.Public.{path_numbered}
 use Rattle.raft_log_dual_pipes.specs.Queues.{QueueLayout, IsQueueLayout}
 use Rattle.raft_log_dual_pipes.specs.State.{Spanned, RunsQueue, AreThere, HasSpan}
 

@@ -7,14 +7,10 @@ use Rattle.raft_log_file_writer.specs.LawsChains.{Written, spelled}
 use Rattle.raft_log_file_writer.specs.LogFormat.{ReadsFile, NoChanceInFile}
 use Rattle.raft_log_file_writer.specs.LogQueue.{LogFiles, HoldsLast, IsLeftover, NoChanceInLast, recent, kept_to}
 use Rattle.raft_log_fs.specs.Touching.{HasFile}
-use Rattle.raft_log_fs.proofs.ImageLaws.{left_at_rest, only_at_rest}
-use Rattle.raft_log_file_writer.proofs.CrashExampleLaws.{synced_file_has_no_chance}
-use Rattle.raft_log_file_writer.proofs.LogQueueLaws.{queue_restarts, image_there}
-use Rattle.raft_log_file_writer.proofs.KeepsSyncedLaws.{left_of_image}
-use Rattle.raft_log_fs.proofs.TouchingLaws.{names_same, same_file}
+use Rattle.raft_log_fs.proofs.Public.{left_at_rest, names_same, only_at_rest, same_file}
+use Rattle.raft_log_file_writer.proofs.Public.{image_there, left_of_image, queue_restarts, synced_file_has_no_chance}
 use Rattle.raft_log_active_file.specs.Standing.{Names}
-use Rattle.raft_log_active_file.proofs.Keeping.{log_files}
-use Rattle.raft_log_active_file.proofs.Standing.{place_moved}
+use Rattle.raft_log_active_file.proofs.Public.{log_files, place_moved}
 use Rattle.raft_log_active_file.specs.Rotation.{StandsWithRecords}
 use Rattle.raft_log_dual_pipes.specs.Queues.{QueueLayout, IsQueueLayout}
 use Rattle.raft_log_dual_pipes.specs.State.{IsStopped, HoldsQueue}

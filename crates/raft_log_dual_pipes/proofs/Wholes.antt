@@ -7,11 +7,11 @@ use Rattle.raft_log_fs.specs.Image.{IsImage}
 use Rattle.raft_log_file_writer.specs.LogFormat.{Format}
 use Rattle.raft_log_file_writer.specs.LogQueue.{Past, Found, IsAbsent}
 use Rattle.raft_log_active_file.specs.Bridge.{IsFileQueue}
-use Rattle.raft_log_active_file.proofs.Beginning.{begins_numbered}
+use Rattle.raft_log_active_file.proofs.Public.{begins_numbered}
 use Rattle.raft_log_machine_laws.specs.Files.{fresh_files}
 use Rattle.raft_log_active_file.specs.Standing.{Names}
 use Rattle.raft_log_machine_laws.specs.DirectoryImages.{empty_file}
-use Rattle.raft_log_machine_laws.proofs.LogLaws.{nothing_is_log}
+use Rattle.raft_log_machine_laws.proofs.Public.{nothing_is_log}
 use Rattle.raft_log_dual_pipes.specs.Queues.{TwoQueues}
 use Rattle.raft_log_dual_pipes.specs.State.{Spanned}
 use Rattle.raft_log_dual_pipes.specs.Crash.{IsReadAs, MayRead, readings_of}

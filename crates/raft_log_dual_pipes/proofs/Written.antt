@@ -3,7 +3,7 @@ use Rattle.std.proofs.Common.{refl, sym, subst}
 use Rattle.raft_log_fs.specs.Disk.{Disk}
 use Rattle.raft_log_file_pipe.specs.Appending.{AppendsAt}
 use Rattle.raft_log_machine_laws.specs.Calls.Which.{InAppend}
-use Rattle.raft_log_machine_laws.proofs.CallLaws.{append_answered}
+use Rattle.raft_log_machine_laws.proofs.Public.{append_answered}
 use Rattle.raft_log_dual_pipes.specs.Queues.{TwoQueues}
 use Rattle.raft_log_dual_pipes.specs.State.{Ties}
 use Rattle.raft_log_dual_pipes.specs.Crash.{AllowsIn}

@@ -1,4 +1,4 @@
--- A log whose two queues have just begun, and the log that a stop leaves.
+-- Logs whose two queues have just begun, disks without log files, and the log that a stop leaves.
 use Rattle.std.specs.Prelude.{◌≡◌, ℕ, ◌<◌, List, []}
 use Rattle.raft_log_machine_laws.specs.Fresh.{nothing_stands}
 use Rattle.raft_log_fs.specs.Disk.{Disk}
@@ -13,12 +13,13 @@ use Rattle.raft_log_dual_pipes.specs.State.{Spanned, LogOnDisk, Ties}
 use Rattle.raft_log_dual_pipes.specs.Crash.{readings_of}
 use Rattle.raft_log_dual_pipes.specs.Turning.{in_span}
 
--- A queue that has just begun: its live range consists of file 1, with this header and no record. `room` zeros may be
--- allocated in it. `older` doesn't matter, as there are no earlier files.
+-- A queue that has just begun: its live range consists of file 1, with this header and no record. `room` zeros are
+-- allocated after the header. `older` would be the earlier files, of which there are none.
 abbrev pub begun_queue : {R : Type 0} → (ℕ → Past R) → List ℕ → ℕ → Spanned R
 begun_queue older header room = record { first = 1; files = with_room room (fresh_queue older header) }
 
--- if both queues have just begun and have no file 0, the log's numbered files are one empty file 1 for each queue
+-- if both queues have just begun, and no file has the number 0, the log's numbered files are one empty file 1 for each
+-- queue
 abbrev pub BegunLogIsEmpty : {R E V : Type 0} → TwoQueues R E V → Type 0
 BegunLogIsEmpty {R} log = (append rewrite : Spanned R) (d : Disk)
     → ((older : ℕ → Past R) × (header : List ℕ) × (room : ℕ) × (append ≡ begun_queue older header room))
@@ -30,7 +31,8 @@ BegunLogIsEmpty {R} log = (append rewrite : Spanned R) (d : Disk)
 abbrev pub HasNoFile : {R : Type 0} → Format R → Disk → Type 0
 HasNoFile F d = (m : ℕ) → m < F.limit → IsAbsent F m d
 
--- if a disk has no file of either queue, the contents of a log on it are the empty map, and no batch is pending
+-- If a disk has no numbered file of either queue, a log on it has the empty map as its contents, and no batch is
+-- pending.
 abbrev pub NoFilesAreNothing : {R E V : Type 0} → TwoQueues R E V → Type 0
 NoFilesAreNothing {R} log = (s : LogOnDisk R) → HasNoFile log.append.format s.disk
     → HasNoFile log.rewrite.format s.disk → IsLogOf (readings_of log) s nothing_stands []

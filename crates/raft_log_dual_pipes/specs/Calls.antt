@@ -1,5 +1,6 @@
--- What each call on a log's pipes does to a log over which they run: to its files, and to its numbered files, which are
--- how the model sees these files. `v` are the pipes before the call, `w` after it. `s` is the log before the call.
+-- What each call on a log's pipes does to a log over which they run. Each definition says how the log's files change.
+-- It also says how the numbered files change, which are these files as the model sees them. `v` are the pipes before
+-- the call, `w` after it. `s` is the log before the call.
 use Rattle.std.specs.Prelude.{◌≡◌, ◌⊎◌, ◌↔◌, IsTrue, ℕ, ◌+◌, ◌-◌, ◌*◌, ◌/◌, ◌^◌, min, suc, true, None, Err, Result, List, length}
 use Rattle.raft_log_fs.specs.Causes.{Fails}
 use Rattle.raft_log_fs.specs.Exits.{IsUnarmed}
@@ -22,9 +23,9 @@ use Rattle.raft_log_dual_pipes.specs.PerQueue.{LeavesRaised}
 use Rattle.raft_log_dual_pipes.specs.Failing.{failed_pipe}
 use Rattle.raft_log_dual_pipes.specs.Pipes.{LogPipes, LogSense, RunsOn, LogRecordValue, State, files_of, header_at, is_failed, one_at, queue_of, queues, spares_at}
 
--- An append succeeded. If the pipes ran over a log, they still do, and the record is the last one of its queue, at the
--- location `block`. The queue may have rotated before the write. The numbered files get the record in the file of this
--- location. `signed` gives the record's bytes for a file, and `y` is the model's record for it.
+-- An append succeeded. `signed` gives the record's bytes for a file, and `y` is the same record in the model. If the
+-- pipes ran over a log, they still do, and the record is the last one of its queue, at the location `block`. The queue
+-- may have rotated before the write. The numbered files get the record in the file of this location.
 abbrev pub AppendsTo : Which → (LogFileContext → List ℕ) → FileBlockHandle → LogPipes → LogPipes → Type 0
 AppendsTo which signed block v w = (log : LogSense) (s : State) (y : LogRecordValue) → RunsOn log v s
     → (said : SaysRecord log.says (layout_at which (queues log)) (queue_of which) signed y)
@@ -33,8 +34,8 @@ AppendsTo which signed block v w = (log : LogSense) (s : State) (y : LogRecordVa
     × HasLast signed said.value block files × RunsOn log w (next_log which s files w.disk)
     × Appends (Ties (queues log)) which y block.id.seq s (next_log which s files w.disk))
 
--- A record's write failed, and the part that was written was truncated away. The pipes still run over the log. All that
--- was written to the queue before is synced, and the queue may have rotated.
+-- A record's write failed, and the part that was written was truncated away. The pipes still run over the log. All
+-- records of the queue are synced, and the queue may have rotated.
 abbrev pub CutsBackOn : LogSense → Which → State → LogPipes → LogPipes → Type 0
 CutsBackOn log which s v w = (files : LogFiles LogRecord)
     × IsCutBack (header_at which v) (spares_at which v) s.disk (spanned_at which s).files files
@@ -51,7 +52,7 @@ LeavesOutOn log which s v w = (files : LogFiles LogRecord)
     × LeavesOut (Ties (queues log)) which s (next_log which s files w.disk)
 
 -- The pipe of one queue has failed in an append. The log is on the disk, with the record or without it, and may be
--- opened again from there.
+-- opened again.
 abbrev pub MayContain : LogSense → Which → State → LogRecordValue → LogPipes → LogPipes → Type 0
 MayContain log which s y v w = LeavesQueue (queues log) which (both_open (files_of v)) None s w.disk
     (λ files. IsOrGoesOn (header_at which v) (spares_at which v) s.disk (spanned_at which s).files files
@@ -85,7 +86,7 @@ SyncsQueue which v w = (log : LogSense) (s : State) → RunsOn log v s
     × Syncs (Ties (queues log)) which s (next_log which s (synced (spanned_at which s).files) w.disk)
 
 -- The sync of one queue failed. If the pipes ran over a log, a file call failed, and the queue's pipe has failed. The
--- log is on the disk, unchanged, and may be opened again.
+-- log is on the disk with the same records, and may be opened again.
 abbrev pub FailsToSyncQueue : Which → LogPipes → LogPipes → Type 0
 FailsToSyncQueue which v w = (log : LogSense) (s : State) → RunsOn log v s
     → Fails v.disk w.disk
@@ -159,8 +160,8 @@ IsSpanOf which v first last = (log : LogSense) (s : State) → RunsOn log v s
 abbrev pub count_at : Which → LogPipes → ℕ
 count_at which v = suc (length (pipe_at which (files_of v)).earlier.items)
 
--- The number of the first file after a fraction of a queue's live range: `num / den` of its files, rounded down. For
--- the whole range this is the number after the last file. The number is at most 2^64 - 1.
+-- The number of the first file after a fraction of a queue's live range. The fraction is `num / den` of the files,
+-- rounded down. For the whole range, the result is the number after the last file. It is at most 2^64 - 1.
 abbrev pub seq_at : Which → LogPipes → ℕ → ℕ → ℕ
 seq_at which v num den =
     min ((pipe_at which (files_of v)).first_seq + count_at which v * num / den) (2 ^ 64 - 1)

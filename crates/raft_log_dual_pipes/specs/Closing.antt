@@ -20,19 +20,19 @@ use Rattle.raft_log_dual_pipes.specs.Turning.{in_span}
 use Rattle.raft_log_dual_pipes.specs.Steps.{next_log}
 use Rattle.raft_log_dual_pipes.specs.OpenOrClosed.{OpenPipes, none_open, with_open, IsOpenOrClosed, LeavesQueue}
 
--- the files of a queue are on the disk `d`, and its last file holds its records
+-- the queue has these `files` on the disk `d`, and its last file holds its records
 abbrev pub LeftAt : {R E V : Type 0} → TwoQueues R E V → Which → Disk → LogFiles R → Type 0
 LeftAt log which d files = StandsWithRecords (layout_at which log).format (layout_at which log).own d files d
 
--- `files` are the files of `q`, unchanged, or with all records synced and no stale bytes
+-- `files` are the files of the queue `q`: unchanged, or with all records synced and no stale bytes after them
 abbrev pub IsOrIsSettled : {R : Type 0} → LogFiles R → LogFiles R → Type 0
 IsOrIsSettled q files = (files ≡ q) ⊎ (files ≡ settled q)
 
 -- What closing the pipe of one queue leaves, whatever the state of the other queue.
 -- - `closes`: the queue's last file holds its records. The queue is unchanged, or all its records are synced.
 -- - `settles`: if the active file was finished, all records of the queue are synced.
--- - `below`, `below_first`: a file kept for recycling has a reserved name, or a number below the last one and below the
---   live range.
+-- - `below`, `below_first`: each file kept for recycling has a reserved name, or its number is below the live range
+--   (and so below the last file's number).
 pub record ClosesBeside {R E V : Type 0} (log : TwoQueues R E V) (which : Which) (o : OpenPipes)
     (files : PipeFiles) (s : LogOnDisk R) : Type 0 where
   pub closes : (new : Disk)
@@ -55,9 +55,9 @@ abbrev pub CloseIsAStep : {R E V : Type 0} → TwoQueues R E V → Type 0
 CloseIsAStep {R} log = AreTwoQueues log → (which : Which) (o : OpenPipes) (files : PipeFiles)
     (s : LogOnDisk R) → IsOpenOrClosed log (with_open which o (Some files)) s → ClosesBeside log which o files s
 
--- The pipe of a queue is closed, and the files that it kept for recycling (`kept`) got reserved names or failed to.
--- Premise: those without a reserved name have numbers below the live range. Then the queue's last file still holds its
--- records, and the log's numbered files are the same.
+-- The pipe of a queue is closed. Each file that it kept for recycling (`kept`) got a reserved name or failed to get
+-- one. Premise: the files of `kept` that had no reserved name had numbers below the live range. Then the queue's last
+-- file still holds its records, and the log's numbered files are the same.
 abbrev pub NamesAreReserved : {R E V : Type 0} → TwoQueues R E V → Type 0
 NamesAreReserved {R} log = AreTwoQueues log → (which : Which) (o : OpenPipes) (kept : List Listed)
     (s : LogOnDisk R) (new : Disk) → IsOpenOrClosed log (with_open which o None) s
@@ -68,8 +68,9 @@ NamesAreReserved {R} log = AreTwoQueues log → (which : Which) (o : OpenPipes) 
     × IsOpenOrClosed log (with_open which o None) (next_log which s (spanned_at which s).files new)
     × FailsWhole (Ties log) (Ties log) s (next_log which s (spanned_at which s).files new)
 
--- The disks that a close of both pipes goes through. The close finishes the active files, Append's first. Then it
--- renames the files kept for recycling, Append's first. Even if one of these steps fails, its queue keeps its records.
+-- The disks that a close of both pipes goes through: `old`, `one`, `two`, `three`, `new`. The close finishes the active
+-- files, Append's first. Then it renames the files kept for recycling, Append's first. Each of these four steps may
+-- fail. Even then the queue that the step works on keeps its records.
 pub record ClosesBoth {R E V : Type 0} (log : TwoQueues R E V) (p : Pipes) (old new : Disk) : Type 0 where
   pub one : Disk
   pub two : Disk
@@ -85,8 +86,9 @@ closed_log s append rewrite d =
     record { append = in_span s.append append; rewrite = in_span s.rewrite rewrite; disk = d }
 
 -- The closed log is on the disk `new`. The files of each queue are unchanged, or all its records are synced now.
--- - `moves`: the numbered files have changed by quiet events: syncs, rotations, losses below the live range.
--- - `ends`: a view that was true of the log still is, except that a prefix of the pending batches may be synced now.
+-- - `moves`: the numbered files have changed only by quiet events: syncs, rotations, losses below the live range.
+-- - `ends`: if a view (what an engine knows of the log) was true of the log, it still is. A prefix of the pending
+--   batches may be synced now.
 pub record LiesClosed {R E V : Type 0} (log : TwoQueues R E V) (s : LogOnDisk R) (new : Disk) : Type 0 where
   pub append : LogFiles R
   pub rewrite : LogFiles R

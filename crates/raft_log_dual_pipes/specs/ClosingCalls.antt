@@ -8,8 +8,8 @@ use Rattle.raft_log_file_pipe.specs.Closing.{FinishesAs, FinishesOrNot, Reserves
 use Rattle.raft_log_dual_pipes.specs.Closing.{LiesClosed, LiesSettled}
 use Rattle.raft_log_dual_pipes.specs.Pipes.{LogPipes, LogSense, OnePipe, RunsOn, State, queues}
 
--- If the pipes ran over a log, the closed log is on the disk `d`, from which it may be opened. Some calls of the close
--- may have failed.
+-- If the pipes ran over a log, the closed log is on the disk `d`, and may be opened again. Some calls of the close may
+-- have failed.
 abbrev pub ClosesLog : LogPipes → Disk → Type 0
 ClosesLog v d = (log : LogSense) (s : State) → RunsOn log v s → LiesClosed (queues log) s d
 
@@ -17,14 +17,15 @@ ClosesLog v d = (log : LogSense) (s : State) → RunsOn log v s → LiesClosed (
 abbrev pub ClosesSettled : LogPipes → Disk → Type 0
 ClosesSettled v d = (log : LogSense) (s : State) → RunsOn log v s → LiesSettled (queues log) s d
 
--- the files that a pipe keeps for recycling got reserved names, from the newest to the oldest, or failed to get them
+-- the files that a pipe keeps for recycling got reserved names or failed to get them, from the newest file to the
+-- oldest
 abbrev pub NamesSpares : OnePipe → Disk → Disk → Type 0
 NamesSpares pipe old new = ReservesAll (log_paths pipe.queue pipe.directories)
     (reverse pipe.files.recycled.items) (greatest_reserved pipe.files.recycled.items) old new
 
--- The calls of a close, in order. It tries to finish both active files (to truncate each after its records and sync
--- it), Append's first. A failure doesn't end the close. Then the files that are kept for recycling get reserved names,
--- Append's first, or fail to get them.
+-- The calls of a close, in order. First it finishes the active files, Append's first: it truncates each after its
+-- records and syncs it. If that fails, the close goes on. Then the files kept for recycling get reserved names or fail
+-- to get them, Append's first.
 pub record ClosesInOrder (v : LogPipes) (new : Disk) : Type 0 where
   pub one : Disk
   pub two : Disk
@@ -34,8 +35,8 @@ pub record ClosesInOrder (v : LogPipes) (new : Disk) : Type 0 where
   pub append_names : NamesSpares v.append two three
   pub rewrite_names : NamesSpares v.rewrite three new
 
--- The calls of a close, and its result: why Append's active file wasn't finished; otherwise why Rewrite's wasn't;
--- otherwise success.
+-- The calls of a close, and its result. If Append's active file wasn't finished, the result is why. Otherwise, if
+-- Rewrite's wasn't finished, the result is why. Otherwise it is success.
 pub record ClosesAs (v : LogPipes) (result : Result (Unit {0}) Error) (new : Disk) : Type 0 where
   pub one : Disk
   pub two : Disk

@@ -1,5 +1,5 @@
--- What a crash leaves of a log on a disk, and what a recovery may read then. Numbered files are how the model sees the
--- files of a log: each has a number and records.
+-- What a crash leaves of a log on a disk, and what a recovery may read of it. Numbered files are the log's files as the
+-- model sees them: each has a number and records.
 use Rattle.std.specs.Prelude.{◌≡◌, ℕ, ◌≤◌, List, [], ◌∷◌, map}
 use Rattle.raft_log_model_laws.specs.Item.{Record}
 use Rattle.raft_log_machine_laws.specs.Files.{LogFile}
@@ -22,14 +22,14 @@ pub record IsLeftByCrash {R E V : Type 0} (log : TwoQueues R E V) (s image : Log
   pub append_first : image.append.first ≡ s.append.first
   pub rewrite_first : image.rewrite.first ≡ s.rewrite.first
 
--- `files` are what was found of a queue from the number `s` on, as numbered files; if nothing was found, `s` is 1, and
--- they are one empty file with this number
+-- `files` are the numbered files for what was found of a queue, from the file number `s` on. If nothing was found, `s`
+-- is 1, and `files` are one empty file with this number.
 abbrev pub IsReadAs : {R E V : Type 0} → (R → Record E V) → ℕ → List (Found R) → List (LogFile E V) → Type 0
 IsReadAs says s [] files = (s ≡ 1) × (files ≡ empty_file ∷ [])
 IsReadAs says s (f ∷ fs) files = files ≡ map (logged says) (f ∷ fs)
 
--- a recovery may begin at the file number `s`, which isn't above `first`, the first number of the live range; from
--- there it reads `files`, up to the queue's last file
+-- A recovery may begin at the file number `s`, and then reads `files`, up to the queue's last file. `s` isn't above
+-- `first`, the first number of the live range.
 abbrev pub MayRead : {R E V : Type 0} → (R → Record E V) → Format R → ℕ → Disk → ℕ → List (LogFile E V)
     → Type 0
 MayRead {R} says F first d s files =
@@ -43,13 +43,14 @@ readings_of log = record {
   append = λ image s files. MayRead log.says log.append.format image.append.first image.disk s files;
 }
 
--- after any crash of the log `s` without a CRC collision (`IsLeftByCrash`), a recovery reads what the numbered files
--- `f` allow: only the newest unsynced records of each queue may be missing
+-- After any crash of the log `s` without a CRC collision (`IsLeftByCrash`), a recovery reads the records of the
+-- numbered files `f`. It reads them from the file on at which it begins. Only a suffix of each queue's unsynced records
+-- may be missing.
 abbrev pub AllowsIn : {R E V : Type 0} → TwoQueues R E V → LogOnDisk R → Files E V → Type 0
 AllowsIn log s f = Allows (readings_of log) s f
 
--- If the last file of each queue holds its records, a recovery reads what the log's numbered files allow. This holds
--- after any crash without a CRC collision.
+-- Suppose that the disk is sound, and that the last file of each queue holds its records. Then a recovery after a crash
+-- reads the records of the log's numbered files, as `AllowsIn` says.
 abbrev pub HeldIsAllowed : {R E V : Type 0} → TwoQueues R E V → Type 0
 HeldIsAllowed {R} {E} {V} log = AreTwoQueues log → (s : LogOnDisk R) (f : Files E V)
     → IsSound s.disk → HoldsBoth log s → Ties log s f → AllowsIn log s f

@@ -20,8 +20,8 @@ use Rattle.raft_log_dual_pipes.specs.OpenOrClosed.{OpenPipes, both_open, with_op
 use Rattle.raft_log_dual_pipes.specs.OnDisk.{LogLiesOn}
 use Rattle.raft_log_dual_pipes.specs.Writing.{IsAtOn}
 
--- Some log is on the disk `d`. Its contents are the map `m` after a prefix of the batches `pending`, and the other
--- batches are still pending.
+-- Some log is on the disk `d`. A prefix of the batches `pending` may be synced now: the log's contents are the map `m`
+-- after this prefix, and the other batches are still pending.
 pub record LogEndsLying {R E V : Type 0} (log : TwoQueues R E V) (o : OpenPipes) (d : Disk) (m : Map E V)
     (pending : List (Record E V)) : Type 0 where
   pub done : List (Record E V)
@@ -29,14 +29,15 @@ pub record LogEndsLying {R E V : Type 0} (log : TwoQueues R E V) (o : OpenPipes)
   pub splits : done ++ rest ≡ pending
   pub lies : LogLiesOn log o d (taken m done) rest
 
--- the pipes after the one of this queue has failed: only the other one runs
+-- which pipes run after the pipe of this queue has failed: only the other one
 abbrev pub failed_pipe : Which → Pipes → OpenPipes
 failed_pipe which p = with_open which (both_open p) None
 
 -- The log that is on the disk after a pipe fails.
 -- - `sync`: a sync failed. The log has the same contents and the same pending batches.
 -- - `rotation`: a rotation failed. The log is the same, but a prefix of the pending batches may be synced now.
--- - `batch`: a write failed. The log is as after a failed rotation, with the new batch (`y`) as the last or without it.
+-- - `batch`: an append to Append failed with `Failed`. The log is as after a failed rotation, with the new batch (`y`)
+--   as the last one or without it.
 pub record FailedPipeLeavesALog {R E V : Type 0} (log : TwoQueues R E V) (p : Pipes) (old : Disk)
     (v : View E V) (m : Map E V) (pending : List (Record E V)) : Type 0 where
   pub sync : (which : Which) (new : Disk)
@@ -55,7 +56,7 @@ pub record FailedPipeLeavesALog {R E V : Type 0} (log : TwoQueues R E V) (p : Pi
       → LogEndsLying log (failed_pipe InAppend p) new m pending
       ⊎ LogEndsLying log (failed_pipe InAppend p) new m (pending ++ y ∷ [])
 
--- `FailedPipeLeavesALog` holds for each log over which pipes run, and of which an engine's view is true
+-- `FailedPipeLeavesALog` holds if both pipes run over a log and an engine's view of the log is true
 abbrev pub FailedPipesLeaveLogs : {R E V : Type 0} → TwoQueues R E V → Type 0
 FailedPipesLeaveLogs {R} {E} {V} log = AreTwoQueues log → (p : Pipes) (old : Disk) (v : View E V)
     (m : Map E V) (pending : List (Record E V)) → IsAtOn log p old v m pending

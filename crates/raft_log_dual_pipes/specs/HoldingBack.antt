@@ -3,8 +3,8 @@ use Rattle.std.specs.Prelude.{◌≡◌, ℕ, Option, None}
 use Rattle.raft_log_record_base.specs.declared.pipe_log.LogQueue.{LogQueue}
 use Rattle.raft_log_dual_pipes.specs.Pipes.{LogPipes}
 
--- some pipes whose state is `v` pin these files of this queue: none if `held` is `None`, otherwise the files from the
--- number in `held` on
+-- Some pipes in the state `v` pin these files of this queue. If `held` is `None`, they pin no file. Otherwise they pin
+-- the files from the number in `held` on.
 abbrev pub PipesHoldBack : {P : Type 0} → (P → LogPipes) → (P → LogQueue → Option ℕ → Type 0)
     → LogQueue → LogPipes → Option ℕ → Type 0
 PipesHoldBack {P} shown holds_back queue v held =

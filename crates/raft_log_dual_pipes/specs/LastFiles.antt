@@ -1,4 +1,5 @@
--- What follows the records in a pipe's active file right after each call, and when this excludes CRC collisions.
+-- What follows the records in a pipe's active file right after an open, a write, a sync or a rotation. Also, when this
+-- excludes CRC collisions.
 use Rattle.std.specs.Prelude.{◌≡◌, ℕ, ◌<◌, false, Option, Some, List, [], ◌∷◌, drop, length, suc}
 use Rattle.raft_log_fs.specs.Disk.{Disk, File, zeros}
 use Rattle.raft_log_fs.specs.Exits.{Syncs}
@@ -32,19 +33,21 @@ abbrev pub EndsThere : Format LogRecord → PipeFiles → Disk → Type 0
 EndsThere F files d = (file : File) → d.files files.writer.handle.file ≡ Some file
     → Refuses (F.IsFrame files.active.seq (header_bytes files.active.format)) (drop files.writer.written file.content)
 
--- only zeros follow what the pipe wrote to its active file, as an allocation leaves it
+-- only zeros follow what the pipe wrote to its active file; an allocation leaves such zeros
 abbrev pub IsBlankBehind : PipeFiles → Disk → Type 0
 IsBlankBehind files d = (file : File) → d.files files.writer.handle.file ≡ Some file
     → (room : ℕ) × (drop files.writer.written file.content ≡ zeros room)
 
--- in `image`, the pipe's active file has the same content as in `d`
+-- if both disks have the pipe's active file, its content is the same in `image` as in `d`
 abbrev pub KeepsOwn : PipeFiles → Disk → Disk → Type 0
 KeepsOwn files d image = (file after : File) → d.files files.writer.handle.file ≡ Some file
     → image.files files.writer.handle.file ≡ Some after → after.content ≡ file.content
 
 -- Why a crash image has no CRC collision in a pipe's active file.
--- - `kept`: no record begins after what the pipe wrote, and the image has the file's content unchanged.
--- - `blank`, `syncs`: no record begins there if only zeros follow, or if none began there before a sync.
+-- - `kept`: it has none if two things hold. No record begins right after what the pipe wrote (`EndsThere`). The image
+--   has the file's content unchanged (`KeepsOwn`).
+-- - `blank`: `EndsThere` holds if only zeros follow what the pipe wrote.
+-- - `syncs`: a sync keeps `EndsThere` true.
 -- - `synced`: right after a sync, each crash image has the file's content unchanged.
 pub record StandingFilesMeetIt : Type 0 where
   pub kept : (queue : LogQueue) (directories : List (List ℕ)) → 0 < length directories → (base : Disk)
@@ -93,9 +96,10 @@ pub record CallsLeaveRoom : Type 0 where
 
 -- Recycled files.
 
--- When a rotation into a recycled file leaves no CRC collision (`UsedFilesMeetIt`). The oldest file kept for recycling
--- becomes the next file. It has a number of the queue, not a reserved name. It begins with the header of new files,
--- which is of version 2. Its number and the queue's next number differ in their low 32 bits.
+-- The premises under which a rotation into a recycled file leaves no CRC collision (`UsedFilesMeetIt`). Some file is
+-- kept for recycling; the oldest one becomes the next file. It has a number of the queue, not a reserved name. It
+-- begins with the header of new files, and this is of version 2. Its number and the queue's next number differ in their
+-- low 32 bits.
 pub record NextIsUsed (F : Format LogRecord) (format : LogFileFormat) (files : PipeFiles) (d : Disk) : Type 0 where
   pub oldest : Listed
   pub others : List Listed

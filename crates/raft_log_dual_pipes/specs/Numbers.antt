@@ -1,5 +1,5 @@
--- When a call fails with `NumberRange`: the numbers that a file's name can have, of at most sixteen digits, have run
--- out.
+-- When a call fails with `NumberRange`: the next file number has more than sixteen digits, so no file's name can have
+-- it.
 use Rattle.std.specs.Prelude.{◌≡◌, ◌⊎◌, ℕ, ◌≤◌, ◌^◌, List, suc}
 use Rattle.raft_log_fs.specs.Causes.{Fails}
 use Rattle.raft_log_record_base.specs.declared.errors.Error.{Error}
@@ -11,7 +11,7 @@ use Rattle.raft_log_dual_pipes.specs.Queues.{layout_at, SaysRecord}
 use Rattle.raft_log_dual_pipes.specs.State.{pipe_at}
 use Rattle.raft_log_dual_pipes.specs.Pipes.{LogPipes, LogSense, RunsOn, LogRecordValue, State, files_of, one_at, queue_of, queues}
 
--- the next number after a queue's active file has more than sixteen digits, so no file can have it
+-- the number after that of a queue's active file has more than sixteen digits, so no file can have it
 abbrev pub HasLastNumber : Which → LogPipes → Type 0
 HasLastNumber which v = 10 ^ 16 ≤ suc (pipe_at which (files_of v)).active.seq
 
@@ -24,16 +24,17 @@ EndsNumbers which error v = error ≡ errors.NumberRange
 abbrev pub IsFull : Which → LogPipes → Type 0
 IsFull which v = (one_at which v).settings.new_files.target_size ≤ (pipe_at which (files_of v)).writer.written
 
--- If the pipes ran over a log and an append failed with `NumberRange`, the active file has the last number now. The
--- queue had to rotate: the active file was full, or a file call failed, for example for lack of space.
+-- An append failed with `NumberRange`. If the pipes ran over a log before, the active file has the last number now. The
+-- queue had to rotate, because the active file was full, or because a file call failed (for example for lack of space).
 abbrev pub EndsNumbersAt : Which → (LogFileContext → List ℕ) → Error → LogPipes → LogPipes → Type 0
 EndsNumbersAt which signed error v w = error ≡ errors.NumberRange
     → (log : LogSense) (s : State) (y : LogRecordValue) → RunsOn log v s
     → SaysRecord log.says (layout_at which (queues log)) (queue_of which) signed y
     → HasLastNumber which w × (IsFull which v ⊎ Fails v.disk w.disk)
 
--- If a purge failed with `NumberRange`, a file of the live range has a number of more than sixteen digits. Such pipes
--- run over no log, so a purge of a log never fails with `NumberRange`.
+-- If a purge failed with `NumberRange`, an earlier file of the live range has a number of more than sixteen digits.
+-- No log has such a file, so there is none over which these pipes run. Thus a purge of a log never fails with
+-- `NumberRange`.
 abbrev pub EndsNumbersBelow : Which → Error → LogPipes → Type 0
 EndsNumbersBelow which error v = error ≡ errors.NumberRange
     → HasFarFile (pipe_at which (files_of v)).earlier.items

@@ -1,5 +1,5 @@
 -- A record that was signed for one file isn't a record of another. This holds in files of version 2, if the low 32 bits
--- of the two numbers differ.
+-- of the two file numbers differ.
 use Rattle.std.specs.Prelude.{◌≡◌, ◌%◌, ◌^◌, ℕ, List, ◌++◌}
 use Rattle.raft_log_fs.specs.Disk.{zeros}
 use Rattle.raft_log_record_base.specs.declared.pipe_log.LogQueue.{LogQueue}
@@ -37,8 +37,8 @@ pub record OldRecordsBeginNoRecord : Type 0 where
       → AreFrames ((log_format queue directories).IsFrame other (header_bytes format)) ws → (room : ℕ)
       → Refuses ((log_format queue directories).IsFrame number (header_bytes format)) (spelled ws ++ zeros room)
 
--- If two file numbers have equal low 32 bits, each record of one file is also one of the other, under the same header.
--- So the premise that they differ is needed.
+-- If two file numbers have equal low 32 bits, each record of one file is also a record of the other, under the same
+-- header. So `AreApart` is needed as a premise.
 abbrev pub AlikeFilesShareRecords : Type 0
 AlikeFilesShareRecords = (queue : LogQueue) (directories : List (List ℕ)) (m n : ℕ) → m % 2 ^ 32 ≡ n % 2 ^ 32
     → (header bytes : List ℕ) (said : LogRecord) → (log_format queue directories).IsFrame m header bytes said

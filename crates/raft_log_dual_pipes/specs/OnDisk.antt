@@ -21,8 +21,8 @@ use Rattle.raft_log_dual_pipes.specs.OpenOrClosed.{OpenPipes, none_open, both_op
 use Rattle.raft_log_dual_pipes.specs.Reopening.{GoesOnFound, ReadsBothAgain, RestBoth, IsFoundOf}
 use Rattle.raft_log_dual_pipes.specs.Writing.{IsAtOn}
 
--- Some log is on the disk `d`. Of its pipes, those in `o` run. Its contents are the map `m`, and then the batches in
--- `pending`, which aren't synced yet.
+-- Some log is on the disk `d`. Of its pipes, those in `o` run. Its synced contents are the map `m`. The batches in
+-- `pending` were written after that, and aren't synced yet.
 pub record LogLiesOn {R E V : Type 0} (log : TwoQueues R E V) (o : OpenPipes) (d : Disk) (m : Map E V)
     (pending : List (Record E V)) : Type 0 where
   pub state : LogOnDisk R
@@ -41,10 +41,11 @@ pub record IsDurableAs {R E V : Type 0} (log : TwoQueues R E V) (d : Disk) (m : 
 
 -- How a log continues on disks.
 -- - `nothing`: a disk without log files has an empty log at rest.
--- - `none_found`: if an open finds no files on this disk, it has found all there is of both queues.
--- - `engine`, `rest`: the log that an engine has open is on the disk, and so is a log at rest.
+-- - `none_found`: if an open finds no files on such a disk, it has found all there is of both queues.
+-- - `engine`, `rest`: a log that an engine has open is on the disk (`LogLiesOn`), and so is a log at rest.
 -- - `means`: on a sound disk, what a recovery reads after a crash agrees with the contents and the pending batches.
--- - `crashes`: a crash without a CRC collision leaves a log at rest: the map after a prefix of the pending batches.
+-- - `crashes`: a crash without a CRC collision leaves a log at rest. Its contents are the map after a prefix of the
+--   pending batches.
 pub record LogsGoOn {R E V : Type 0} (log : TwoQueues R E V) : Type 0 where
   pub nothing : (d : Disk) → IsFresh log.append.format log.append.own d d
       → IsFresh log.rewrite.format log.rewrite.own d d → IsDurableAs log d nothing_stands
@@ -68,7 +69,8 @@ pub record LogsGoOn {R E V : Type 0} (log : TwoQueues R E V) : Type 0 where
 abbrev pub LogsGoOnDisks : {R E V : Type 0} → TwoQueues R E V → Type 0
 LogsGoOnDisks log = AreTwoQueues log → LogsGoOn log
 
--- both pipes run over a log that was read again from `was`: its contents are the map `m`, and all of it is synced
+-- Both pipes run over some log on the disk `d`, which was read again from the log `was`. Its contents are the map `m`,
+-- and all of it is synced.
 pub record LogOpenedOn {R E V : Type 0} (log : TwoQueues R E V) (p : Pipes) (was : LogOnDisk R) (d : Disk)
     (m : Map E V) : Type 0 where
   pub state : LogOnDisk R
@@ -83,7 +85,7 @@ pub record LogOpenedOn {R E V : Type 0} (log : TwoQueues R E V) (p : Pipes) (was
 
 -- Both pipes of a log at rest are opened, Append's first, over what was found of its queues.
 -- - `first_refused`, `second_refused`: if either open fails, the log is still on the disk, with the same contents.
--- - `answered`: if both succeed, the pipes run over the log that was read again.
+-- - `answered`: if both opens succeed, the pipes run over the log that was read again.
 pub record OpensBoth {R E V : Type 0} (log : TwoQueues R E V) (d : Disk) (m : Map E V)
     (h : IsDurableAs log d m) (append rewrite : FoundFiles) (begin next : NewFiles) : Type 0 where
   pub first_refused : (error : Error) (mid : Disk)

@@ -1,5 +1,5 @@
--- Each queue of a log by itself is in one of two states. Either its pipe runs. Or no pipe runs, and the queue's files
--- are on the disk: its pipe has failed, was closed, or isn't open yet.
+-- Each queue of a log by itself is in one of two states. Either its pipe runs. Or no pipe runs: it has failed, was
+-- closed, or isn't open yet. Then the queue's files are on the disk, or none was created yet.
 use Rattle.std.specs.Prelude.{◌≡◌, ℕ, ◌⊎◌, Option, Some, None, List}
 use Rattle.raft_log_model_laws.specs.Item.{Record}
 use Rattle.raft_log_fs.specs.Disk.{Disk}
@@ -18,18 +18,19 @@ use Rattle.raft_log_dual_pipes.specs.Crash.{readings_of, AllowsIn}
 use Rattle.raft_log_dual_pipes.specs.Beginning.{begun_queue}
 use Rattle.raft_log_dual_pipes.specs.Steps.{next_log}
 
--- No file of the queue was created yet, and the queue may begin on the disk `d`. `q` is the queue once it has begun: it
--- has file 1, without a record.
+-- No file of the queue was created yet, and the queue may begin on the disk `d`. `q` is the queue as it will begin:
+-- with file 1, and no record.
 pub record IsUnbegun {R : Type 0} (layout : QueueLayout R) (q : Spanned R) (d : Disk) : Type 0 where
   pub fresh : IsFresh layout.format layout.own d d
   pub is : (older : ℕ → Past R) × (header : List ℕ) × (room : ℕ) × (q ≡ begun_queue older header room)
 
--- The queue's files are on the disk, as a pipe or a stop left them, and each number of its live range has a file. Or no
+-- The queue's files are on the disk, as a pipe or a stop left them, and each number of the live range has a file. Or no
 -- file of the queue was created yet.
 abbrev pub LiesQueue : {R : Type 0} → QueueLayout R → Spanned R → Disk → Type 0
 LiesQueue layout q d = (HoldsQueue layout q.files d × HasSpan layout.format q d) ⊎ IsUnbegun layout q d
 
--- the queue's pipe runs with these files; or, if `None`, no pipe runs, and the queue's files are on the disk
+-- If `Some files`, the queue's pipe runs with these files. If `None`, no pipe runs, and the queue's files are on the
+-- disk or not created yet.
 abbrev pub RunsOrLies : {R : Type 0} → QueueLayout R → Option PipeFiles → Spanned R → Disk → Type 0
 RunsOrLies layout (Some files) q d = RunsQueue layout files q d
 RunsOrLies layout None q d = LiesQueue layout q d
@@ -47,30 +48,31 @@ none_open = record { append = None; rewrite = None }
 abbrev pub both_open : Pipes → OpenPipes
 both_open p = record { append = Some p.append; rewrite = Some p.rewrite }
 
--- the pipes with `now` as the state of one of them
+-- `o`, but with `now` as the state of the pipe of this queue
 abbrev pub with_open : Which → OpenPipes → Option PipeFiles → OpenPipes
 with_open InAppend o now = record { append = now; rewrite = o.rewrite }
 with_open InRewrite o now = record { append = o.append; rewrite = now }
 
--- each queue's pipe runs with its files in `o`, or no pipe runs and the queue's files are on the disk; both queues are
--- on the disk of `s`
+-- For each queue, either its pipe runs with its files in `o`, or no pipe runs. If none runs, the queue's files are on
+-- the disk or not created yet. Both queues are on the disk of `s`.
 pub record IsOpenOrClosed {R E V : Type 0} (log : TwoQueues R E V) (o : OpenPipes) (s : LogOnDisk R) : Type 0 where
   pub append : RunsOrLies log.append o.append s.append s.disk
   pub rewrite : RunsOrLies log.rewrite o.rewrite s.rewrite s.disk
 
--- One queue now has files that satisfy `becomes`. Its pipe runs with the files in `now`, or, if `None`, doesn't run.
--- The other queue is unchanged. `takes` says what the log's numbered files have become.
+-- One queue now has files that satisfy `becomes`. Its pipe runs with the files in `now`; if `now` is `None`, no pipe
+-- runs for it. The other queue is unchanged. `takes` says how the log's numbered files have changed.
 abbrev pub LeavesQueue : {R E V : Type 0} → TwoQueues R E V → Which → OpenPipes → Option PipeFiles
     → LogOnDisk R → Disk → (LogFiles R → Type 0) → (LogOnDisk R → LogOnDisk R → Type 0) → Type 0
 LeavesQueue {R} log which o now s new becomes takes = (files : LogFiles R) × becomes files
     × IsOpenOrClosed log (with_open which o now) (next_log which s files new)
     × takes s (next_log which s files new)
 
--- A log of two queues, of which each has a running pipe or only files on the disk (`IsOpenOrClosed`).
+-- What holds for a log of two queues, of which each has a running pipe or only files on the disk (`IsOpenOrClosed`).
 -- - `allowed`, `log_of`: its numbered files say what a recovery reads after a crash, and so give its contents.
 -- - `running`: a log over which both pipes run is such a log.
--- - `held`: so is one without pipes, if its last files hold their records and all files of the live ranges are there.
--- - `dropped`: so is one whose running pipes were dropped.
+-- - `held`: so is a log without running pipes, if each last file holds its records and all files of the live ranges
+--   exist.
+-- - `dropped`: so is a log of which all running pipes were dropped.
 pub record LyingLogIsALog {R E V : Type 0} (log : TwoQueues R E V) : Type 0 where
   pub allowed : (o : OpenPipes) (s : LogOnDisk R) (f : Files E V) → IsSound s.disk → IsOpenOrClosed log o s
       → Ties log s f → AllowsIn log s f

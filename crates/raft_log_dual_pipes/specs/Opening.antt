@@ -1,4 +1,4 @@
--- Opening both pipes of a log, each over the files that an open found for its queue (`FoundPipe`).
+-- Opening both pipes of a log, each over the files that a scan found for its queue (`FoundPipe`).
 use Rattle.std.specs.Prelude.{◌≡◌, ◌⊎◌, List, [], ℕ, map, false}
 use Rattle.std.specs.String.{string_bytes}
 use Rattle.raft_log_fs.specs.Disk.{Disk}
@@ -19,16 +19,16 @@ use Rattle.raft_log_dual_pipes.specs.OnDisk.{LogLiesOn, IsDurableAs}
 use Rattle.raft_log_dual_pipes.specs.Pipes.{LogPipes, LogSense, OnePipe, RunsOn, State, queues}
 use Rattle.raft_log_dual_pipes.specs.declared.opening.FoundPipe.{FoundPipe}
 
--- how the files of a queue that was found are written, and where they are
+-- how the files of the queue that was found are written, and where they are
 abbrev pub layout_found : FoundPipe → QueueLayout LogRecord
 layout_found p = log_layout p.layout.queue (map string_bytes p.layout.paths.items)
 
--- the pipe of a queue was opened over what was found of the queue
+-- the pipe was opened over what was found of its queue
 abbrev pub OpensFound : FoundPipe → PipeFiles → Disk → Disk → Type 0
 OpensFound p files old new = OpensPipe (layout_found p).format (layout_found p).own (layout_found p).paths
     p.settings.new_files p.found files old new
 
--- the pipe of a queue wasn't opened over what was found of the queue, and this is the error
+-- opening the pipe over what was found of its queue failed with this error
 abbrev pub FailsToOpenFound : FoundPipe → Error → Disk → Disk → Type 0
 FailsToOpenFound p error old new = OpenLeaves (layout_found p).format (layout_found p).own (layout_found p).paths
     p.settings.new_files p.found error old new
@@ -40,7 +40,7 @@ pub record IsFoundAs (queue : LogQueue) (directories : List (List ℕ)) (p : Fou
   pub lies : map string_bytes p.layout.paths.items ≡ directories
 
 -- A log is at rest on the disk `d`, as a stop or a close left it. Its contents are the map `m`. `append` and `rewrite`
--- are what an open found for each queue.
+-- are what a scan found of each queue.
 pub record RestsAsFound (log : LogSense) (m : Map (List ℕ) (List ℕ)) (append rewrite : FoundPipe)
     (d : Disk) : Type 0 where
   pub append_as : IsFoundAs Append log.append append
@@ -49,7 +49,8 @@ pub record RestsAsFound (log : LogSense) (m : Map (List ℕ) (List ℕ)) (append
   pub append_found : IsFoundOf (queues log).append append.found rests.state.append d
   pub rewrite_found : IsFoundOf (queues log).rewrite rewrite.found rests.state.rewrite d
 
--- Both pipes run over the log that was read again from `was`. Its contents are the map `m`, and all of it is synced.
+-- Both pipes of `v` run over a log that was read again from the log `was`. Its contents are the map `m`, and all of it
+-- is synced.
 pub record RunsAsFound (log : LogSense) (m : Map (List ℕ) (List ℕ)) (was : State) (v : LogPipes) : Type 0 where
   pub state : State
   pub runs : RunsOn log v state
@@ -67,7 +68,8 @@ pub record IsOpenedOf (p : FoundPipe) (o : OnePipe) : Type 0 where
   pub settings : o.settings ≡ p.settings
   pub alive : o.failed ≡ false
 
--- Both pipes of a log were opened, Append's first. If a log at rest was found, they run over it as it was read again.
+-- Both pipes of a log were opened, Append's first. If a log at rest was found, the pipes run over this log, as it was
+-- read again.
 pub record OpensLog (append rewrite : FoundPipe) (old : Disk) (v : LogPipes) : Type 0 where
   pub mid : Disk
   pub append_is : IsOpenedOf append v.append
@@ -77,8 +79,8 @@ pub record OpensLog (append rewrite : FoundPipe) (old : Disk) (v : LogPipes) : T
   pub log : (log : LogSense) (m : Map (List ℕ) (List ℕ)) → (h : RestsAsFound log m append rewrite old)
       → RunsAsFound log m h.rests.state v
 
--- Opening a log failed with this error: one of its pipes wasn't opened. If a log at rest was found, it is still on the
--- disk, with the same contents.
+-- Opening a log failed with this error: Append's pipe wasn't opened, or Append's was and Rewrite's wasn't. If a log at
+-- rest was found, it is still on the disk, with the same contents.
 pub record FailsToOpenLog (append rewrite : FoundPipe) (error : Error) (old new : Disk) : Type 0 where
   pub call : FailsToOpenFound append error old new ⊎ ((files : PipeFiles) × (mid : Disk)
       × OpensFound append files old mid × FailsToOpenFound rewrite error mid new)

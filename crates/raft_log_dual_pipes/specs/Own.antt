@@ -8,7 +8,7 @@ use Rattle.raft_log_active_file.specs.Paths.{IsOwnPath}
 use Rattle.raft_log_active_file.specs.declared.record.LogRecord.{LogRecord}
 use Rattle.raft_log_dual_pipes.specs.Queues.{QueueLayout, TwoQueues, AreTwoQueues}
 
--- how the files of one of the log's queues are written, and where they are, in these directories
+-- how the files of this queue of the log are written, and where they are: in these directories
 abbrev pub log_layout : LogQueue → List (List ℕ) → QueueLayout LogRecord
 log_layout queue directories = record {
   format = log_format queue directories;
@@ -16,7 +16,7 @@ log_layout queue directories = record {
   paths = log_paths queue directories;
 }
 
--- the log's two queues, each in its directories; `says` gives the model's record for a record of a file
+-- the log's two queues, each in its directories; `says` gives the model's record for each record of a file
 abbrev pub log_queues : {E V : Type 0} → (LogRecord → Record E V) → List (List ℕ) → List (List ℕ)
     → TwoQueues LogRecord E V
 log_queues says append rewrite =

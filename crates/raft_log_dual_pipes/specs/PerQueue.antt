@@ -1,6 +1,6 @@
--- What each call of a running pipe leaves, whether it succeeds or fails, for any state of the other queue: its pipe may
--- run, may have failed, or may not be open. Below, `which` is the queue of the call, `before` and `after` are its
--- pipe's files, and `o` has the state of the other queue's pipe. `s` is the log before the call, `new` the disk after.
+-- What each call of a running pipe leaves, whether it succeeds or fails. The other pipe may be in any state: it may
+-- run, may have failed, or may not be open. Below, `which` is the queue of the call. `before` and `after` are the files
+-- of this queue's pipe. `o` has the state of the other pipe. `s` is the log before the call, `new` the disk after it.
 use Rattle.std.specs.Prelude.{◌≡◌, ℕ, ◌⊎◌, Option, Some, None, List}
 use Rattle.raft_log_model_laws.specs.Item.{Record}
 use Rattle.raft_log_fs.specs.Disk.{Disk}
@@ -148,7 +148,7 @@ LeavesUnpurged log which o s seq after errors.NumberRange new =
 LeavesUnpurged log which o s seq after errors.Failed new = LeavesRaised log which o None s seq new
 LeavesUnpurged log which o s seq after _ new = ⊥
 
--- What a purge leaves: if it succeeds, the files below `seq` have left the live range; if it fails, it leaves what
+-- What a purge leaves. If it succeeds, the files below `seq` have left the live range. If it fails, it leaves what
 -- `LeavesUnpurged` says for its error.
 pub record PurgesBeside {R E V : Type 0} (log : TwoQueues R E V) (which : Which) (o : OpenPipes)
     (before : PipeFiles) (s : LogOnDisk R) : Type 0 where

@@ -36,7 +36,7 @@ pub record LogPipes : Type 0 where
   pub rewrite : OnePipe
   pub disk : Disk
 
--- one of the two pipes
+-- the pipe of this queue
 abbrev pub one_at : Which → LogPipes → OnePipe
 one_at InAppend v = v.append
 one_at InRewrite v = v.rewrite
@@ -71,17 +71,17 @@ spares_at which v = (pipe_at which (files_of v)).recycled.items
 abbrev pub is_failed : LogPipes → Bool
 is_failed v = v.append.failed || v.rewrite.failed
 
--- A fault is armed in the file system. The fault may mark a byte of a file as unreadable; otherwise the disk and the
--- pipes are unchanged.
+-- A fault was armed in the file system. Only the disk may have changed: the fault may mark a byte of a file as
+-- unreadable. The pipes are unchanged.
 pub record ArmsPipes (fault : Fault) (v w : LogPipes) : Type 0 where
   pub disk : Arms fault v.disk w.disk
   pub others : w ≡ record v { disk = w.disk }
 
--- A record in the model. Entries and values of keys are lists of bytes.
+-- a record in the model; entries and values of keys are lists of bytes
 abbrev pub LogRecordValue : Type 0
 LogRecordValue = Record (List ℕ) (List ℕ)
 
--- How a log is read: the model's record for each record of a file (`says`), and the directories of each queue's files.
+-- how a log is read: the model's record for each record of a file (`says`), and the directories of each queue's files
 pub record LogSense : Type 0 where
   pub says : LogRecord → LogRecordValue
   pub append : List (List ℕ)
@@ -95,7 +95,7 @@ queues log = log_queues log.says log.append log.rewrite
 abbrev pub State : Type 0
 State = LogOnDisk LogRecord
 
--- the pipe is of this queue, in these directories (at least one), and hasn't failed
+-- the pipe is of this queue, has its files in these directories (at least one), and hasn't failed
 pub record IsPipeOf (queue : LogQueue) (directories : List (List ℕ)) (pipe : OnePipe) : Type 0 where
   pub named : pipe.queue ≡ queue
   pub told : pipe.settings.queue ≡ queue

@@ -16,8 +16,8 @@ pub record QueueLayout (R : Type 0) : Type 1 where
   pub own : List ℕ → Type 0
   pub paths : FilePaths
 
--- the queue's paths and headers fit the format of its files, and it is decidable whether bytes begin with a header or a
--- record
+-- The queue's paths and headers fit the format of its files. It is decidable whether bytes begin with a header, and
+-- whether they begin with a record.
 pub record IsQueueLayout {R : Type 0} (layout : QueueLayout R) : Type 0 where
   pub lawful : IsLayout layout.format layout.own layout.paths
   pub told : CanTellFormat layout.format
@@ -39,8 +39,8 @@ abbrev pub layout_at : {R E V : Type 0} → Which → TwoQueues R E V → QueueL
 layout_at InAppend log = log.append
 layout_at InRewrite log = log.rewrite
 
--- `signed` gives the bytes of a record, signed for a file. For each file of the queue, the bytes that it gives are a
--- record of that file, and `y` is the model's record for it.
+-- `signed` gives the bytes of a record, signed for a file. `y` is the model's record. For each file of the queue, the
+-- bytes that `signed` gives for this file are a record of the file, and that record says `y`.
 pub record SaysRecord {R E V : Type 0} (says : R → Record E V) (layout : QueueLayout R) (queue : LogQueue)
     (signed : LogFileContext → List ℕ) (y : Record E V) : Type 0 where
   pub value : R

@@ -1,5 +1,5 @@
--- Syncs, rotations, and losses of files below the live range are quiet events. This file says what they make of the
--- numbered files of one queue.
+-- Syncs, rotations, and losses of files below the live range are quiet events. This file says how quiet events change
+-- the numbered files of one queue.
 use Rattle.std.specs.Prelude.{ℕ}
 use Rattle.raft_log_model_laws.specs.Item.{Record}
 use Rattle.raft_log_machine_laws.specs.Files.{FileQueue}
@@ -9,7 +9,8 @@ use Rattle.raft_log_file_writer.specs.LogQueue.{LogFiles}
 use Rattle.raft_log_active_file.specs.Bridge.{IsFileQueue}
 use Rattle.raft_log_machine_laws.specs.Moves.{Moved}
 
--- some quiet events change the numbered files of the queue `q` on the disk `old` into those of `p` on the disk `new`
+-- `q` is a queue on the disk `old`, and `p` the same queue later, on the disk `new`. Quiet events change the numbered
+-- files of `q` into those of `p`.
 abbrev pub QuietTo : {R E V : Type 0} → (R → Record E V) → Format R → ℕ → LogFiles R → Disk → LogFiles R
     → Disk → Type 0
 QuietTo {R} {E} {V} says F first q old p new =

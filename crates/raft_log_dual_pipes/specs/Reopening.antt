@@ -1,5 +1,5 @@
--- Which numbered files a log has after a stop, and after an open found its files and opened its pipes. A numbered file
--- is a file as the model sees it: its number and its records.
+-- Which numbered files a log has after a stop, and after an open that found its files and opened its pipes. A numbered
+-- file is a file as the model sees it: its number and its records.
 use Rattle.std.specs.Prelude.{◌≡◌, ℕ, ◌≤◌, ◌⊎◌, false, Some, None, List, [], ◌∷◌, ◌++◌, length, suc, take}
 use Rattle.raft_log_model_laws.specs.Item.{Record}
 use Rattle.raft_log_model_laws.specs.Groups.{Map, directory_meaning, taken}
@@ -31,14 +31,14 @@ use Rattle.raft_log_dual_pipes.specs.Steps.{next_log}
 use Rattle.raft_log_dual_pipes.specs.OpenOrClosed.{IsUnbegun, OpenPipes, none_open, with_open, IsOpenOrClosed}
 
 -- One queue of the log `s` was read again, which gave the log `t`. Numbered files that had left the live range may be
--- in it again. A prefix of the unsynced records is left, and all that was read is synced.
+-- in it again. Of the unsynced records, a prefix is left. All records that were read are synced.
 abbrev pub ReadsAgain : {S E V : Type 0} → (S → Files E V → Type 0) → Which → S → S → Type 0
 ReadsAgain {S} {E} {V} ties which s t = (f : Files E V) → ties s f
     → (r : ReadAgain (queue_at which f))
     × ties t (put which f (from_at which f) (read_files (queue_at which f) r))
 
 -- Both queues of the log `s` were read again, which gave the log `t`. Numbered files that had left a live range may be
--- in it again. A prefix of each queue's unsynced records is left, and all that was read is synced.
+-- in it again. Of each queue's unsynced records, a prefix is left. All records that were read are synced.
 abbrev pub ReadsBothAgain : {S E V : Type 0} → (S → Files E V → Type 0) → S → S → Type 0
 ReadsBothAgain {S} {E} {V} ties s t = (f : Files E V) → ties s f
     → (r : ReadAgain f.rewrite) × (a : ReadAgain f.append)
@@ -54,9 +54,9 @@ pub record RestBoth {R E V : Type 0} (log : TwoQueues R E V) (s : LogOnDisk R) :
   pub append : RestsQueue log.append s.append s.disk
   pub rewrite : RestsQueue log.rewrite s.rewrite s.disk
 
--- A stop without a CRC collision leaves both queues at rest, whatever their states were. Each has its durable records
--- and a prefix of its unsynced ones. The numbered files are as if both queues had been read again. What a further crash
--- leaves has no CRC collision either.
+-- A stop without a CRC collision leaves both queues at rest, whatever their states were. Each queue has its durable
+-- records and a prefix of its unsynced ones. The numbered files are as if both queues had been read again. A further
+-- crash leaves no CRC collision either.
 abbrev pub CrashIsAStep : {R E V : Type 0} → TwoQueues R E V → Type 0
 CrashIsAStep {R} log = AreTwoQueues log → (o : OpenPipes) (s : LogOnDisk R) (image : Disk)
     → IsOpenOrClosed log o s → IsImage s.disk image
@@ -72,9 +72,11 @@ CrashIsAStep {R} log = AreTwoQueues log → (o : OpenPipes) (s : LogOnDisk R) (i
     → later.rewrite.first ≡ s.rewrite.first
     → IsLeftByCrash log (stopped_log s append rewrite image) later)
 
--- The files of a queue, as they were found. The last one has this `number`, was read up to `found.end`, and its handle
--- permits writes. The earlier ones are at their paths. No file has the number just below the first file's. The files
--- kept for recycling can be recycled.
+-- The files of a queue, as they were found.
+-- - The last one has this `number`. It was read up to `found.end`, and its handle permits writes.
+-- - The earlier ones are at their paths, and their numbers follow one another.
+-- - No file has the number just below the first file's.
+-- - Each file in `found.recycled` can be recycled.
 pub record AreFound {R : Type 0} (layout : QueueLayout R) (found : FoundFiles) (earlier : List Listed)
     (last : Listed) (number : ℕ) (d : Disk) : Type 0 where
   pub number_is : last.seq ≡ number
@@ -87,8 +89,8 @@ pub record AreFound {R : Type 0} (layout : QueueLayout R) (found : FoundFiles) (
   pub begins : (m : ℕ) → suc m ≡ first_number earlier last → IsAbsent layout.format m d
   pub spares : AllKept layout.format layout.paths (first_number earlier last) d found.recycled.items
 
--- What was found of a queue that a stop left: all its files, from the last one back to a gap. Or nothing was found, as
--- no file of the queue was created yet.
+-- What was found of a queue that a stop left. Either all its files were found, from the last one back to the first gap
+-- in the numbers. Or no file was found, because none was created yet.
 pub data IsFoundOf {R : Type 0} (layout : QueueLayout R) (found : FoundFiles) (q : Spanned R)
     (d : Disk) : Type 0 where
   stopped : (earlier : List Listed) (last : Listed) → found.files.items ≡ earlier ++ last ∷ []
@@ -101,8 +103,9 @@ pub data IsFoundOf {R : Type 0} (layout : QueueLayout R) (found : FoundFiles) (q
 abbrev pub found_log : {R : Type 0} → Which → LogOnDisk R → ℕ → LogFiles R → Disk → LogOnDisk R
 found_log which s first files d = with_spanned which s (record { first = first; files = files }) d
 
--- What a failed open leaves. `Memory`, `InvalidArgument`: the disk is unchanged. `Io`: all records that were read of
--- the queue are still there, synced.
+-- What a failed open of one pipe leaves.
+-- - `Memory`, `InvalidArgument`: the disk is unchanged.
+-- - `Io`: no pipe runs for the queue. All records that were read of the queue are still there, synced.
 abbrev pub LeavesUnopened : {R E V : Type 0} → TwoQueues R E V → Which → OpenPipes → LogOnDisk R → Error → Disk
     → Type 0
 LeavesUnopened log which o s errors.Memory new = new ≡ s.disk
@@ -113,7 +116,8 @@ LeavesUnopened {R} log which o s (errors.Io kind) new = (files : LogFiles R) × 
 LeavesUnopened log which o s _ new = ⊥
 
 -- A pipe was opened over the queue `was` that was found, and continues with the queue `now`. Both have the same earlier
--- files. The last file of `now` has the header of the pipe's format, and then all records of `was`'s last file, synced.
+-- files, and the same number of the last file. The last file of `now` has the header of the pipe's format. Its records
+-- are all those of `was`'s last file, synced.
 pub record GoesOnFound {R : Type 0} (files : PipeFiles) (was now : LogFiles R) : Type 0 where
   pub older : now.older ≡ was.older
   pub last : now.last ≡ was.last
@@ -121,9 +125,9 @@ pub record GoesOnFound {R : Type 0} (files : PipeFiles) (was now : LogFiles R) :
   pub durable : now.durable ≡ recent was
   pub pending : now.pending ≡ []
 
--- The pipe of one queue is opened over what was found of the queue; the other queue is unchanged. If the open succeeds,
--- the pipe runs, and all records of its queue are synced. If it fails, it leaves what `LeavesUnopened` says for its
--- error.
+-- The pipe of one queue is opened over what was found of the queue. The other queue is unchanged. If the open succeeds,
+-- the pipe runs, and all records of its queue are synced. If the open fails, it leaves what `LeavesUnopened` says for
+-- its error.
 pub record OpensBeside {R E V : Type 0} (log : TwoQueues R E V) (which : Which) (o : OpenPipes)
     (begin : NewFiles) (found : FoundFiles) (s : LogOnDisk R) : Type 0 where
   pub answered : (files : PipeFiles) (new : Disk)
@@ -137,7 +141,8 @@ pub record OpensBeside {R E V : Type 0} (log : TwoQueues R E V) (which : Which) 
       found error s.disk new
       → LeavesUnopened log which o s error new
 
--- `OpensBeside` holds for each queue that has no running pipe, on a sound disk, over what was found of it
+-- `OpensBeside` holds for each queue that has no running pipe, if the disk is sound and `found` is what was found of
+-- the queue
 abbrev pub OpenIsAStep : {R E V : Type 0} → TwoQueues R E V → Type 0
 OpenIsAStep {R} log = AreTwoQueues log → (which : Which) (o : OpenPipes) (begin : NewFiles)
     (found : FoundFiles) (s : LogOnDisk R) → IsSound s.disk → IsOpenOrClosed log (with_open which o None) s

@@ -1,5 +1,5 @@
--- A log on a disk: its two queues, the pipes that have their files open, and the numbered files, which are how the
--- model of the log sees the queues.
+-- A log on a disk: its two queues, the pipes that have their files open, and their numbered files. A numbered file is a
+-- file as the model of the log sees it: its number and its records.
 use Rattle.std.specs.Prelude.{◌≡◌, ℕ, ◌<◌, ◌≤◌, ◌⊎◌, List}
 use Rattle.raft_log_fs.specs.Disk.{Disk}
 use Rattle.raft_log_file_writer.specs.LogFormat.{Format}
@@ -50,14 +50,14 @@ abbrev pub with_pipe : Which → Pipes → PipeFiles → Pipes
 with_pipe InAppend p files = record { append = files; rewrite = p.rewrite }
 with_pipe InRewrite p files = record { append = p.append; rewrite = files }
 
--- The pipe runs over the queue on the disk `d`: its lists are the files of the queue, and its live range begins where
--- the queue's does.
+-- The pipe runs over the queue on the disk `d`. The pipe lists the queue's files, and has the same first number of the
+-- live range as the queue.
 pub record RunsQueue {R : Type 0} (layout : QueueLayout R) (files : PipeFiles) (q : Spanned R)
     (d : Disk) : Type 0 where
   pub first : files.first_seq ≡ q.first
   pub pipe : IsPipe layout.format layout.own layout.paths d files q.files d
 
--- the pipes of both queues run, on the disk of `s`
+-- both pipes run over the queues of the log `s`, on its disk
 pub record Run {R E V : Type 0} (log : TwoQueues R E V) (p : Pipes) (s : LogOnDisk R) : Type 0 where
   pub append : RunsQueue log.append p.append s.append s.disk
   pub rewrite : RunsQueue log.rewrite p.rewrite s.rewrite s.disk
@@ -69,20 +69,20 @@ pub record IsStopped {R : Type 0} (layout : QueueLayout R) (q : LogFiles R) (d :
   pub N : Names
   pub stands : Stands layout.format layout.own d q path id (IsLeftover layout.format q) N d
 
--- the queue's last file holds its records, as a pipe left it (even a pipe that has failed), or as a stop left it
+-- the queue's last file holds its records, as a stop or a pipe left it (even a pipe that has failed)
 abbrev pub HoldsQueue : {R : Type 0} → QueueLayout R → LogFiles R → Disk → Type 0
 HoldsQueue layout q d = StandsWithRecords layout.format layout.own d q d ⊎ IsStopped layout q d
 
--- the last file of each queue holds its records, as a pipe left it (even a pipe that has failed), or as a stop left it
+-- the last file of each queue holds its records, as a stop or a pipe left it (even a pipe that has failed)
 pub record HoldsBoth {R E V : Type 0} (log : TwoQueues R E V) (s : LogOnDisk R) : Type 0 where
   pub append : HoldsQueue log.append s.append.files s.disk
   pub rewrite : HoldsQueue log.rewrite s.rewrite.files s.disk
 
--- each number from `first` on, below `end`, has a file
+-- each number from `first` to below `end` has a file on the disk
 abbrev pub AreThere : {R : Type 0} → Format R → ℕ → ℕ → Disk → Type 0
 AreThere F first end d = (m : ℕ) → first ≤ m → m < end → IsThere F m d
 
--- each number of the queue's live range below the last one has a file
+-- each number of the queue's live range, except the last one, has a file on the disk
 abbrev pub HasSpan : {R : Type 0} → Format R → Spanned R → Disk → Type 0
 HasSpan F q d = AreThere F q.first q.files.last d
 

@@ -23,15 +23,15 @@ use Rattle.raft_log_dual_pipes.specs.State.{Spanned, LogOnDisk, spanned_at, with
 use Rattle.raft_log_dual_pipes.specs.Turning.{IsOrGoesOn, HasLast, HasTaken, IsCutBack, in_span}
 use Rattle.raft_log_dual_pipes.specs.Crash.{AllowsIn}
 
--- What one queue keeps through a call on the other: if its pipe ran, it still runs; if its last file held its records,
--- it still does.
+-- What one queue keeps through a call on the other queue. If its pipe ran, it still runs. If its last file held its
+-- records, it still does.
 pub record StaysAside {R : Type 0} (layout : QueueLayout R) (theirs : List ℕ → Type 0)
     (old new : Disk) : Type 0 where
   pub runs : (files : PipeFiles) (q : Spanned R) → RunsQueue layout files q old → RunsQueue layout files q new
   pub holds : (q : Spanned R) → HoldsQueue layout q.files old → HoldsQueue layout q.files new
 
--- `StaysAside` holds for a queue if a call changes only the paths in `theirs` and their files, and none of these is the
--- queue's own
+-- `theirs` are the paths that a call may change. If none of these paths belongs to a queue, and the call changes
+-- nothing but these paths and their files, `StaysAside` holds for the queue.
 abbrev pub OtherQueueStays : {R : Type 0} → QueueLayout R → (List ℕ → Type 0) → Type 0
 OtherQueueStays layout theirs = IsQueueLayout layout → ((path : List ℕ) → layout.own path → theirs path → ⊥)
     → (old new : Disk) → TouchesOnlyNames theirs old new → StaysAside layout theirs old new
@@ -129,8 +129,8 @@ RefusedAppendHasFailed {R} {E} {V} log = AreTwoQueues log → (which : Which) (p
     queue signed (pipe_at which p) after error s.disk new
     → TellsOfCall error → Fails s.disk new
 
--- if a rotation fails with `Io`, `TryAgain` or `Failed`, a file call has failed; of these, a rotation returns only
--- `Failed`
+-- If a rotation fails with `Io`, `TryAgain` or `Failed`, a file call has failed. Of these errors, a rotation returns
+-- only `Failed`.
 abbrev pub RefusedRotationHasFailed : {R E V : Type 0} → TwoQueues R E V → Type 0
 RefusedRotationHasFailed {R} log = AreTwoQueues log → (which : Which) (p : Pipes) (s : LogOnDisk R)
     → Run log p s → (header : List ℕ) (after : PipeFiles) (error : Error) (new : Disk)

@@ -1,5 +1,5 @@
--- What a sync, a rotation and a purge of one queue leave, if both pipes run: the log and its numbered files, which are
--- how the model sees the files.
+-- What a sync, a rotation and a purge of one queue leave, if both pipes run: the log and its numbered files. A numbered
+-- file is a file as the model sees it.
 use Rattle.std.specs.Prelude.{◌≡◌, ℕ, List}
 use Rattle.raft_log_fs.specs.Disk.{Disk}
 use Rattle.raft_log_fs.specs.Image.{IsSound}
@@ -40,8 +40,9 @@ RotationIsAStep {R} log = AreTwoQueues log → (which : Which) (p : Pipes) (s : 
     × Run log (with_pipe which p after) (next_log which s files new)
     × Settles (Ties log) which s (next_log which s files new)
 
--- The pipe failed between the states `s` and `t`. Quiet events may have changed the queue's numbered files: syncs,
--- rotations, losses of files below the live range. `allows` holds for `t` and the changed files.
+-- The pipe failed between the states `s` and `t`. `f` are the numbered files before, for which `ties s f` holds. Quiet
+-- events may have changed these files: syncs, rotations, losses of files below the live range. `allows` holds for `t`
+-- and the changed files.
 abbrev pub FailsMoved : {S E V : Type 0} → (S → Files E V → Type 0) → (S → Files E V → Type 0) → Which → S → S
     → Type 0
 FailsMoved {S} {E} {V} ties allows which s t =

@@ -11,8 +11,8 @@ use Rattle.raft_log_dual_pipes.specs.State.{pipe_at}
 -- An event that listeners hear:
 -- - `FileBegun`: a file was begun, or found at an open.
 -- - `RecordWritten`: a record was written at this location.
--- - `RecordApplied`: a record of this file was applied to the tables.
--- - `FilesPurged`: the files of a queue up to this one were purged.
+-- - `RecordApplied`: a record of this file was applied to the memtables.
+-- - `FilesPurged`: the files of a queue up to this one have left the live range.
 pub data Told : Type 0 where
   FileBegun : FileId → Told
   RecordWritten : FileBlockHandle → Told
@@ -29,7 +29,7 @@ abbrev pub BothHear : {L M : Type 0} → (Told → L → L → Type 0) → (Told
     → Told → L × M → L × M → Type 0
 BothHear hears hears_too one old new = hears one old.0 new.0 × hears_too one old.1 new.1
 
--- the events for the `count` files of a queue that were begun after the number `n`, in order
+-- the events for `count` files of a queue that were begun, in order; the first has the number after `n`
 abbrev pub begun : LogQueue → ℕ → ℕ → List Told
 begun queue n zero = []
 begun queue n (suc count) = Told.FileBegun (record { queue = queue; seq = suc n }) ∷ begun queue (suc n) count

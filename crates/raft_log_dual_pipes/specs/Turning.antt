@@ -10,8 +10,9 @@ use Rattle.raft_log_file_pipe.specs.Files.{Listed}
 use Rattle.raft_log_file_pipe.specs.Exits.{IsStaleOfNext}
 use Rattle.raft_log_dual_pipes.specs.State.{Spanned}
 
--- `p` is the queue `q` after a rotation. Its last file has this header, and zeros may be allocated in it. The file is
--- the oldest one in `kept`, with its content on the disk `d`, or a new one if `kept` is empty.
+-- `p` is the queue `q` after a rotation. The last file of `p` has this header, and zeros may be allocated after it.
+-- This file is the oldest one in `kept`, with its content on the disk `d` as stale bytes. If `kept` is empty, it is a
+-- new file.
 abbrev pub GoesOnInNext : {R : Type 0} → List ℕ → List Listed → Disk → LogFiles R → LogFiles R → Type 0
 GoesOnInNext header kept d q p = (room : ℕ) × (stale : List ℕ) × IsStaleOfNext kept d stale
     × (p ≡ with_room room (rotated header stale q))
@@ -26,8 +27,8 @@ abbrev pub HasTaken : {R : Type 0} → List ℕ → List Listed → Disk → Log
 HasTaken {R} header kept d q r = (p : LogFiles R) × IsOrGoesOn header kept d q p × (room : ℕ)
     × (w : Written R) × (r ≡ with_more (w ∷ []) (with_room room p))
 
--- a record with the value `said` is the last one of the queue's last file, at the location `block`; its bytes are those
--- that `signed` gives for some file
+-- A record with the value `said` is the last one of the queue's last file, at the location `block`. Its bytes are those
+-- that `signed` gives for some file.
 pub record HasLast {R : Type 0} (signed : LogFileContext → List ℕ) (said : R) (block : FileBlockHandle)
     (q : LogFiles R) : Type 0 where
   pub context : LogFileContext
@@ -40,8 +41,8 @@ pub record HasLast {R : Type 0} (signed : LogFileContext → List ℕ) (said : R
   pub offset : block.offset ≡ length (q.header ++ spelled front)
   pub len : block.len ≡ length last.bytes
 
--- A record's write failed, and what it wrote was truncated away. `r` is the queue `q` with all its records synced. The
--- queue may have rotated before the write, and once more after the truncation.
+-- A record's write failed, and the part that was written was truncated away. `r` is the queue `q` with all its records
+-- synced. The queue may have rotated before the write, and once more after the truncation.
 abbrev pub IsCutBack : {R : Type 0} → List ℕ → List Listed → Disk → LogFiles R → LogFiles R → Type 0
 IsCutBack {R} header kept d q r = (p : LogFiles R) × IsOrGoesOn header kept d q p
     × (later : List Listed) × (between : Disk) × IsOrGoesOn header later between (settled p) r

@@ -25,11 +25,11 @@ pub trait PipeLog {
     ghost use Rattle.raft_log_record_base.specs.declared.pipe_log.LogQueue.{LogQueue};
     ghost use Rattle.raft_log_dual_pipes.specs.ClosingCalls.{ClosesAs, ClosesInOrder, ClosesLog, ClosesSettled};
     ghost use Rattle.raft_log_dual_pipes.specs.Numbers.{EndsNumbers, EndsNumbersAt, EndsNumbersBelow};
-    ghost use Rattle.raft_log_dual_pipes.specs.LastFile.{IsNextIfFull, RaisesPipe, TurnsBehind, last_of};
+    ghost use Rattle.raft_log_dual_pipes.specs.LastFile.{IsNextIfFull, last_of};
     ghost use Rattle.raft_log_dual_pipes.specs.Telling.{Hears, Told, files_begun, files_purged};
     ghost use Rattle.raft_log_dual_pipes.specs.Telling.Told.{RecordApplied, RecordWritten};
     ghost use Rattle.raft_log_dual_pipes.specs.Calls.{AppendsTo, ArmsNoPipes, FailsToAppendTo, FailsToPurgeQueue, FailsToRotateQueue, FailsToSyncQueue, IsSpanOf, PurgesQueue, RotatesQueue, StaysFailed, SyncsQueue, TellsFailure, seq_at, size_at};
-    ghost use Rattle.raft_log_dual_pipes.specs.PipeCalls.{KeepRules, PipeAppends, PipeAppendsBy, PipeFailsToAppend, PipeFailsToAppendBy, PipeFailsToPurge, PipeFailsToPurgeBy, PipeFailsToRotate, PipeFailsToRotateBy, PipeFailsToSync, PipeFailsToSyncBy, PipePurges, PipePurgesBy, PipeRotates, PipeRotatesBy, PipeSyncs, PipeSyncsBy};
+    ghost use Rattle.raft_log_dual_pipes.specs.PipeCalls.{PipeAppends, PipeFailsToAppend, PipeRotates};
 
     /// The file system of the files, which a close returns.
     type Files;
@@ -141,8 +141,6 @@ pub trait PipeLog {
             (shown self.old) (shown self.new)) }
         ensures goes_into { OnOk result (IsNextIfFull (which_of queue) (shown self.old)
             (last_of (which_of queue) (shown self.new))) }
-        ensures behind { IfErr result (λ error. TurnsBehind (which_of queue) error
-            (shown self.old) (shown self.new)) }
         ensures calls { IfOk result (λ block. PipeAppends (which_of queue) (B.signed bytes.old) block
             (shown self.old) (shown self.new)) }
         ensures refusal { IfErr result (λ error. PipeFailsToAppend (which_of queue) (B.signed bytes.old) error
@@ -156,11 +154,6 @@ pub trait PipeLog {
             (listener self.old) (listener self.new)) }
         ensures signed { B.signed bytes.new ≡ B.signed bytes.old }
         ensures said { B.said bytes.new ≡ B.said bytes.old }
-        ensures made { IfOk result (λ block. PipeAppendsBy (which_of queue) (B.signed bytes.old) block
-            (shown self.old) (shown self.new)) }
-        ensures refused { IfErr result (λ error. PipeFailsToAppendBy (which_of queue) (B.signed bytes.old)
-            error (shown self.old) (shown self.new)) }
-        ensures rules { KeepRules (shown self.old) (shown self.new) }
         ensures failed { StaysFailed result (shown self.old) (shown self.new) }
         ensures fails { TellsFailure result (shown self.new) }
         ensures later { IsLater (shown self.old).disk (shown self.new).disk };
@@ -170,12 +163,7 @@ pub trait PipeLog {
         ensures ok { OnOk result (SyncsQueue (which_of queue) (shown self.old) (shown self.new)) }
         ensures err { OnErr result (FailsToSyncQueue (which_of queue) (shown self.old) (shown self.new)) }
         ensures error { IfErr result (λ error. error ≡ errors.Failed) }
-        ensures calls { OnOk result (PipeSyncs (which_of queue) (shown self.old) (shown self.new)) }
-        ensures refusal { OnErr result (PipeFailsToSync (which_of queue) (shown self.old) (shown self.new)) }
-        ensures made { OnOk result (PipeSyncsBy (which_of queue) (shown self.old) (shown self.new)) }
-        ensures refused { OnErr result (PipeFailsToSyncBy (which_of queue) (shown self.old) (shown self.new)) }
         ensures told { listener self.new ≡ listener self.old }
-        ensures rules { KeepRules (shown self.old) (shown self.new) }
         ensures failed { StaysFailed result (shown self.old) (shown self.new) }
         ensures fails { TellsFailure result (shown self.new) }
         ensures later { IsLater (shown self.old).disk (shown self.new).disk };
@@ -192,14 +180,8 @@ pub trait PipeLog {
             (shown self.old) (shown self.new)) }
         ensures range { IfErr result (λ error. EndsNumbers (which_of queue) error (shown self.old)) }
         ensures calls { OnOk result (PipeRotates (which_of queue) (shown self.old) (shown self.new)) }
-        ensures refusal { IfErr result (λ error. PipeFailsToRotate (which_of queue) error
-            (shown self.old) (shown self.new)) }
-        ensures made { OnOk result (PipeRotatesBy (which_of queue) (shown self.old) (shown self.new)) }
-        ensures refused { IfErr result (λ error. PipeFailsToRotateBy (which_of queue) error
-            (shown self.old) (shown self.new)) }
         ensures told { Hears hears (files_begun queue (shown self.old) (shown self.new))
             (listener self.old) (listener self.new) }
-        ensures rules { KeepRules (shown self.old) (shown self.new) }
         ensures failed { StaysFailed result (shown self.old) (shown self.new) }
         ensures fails { TellsFailure result (shown self.new) }
         ensures later { IsLater (shown self.old).disk (shown self.new).disk };
@@ -213,8 +195,6 @@ pub trait PipeLog {
     fn purge_to<L: Log>(&mut self, alloc: Global, rt: &L, file_id: FileId) -> Result<usize>
         ensures ok { OnOk result (PurgesQueue (which_of file_id.queue) file_id.seq
             (shown self.old) (shown self.new)) }
-        ensures raised { OnOk result (RaisesPipe (which_of file_id.queue) file_id.seq
-            (shown self.old) (shown self.new)) }
         ensures count { IfOk result (λ count.
             IsInSpan file_id.seq (pipe_at (which_of file_id.queue) (files_of (shown self.old)))
             × (count ≡ file_id.seq
@@ -223,16 +203,7 @@ pub trait PipeLog {
             (shown self.old) (shown self.new)) }
         ensures range { IfErr result (λ error. EndsNumbersBelow (which_of file_id.queue) error
             (shown self.old)) }
-        ensures calls { OnOk result (PipePurges (which_of file_id.queue) file_id.seq
-            (shown self.old) (shown self.new)) }
-        ensures refusal { IfErr result (λ error. PipeFailsToPurge (which_of file_id.queue) file_id.seq error
-            (shown self.old) (shown self.new)) }
-        ensures made { OnOk result (PipePurgesBy (which_of file_id.queue) file_id.seq
-            (shown self.old) (shown self.new)) }
-        ensures refused { IfErr result (λ error. PipeFailsToPurgeBy (which_of file_id.queue) file_id.seq error
-            (shown self.old) (shown self.new)) }
         ensures told { Hears hears (files_purged file_id result) (listener self.old) (listener self.new) }
-        ensures rules { KeepRules (shown self.old) (shown self.new) }
         ensures failed { StaysFailed result (shown self.old) (shown self.new) }
         ensures fails { TellsFailure result (shown self.new) }
         ensures later { IsLater (shown self.old).disk (shown self.new).disk };

@@ -7,7 +7,7 @@
 #![tactic(auto)]
 
 pub use raft_log_dual_pipes::{Closed, OpenRefused, PipeLog};
-pub use raft_log_engine_core::{Engine, EnginePipes, LogEngine, ReplayThreads};
+pub use raft_log_engine_core::{Engine, EnginePipes, LogEngine, PurgeStep, ReplayThreads};
 pub use raft_log_file_listeners::{EventListener, Listeners, Nobody, PurgeHook};
 pub use raft_log_file_reader::LogItemReader;
 pub use raft_log_file_settings::{Config, RecoveryMode};

@@ -15,7 +15,7 @@ use Rattle.raft_log_extents.specs.Counts.{sized}
 use Rattle.raft_log_extents.specs.Entries.{entry_of, queue_of}
 use Rattle.raft_log_memtable_index.specs.Shown.{Shown, nothing_shown}
 use Rattle.raft_log_memtable_index.specs.Bridge.{Located, located}
-use Rattle.raft_log_memtable_index.proofs.Queues.{located_length}
+use Rattle.raft_log_memtable_index.proofs.Public.{located_length}
 use Rattle.raft_log_memtable.specs.Table.{Raw, shown}
 use Rattle.raft_log_memtable.specs.Reads.{FetchRefused, entries_from, entry_at, fetched, places_between}
 use Rattle.raft_log_memtables.specs.declared.group_table.GroupTable.{GroupTable}
@@ -28,7 +28,7 @@ use Rattle.raft_log_block_cache.specs.Blocks.{AreUnread, IsEntryUnread, IsOfLog,
 use Rattle.raft_log_purge.specs.raft_log_engine_laws.specs.EngineState.{LogDirectories, LogMap, EngineState, has_failed}
 use Rattle.raft_log_purge.specs.raft_log_engine_laws.specs.Holding.{Represents}
 use Rattle.raft_log_purge.specs.raft_log_engine_laws.specs.Fetching.{AreEntriesOf, AreToRead, FailsToFetch, FailsToTell, FetchesTo, IsOneUntold, StaysButBlock, TellsEntry}
-use Rattle.raft_log_purge.specs.raft_log_engine_laws.proofs.Fetching.{all_told, all_untold, fetched_from, first_untold, told_of, untold_at_stop, untold_of}
+use Rattle.raft_log_purge.specs.raft_log_engine_laws.proofs.Public.{all_told, all_untold, fetched_from, first_untold, told_of, untold_at_stop, untold_of}
 use Rattle.raft_log_engine_core.specs.Reads.{HasFirst, IsToldAs}
 
 less_of : (a b : ℕ) → nat_lt a b ≡ true → a < b

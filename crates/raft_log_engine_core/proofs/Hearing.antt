@@ -15,10 +15,10 @@ use Rattle.raft_log_dual_pipes.specs.Calls.{FailsToSyncQueue, SyncsQueue}
 use Rattle.raft_log_dual_pipes.specs.LastFile.{IsNextIfFull, last_of}
 use Rattle.raft_log_dual_pipes.specs.Pipes.{LogPipes, is_failed}
 use Rattle.raft_log_dual_pipes.specs.Telling.{BothHear, Hears, Told, begun, files_begun}
-use Rattle.raft_log_dual_pipes.proofs.Telling.{hears_further, hears_none, hears_through}
+use Rattle.raft_log_dual_pipes.proofs.Public.{hears_further, hears_none, hears_through}
 use Rattle.raft_log_file_listeners.specs.Active.{ActiveFiles, first_held}
 use Rattle.raft_log_file_listeners.specs.Hearing.{HookHears}
-use Rattle.raft_log_file_listeners.proofs.Hook.{writes_hold_nothing_back}
+use Rattle.raft_log_file_listeners.proofs.Public.{writes_hold_nothing_back}
 use Rattle.raft_log_purge.specs.raft_log_engine_laws.specs.EngineState.{EngineState}
 use Rattle.raft_log_purge.specs.raft_log_engine_laws.specs.Writing.{IsBatchKept}
 use Rattle.raft_log_engine_core.specs.Compacting.{SaysCompact, entries_below}

@@ -12,7 +12,7 @@ use Rattle.raft_log_record_base.specs.declared.errors.Error.TheVariants as error
 use Rattle.raft_log_record_items.specs.declared.item.LogItem.{LogItem}
 use Rattle.raft_log_record_items.specs.declared.command.Command.TheVariants as commands
 use Rattle.raft_log_record_items.specs.declared.entry.EntryIndex.{EntryIndex}
-use Rattle.raft_log_record_frames.proofs.Meanings.{keeps_mark, no_mark_key}
+use Rattle.raft_log_record_frames.proofs.Public.{keeps_mark, no_mark_key}
 use Rattle.raft_log_record_frames.specs.declared.marking.Marking.{Marking}
 use Rattle.raft_log_record_frames.specs.ItemBatch.{command_item}
 use Rattle.raft_log_record_frames.specs.Meaning.{IsUsers, marked, record_of, tagged, tagged_items, unless_mark}
@@ -29,11 +29,11 @@ use Rattle.raft_log_purge.specs.declared.expired_files.PurgeCounts.{PurgeCounts}
 use Rattle.raft_log_purge.specs.Append.{FailsToRewriteAppend, RewritesAppend}
 use Rattle.raft_log_purge.specs.Counted.{PurgesAndCounts}
 use Rattle.raft_log_purge.specs.ExpiredFiles.{FailsToPurgeExpired, SyncsAndRewrites}
+use Rattle.raft_log_purge_steps.specs.Steps.{PurgesStep}
+use Rattle.raft_log_purge_steps.specs.declared.step.PurgeStep.{PurgeStep}
 use Rattle.raft_log_purge.specs.raft_log_purge_copy.specs.Parts.{Remains}
 use Rattle.raft_log_purge.specs.raft_log_purge_copy.specs.Stale.{FailsToPurgeAll, PurgesAllStale}
-use Rattle.raft_log_purge.specs.raft_log_engine_laws.proofs.OpenOrClosed.{closed_engines_are_durable, closed_engines_are_left}
-use Rattle.raft_log_purge.specs.raft_log_engine_laws.proofs.Reading.{tables_tell}
-use Rattle.raft_log_purge.specs.raft_log_engine_laws.proofs.Settling.{settled_held}
+use Rattle.raft_log_purge.specs.raft_log_engine_laws.proofs.Public.{closed_engines_are_durable, closed_engines_are_left, settled_held, tables_tell}
 use Rattle.raft_log_purge.specs.raft_log_engine_laws.specs.EngineState.{LogDirectories, LogMap, EngineState, has_failed, said_of}
 use Rattle.raft_log_purge.specs.raft_log_engine_laws.specs.Fetching.{HadFailed}
 use Rattle.raft_log_purge.specs.raft_log_engine_laws.specs.Holding.{EndsAt, Represents, IsRecoverableAs, RunsAs}
@@ -276,6 +276,11 @@ module _ (s t : EngineState) (lives : has_failed s ≡ false) where
       → IfOk r (λ groups. PurgesAndCounts hold_back thresholds before after old new groups.items s t) → IfErr r (λ error. FailsToPurgeExpired error s t) → FollowsModel ModelPurges r s t
   purged_expired hold_back thresholds before after old new (Ok groups) ok err = purged (Vec ℕ) s t lives groups ok.purges.holds
   purged_expired hold_back thresholds before after old new (Err error) ok err = not_purged (Vec ℕ) s t lives error (err.tells lives) err.remains
+
+  pub purged_some : (hold_back : LogPipes → Option ℕ → Type 0) (thresholds : Thresholds) (budget : ℕ) (from to : Option ℕ) (before after : MemTables) (old new : PurgeCounts) (r : Result PurgeStep Error)
+      → IfOk r (λ step. PurgesStep hold_back thresholds budget from to before after old new step s t) → IfErr r (λ error. FailsToPurgeExpired error s t) → FollowsModel ModelPurges r s t
+  purged_some hold_back thresholds budget from to before after old new (Ok step) ok err = purged PurgeStep s t lives step ok.holds
+  purged_some hold_back thresholds budget from to before after old new (Err error) ok err = not_purged PurgeStep s t lives error (err.tells lives) err.remains
 
 -- Closes.
 

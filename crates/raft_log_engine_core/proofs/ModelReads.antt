@@ -16,7 +16,7 @@ use Rattle.raft_log_memtable.specs.Reads.{AreIn, entries_from, fetched, first_of
 use Rattle.raft_log_memtables.specs.Bare.{HasNothing}
 use Rattle.raft_log_block_cache.specs.Stored.{entries_at}
 use Rattle.raft_log_dual_pipes.specs.Pipes.{LogRecordValue}
-use Rattle.raft_log_purge.specs.raft_log_engine_laws.proofs.Reading.{tables_tell}
+use Rattle.raft_log_purge.specs.raft_log_engine_laws.proofs.Public.{tables_tell}
 use Rattle.raft_log_purge.specs.raft_log_engine_laws.specs.EngineState.{LogDirectories, LogMap, EngineState, has_failed}
 use Rattle.raft_log_purge.specs.raft_log_engine_laws.specs.Fetching.{AreEntriesOf, AreToRead, FailsToFetch, FailsToTell, FetchesTo, HadFailed, IsEntryTold, TellsEntry}
 use Rattle.raft_log_purge.specs.raft_log_engine_laws.specs.Holding.{Represents}

@@ -10,7 +10,7 @@ use Rattle.raft_log_record_base.specs.declared.errors.Error.TheVariants as error
 use Rattle.raft_log_record_base.specs.declared.pipe_log.FileBlockHandle.{FileBlockHandle}
 use Rattle.raft_log_record_items.specs.declared.item.LogItem.{LogItem}
 use Rattle.raft_log_record_frames.specs.Meaning.{tagged_items}
-use Rattle.raft_log_record_batches.specs.Batch.{Batch, IsButBuffer, IsReadyForEach, emptied}
+use Rattle.raft_log_record_batches.specs.Batch.{Batch, IsReadyForEach}
 use Rattle.raft_log_record_batches.specs.declared.log_batch.BatchState.TheVariants.{Populated}
 use Rattle.raft_log_block_cache.specs.Signing.{SaysItself, signed_for}
 use Rattle.raft_log_machine_laws.specs.Calls.Which.{InAppend}
@@ -31,7 +31,7 @@ use Rattle.raft_log_block_cache.specs.raft_log_file_pipe.specs.Appending.{SaysTr
 use Rattle.raft_log_purge.specs.raft_log_engine_laws.specs.Writing.{IsBatchKept, IsUnfit, NotWritten, PipesRefused, Writes, WritesBytes, items_at}
 use Rattle.raft_log_purge.specs.raft_log_engine_laws.specs.Syncing.{NotSynced, SyncsAppend}
 use Rattle.raft_log_purge.specs.raft_log_engine_laws.specs.Laws.{MayBeWritten}
-use Rattle.raft_log_purge.specs.raft_log_engine_laws.proofs.Exits.{empty_unsynced, refuses, write_unsynced, writes, writes_synced}
+use Rattle.raft_log_purge.specs.raft_log_engine_laws.proofs.Public.{empty_unsynced, refuses, write_unsynced, writes, writes_synced}
 use Rattle.raft_log_engine_core.specs.Compacting.{CompactsTo, FailsToCompact, SaysCompact, entries_below}
 use Rattle.raft_log_engine_core.specs.Room.{IsMadeIfTried, IsMadeUnlessFailed, PutFails}
 use Rattle.raft_log_engine_core.specs.Touching.{LeavesFiles, LeavesRecord, PipeRefuses, PipeTakes, RefusesBatch, TellsNoWrite, WritesFiles, WritesRecord}
@@ -116,9 +116,6 @@ put_refuses b kept v w old mid new cache later (Ok len) is same h = tt
 put_refuses b kept v w old mid new cache later (Err e) is same h =
     inr (subst (λ s. PipesRefused b e s (shows w new later)) (same_shows v old mid cache same) (refused_kept b kept e (shows v mid cache) (shows w new later) is h))
 
-pub put_unfit : (b : Batch) (error : Error) (v : LogPipes) (old mid : MemTables) (cache : BlockCache) → ShowsSame old mid → IsUnfit b (shown_of old) error → PutFails b error (shows v old cache) (shows v mid cache)
-put_unfit b error v old mid cache same why = inl (why, same_shows v old mid cache same)
-
 -- the record of a batch that wasn't taken may not be made; of one that the pipes refused it is
 pub unfit_made : (b new : Batch) (error : Error) (v : LogPipes) (old mid : MemTables) (cache : BlockCache) → ShowsSame old mid → IsUnfit b (shown_of old) error → IsMadeIfTried error b new (shows v old cache) (shows v mid cache)
 unfit_made b new error v old mid cache same why = inl (why, same_shows v old mid cache same)
@@ -129,12 +126,6 @@ refused_made (Err e) b mid new s t made kept = inr (ap (λ (x : Batch). x.state)
 
 pub unsynced_made : (b new : Batch) (error : Error) (s mid t : EngineState) → NotSynced error mid t → IsMadeUnlessFailed error b new s t
 unsynced_made b new error s mid t (is, why) = inr is
-
-pub kept_on : (b mid new : Batch) → IsBatchKept b mid → new ≡ mid → IsBatchKept b new
-kept_on b mid new is e = subst (λ x. IsBatchKept b x) (sym e) is
-
-pub emptied_on : (b mid new : Batch) → IsBatchKept b mid → new ≡ emptied mid → IsButBuffer (emptied b) new
-emptied_on b mid new is e = subst (λ x. IsButBuffer (emptied b) x) (sym (e ∙ ap emptied is)) refl
 
 -- a write, of what was put and synced
 pub not_written : (b : Batch) (error : Error) (s t : EngineState) → PutFails b error s t → NotWritten b error s t
@@ -203,10 +194,6 @@ unfit_tells b v _ unfit = tt
 -- of one that isn't taken nothing was done
 pub unfit_unrecorded : (b : Batch) (v : ℕ → Shown) (error : Error) (pipes : LogPipes) → IsUnfit b v error → LeavesRecord b error pipes pipes
 unfit_unrecorded b v error pipes unfit = inl (unfit_tells b v error unfit, refl)
-
--- what a write did to the files
-pub none_synced_files : (b : Batch) (v w : LogPipes) → b.items ≡ [] → SyncsQueue InAppend v w → WritesFiles b true v w
-none_synced_files b v w none call = inl (none, call)
 
 pub none_unsynced_files : (b : Batch) (sync : Bool) (error : Error) (v w : LogPipes) → b.items ≡ [] → sync ≡ true → FailsToSyncQueue InAppend v w → LeavesFiles b sync error v w
 none_unsynced_files b sync error v w none asked call = inr (asked, (v, inl (none, refl), call))

@@ -6,7 +6,7 @@ use Rattle.raft_log_memtable_index.specs.Bridge.{bytes_held}
 use Rattle.raft_log_memtable_index.specs.Shown.{Shown, nothing_shown}
 use Rattle.raft_log_purge.specs.raft_log_engine_laws.specs.EngineState.{EngineState}
 use Rattle.raft_log_purge.specs.raft_log_engine_laws.specs.Reading.{ReadsKeys}
-use Rattle.raft_log_purge.specs.raft_log_engine_laws.proofs.Reading.{tables_tell}
+use Rattle.raft_log_purge.specs.raft_log_engine_laws.proofs.Public.{tables_tell}
 use Rattle.raft_log_engine_core.specs.Reads.{ScansKeys}
 
 -- of a group of which nothing shows there are no keys

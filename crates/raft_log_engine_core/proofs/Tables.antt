@@ -12,7 +12,7 @@ use Rattle.raft_log_memtables.specs.declared.mem_tables.MemTables.{MemTables}
 use Rattle.raft_log_memtables.specs.Tables.{raw_of, shown_in, shown_of}
 use Rattle.raft_log_purge.specs.raft_log_engine_laws.specs.EngineState.{EngineState}
 use Rattle.raft_log_purge.specs.raft_log_engine_laws.specs.Reading.{ReadsFirst, ReadsLast, ReadsValue}
-use Rattle.raft_log_purge.specs.raft_log_engine_laws.proofs.Reading.{tables_tell}
+use Rattle.raft_log_purge.specs.raft_log_engine_laws.proofs.Public.{tables_tell}
 
 raw_in : (o : Option GroupTable) (t : Raw) → Some t ≡ option_map (λ x. x.table) o → shown_in o ≡ shown t
 raw_in None t is = absurd (let never : ⊥ = cc in never)

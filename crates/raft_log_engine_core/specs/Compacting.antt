@@ -24,8 +24,8 @@ pub record SaysCompact (g index : ℕ) (b : Batch) : Type 0 where
   pub entries : b.entries ≡ []
   pub fills : b.state ≡ Filling
 
--- A batch that deletes the entries of group `g` below `index` was written, without a sync. Append may have rotated
--- before the record. Nothing else was done to the files.
+-- A batch that deletes the entries of group `g` below `index` was written, without a sync. `WritesRecord` says what was
+-- done to the files: Append may have rotated before the record.
 abbrev pub WritesCompact : ℕ → ℕ → EngineState → EngineState → Type 0
 WritesCompact g index s t = (b : Batch) × SaysCompact g index b × Writes b false s t
     × WritesRecord b s.pipes t.pipes

@@ -58,7 +58,7 @@ HearsCompact g index hears s t old new = ((entries_below (s.tables g) index ≡ 
     × ((b : Batch) × SaysCompact g index b × HearsRecord b hears s.pipes t.pipes old new))
 
 -- In each queue, the first file that the purge hook (`hook_of`) pins is the same before and after the events of a
--- batch. The premise: the first file that the hook couldn't list (`missing`) is the same before and after them.
+-- batch. The premise: the first file that the hook couldn't list (`missing`) is the same before and after these events.
 abbrev pub BatchesHoldNothingBack : {L : Type 0} → (Told → L → L → Type 0) → (L → ActiveFiles) → Type 0
 BatchesHoldNothingBack {L} hears hook_of = (b : Batch) (v w : LogPipes) (old new : L)
     → HearsTaken b hears v w old new → (hook_of new).missing ≡ (hook_of old).missing

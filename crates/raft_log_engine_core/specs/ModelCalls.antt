@@ -81,8 +81,8 @@ abbrev pub IsMessageIn : {M : Type 0} → (List ℕ → Option M) → ℕ → Li
 IsMessageIn reading group key m message = (value : Option (List ℕ))
     × (m group (Key key) ≡ option_map Value value) × IsMessageOf reading value message
 
--- A fetch read a group's entries from index `begin` on, below `end`, as messages. It appended these to `old`, and
--- `count` is their number.
+-- A fetch of a group's entries from index `begin` on, below `end`, returned all or the first ones (`Fetches`), each as
+-- a message. It appended the messages to `old`, and `count` is their number.
 pub record FetchesMessages {M : Type 0} (reading : List ℕ → Option M) (group begin end : ℕ) (max : Option ℕ)
     (old new : List M) (m : Contents) (count : ℕ) : Type 0 where
   pub entries : List (List ℕ)
@@ -112,7 +112,8 @@ abbrev pub ScansMessagesInModel : {F M : Type 0} → (List ℕ → Option M) →
 ScansMessagesInModel reading called callback group start end backwards m done = (pairs : List (List ℕ × List ℕ))
     × Scans m group start end pairs × VisitsMessages reading called callback (in_direction backwards pairs)
 
--- the files on disk `d`, in the directories `home`, are this log, which a close left
+-- this log is one that a close left, and the files on disk `d`, in the directories `home`, can be opened with its
+-- contents and pending batches
 abbrev pub IsClosedLog : LogDirectories → Disk → ModelLog → Type 0
 IsClosedLog home d (left m pending) = IsRecoverableAs home d m pending
 IsClosedLog home d log = ⊥

@@ -23,8 +23,8 @@ use Rattle.raft_log_purge.specs.raft_log_engine_laws.specs.Fetching.{HadFailed}
 use Rattle.raft_log_purge.specs.raft_log_engine_laws.specs.EngineState.{EngineState}
 use Rattle.raft_log_engine_core.specs.Reads.{Lives}
 
--- `thresholds` are those of the settings `config`, completed (`sanitized`). `rounds` counts, for each group, the purges
--- in a row that asked the caller to compact it; each count is 0.
+-- `thresholds` are those of the settings `config`, with missing settings filled in (`sanitized`). `rounds` counts, for
+-- each group, the purges in a row that asked the caller to compact it; each count is 0.
 pub record IsPurgedBy (config : Config) (thresholds : Thresholds) (rounds : Rounds) : Type 0 where
   pub sizes : thresholds ≡ thresholds_of (sanitized (settings_of config))
   pub unasked : (g : ℕ) → count_of rounds g ≡ 0
@@ -34,13 +34,13 @@ pub record IsPurgedBy (config : Config) (thresholds : Thresholds) (rounds : Roun
 abbrev pub StopsPurging : EngineState → EngineState → Error → Type 0
 StopsPurging s t error = HadFailed s t error ⊎ (Lives s × FailsToPurgeAll error s t)
 
--- A rewrite of Append failed with `error`: the engine had failed before; or it hadn't, and a step of the rewrite
--- failed.
+-- A rewrite of Append (copying what groups have there to Rewrite) failed with `error`: the engine had failed before; or
+-- it hadn't, and a step of the rewrite failed.
 abbrev pub StopsRewritingAppend : EngineState → EngineState → Error → Type 0
 StopsRewritingAppend s t error = HadFailed s t error ⊎ (Lives s × FailsToRewriteAppend error s t)
 
--- A purge of expired files, or a rewrite of Rewrite, failed with `error`: the engine had failed before; or it hadn't,
--- and a step failed.
+-- A purge of expired files, or a compaction of Rewrite, failed with `error`: the engine had failed before; or it
+-- hadn't, and a step failed.
 abbrev pub StopsPurgingExpired : EngineState → EngineState → Error → Type 0
 StopsPurgingExpired s t error = HadFailed s t error ⊎ (Lives s × FailsToPurgeExpired error s t)
 
@@ -56,8 +56,8 @@ pub record CountsBrought (config : Config) (d : Disk) (counts : PurgeCounts) : T
 abbrev pub StopsCountingIfPast : Thresholds → MemTables → PurgeCounts → PurgeCounts → EngineState → EngineState → Type 0
 StopsCountingIfPast thresholds m old new s t = (new ≡ old) ⊎ CountsIfPast thresholds m old new s t
 
--- A rewrite of Rewrite failed. The counts are unchanged; or they were updated before the rewrite, and the step that
--- failed decides which are kept. `m` are the memtables before.
+-- A compaction of Rewrite failed. The counts are unchanged; or they were updated before the compaction, and the step
+-- that failed decides which are kept. `m` are the memtables before.
 abbrev pub StopsCounting : MemTables → PurgeCounts → PurgeCounts → EngineState → EngineState → Type 0
 StopsCounting m old new s t = (new ≡ old) ⊎ CountsAndKeeps m old new s t
 

@@ -26,7 +26,8 @@ IsUnfitItself b _ = ⊥
 abbrev pub PutFails : Batch → Error → EngineState → EngineState → Type 0
 PutFails b error s t = (IsUnfit b s.tables error × (t ≡ s)) ⊎ PipesRefused b error s t
 
--- batch `old` was written and is `new` now: its buffer has at most `max_kept_len` bytes, unless `old` was empty
+-- Batch `old` was written and is `new` now. Unless `old` was empty, the buffer of `new` has at most `max_kept_len`
+-- bytes.
 abbrev pub KeepsLittle : Batch → Batch → Type 0
 KeepsLittle old new = (old.items ≡ []) ⊎ (new.buffer ≤ max_kept_len)
 

@@ -15,10 +15,12 @@ use Rattle.raft_log_block_cache.specs.raft_log_file_pipe.specs.Appending.{SaysTr
 use Rattle.raft_log_purge.specs.raft_log_engine_laws.specs.Trying.{RefusesAt, WritesAt}
 use Rattle.raft_log_engine_core.specs.declared.engine.LogEngine.{LogEngine}
 
--- `new` has the same purge thresholds as `old`, and the same counts since the last purge
+-- The engine `new` has the same purge thresholds as `old`, and the same counts for later purges. The same compaction of
+-- Rewrite is under way, or none.
 pub record StaysPurged {P : Type 0} (old new : LogEngine P) : Type 0 where
   pub thresholds : new.thresholds ≡ old.thresholds
   pub counts : new.counts ≡ old.counts
+  pub compacting : new.compacting ≡ old.compacting
 
 -- Append's pipe tried to append a record, and the call returned `TryAgain`, for lack of space. The pipe has rotated to
 -- a new file, and still takes calls.

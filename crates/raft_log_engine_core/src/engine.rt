@@ -21,12 +21,13 @@ use raft_log_dual_pipes::{Closed, PipeLog};
 use raft_log_memtables::MemTables;
 use raft_log_purge::PurgeCounts;
 use raft_log_purge_policy::Thresholds;
-use raft_log_record_base::{Error, LogQueue, Result};
+use raft_log_record_base::{Error, FileSeq, LogQueue, Result};
 use raft_log_record_batches::LogBatch;
 use std::alloc::Global;
 
 /// The engine of a log. It has the log's pipes, the memtables of all groups, and a cache of one entry block. It also
-/// has the thresholds of its purges, and the counts that later purges use.
+/// has the thresholds of its purges, and what later purges use: their counts, and the file of Rewrite up to which a
+/// compaction in steps is under way.
 #[derive(Drop)]
 pub struct LogEngine<P> {
     alloc: Global,
@@ -35,6 +36,7 @@ pub struct LogEngine<P> {
     cache: BlockCache,
     thresholds: Thresholds,
     counts: PurgeCounts,
+    compacting: Option<FileSeq>,
     ghost rests: { IsAtRest tables },
 }
 
@@ -82,6 +84,7 @@ impl<P: PipeLog> LogEngine<P> {
             cache: BlockCache::new(alloc),
             thresholds,
             counts: PurgeCounts::new(alloc, written),
+            compacting: None,
         }
     }
 

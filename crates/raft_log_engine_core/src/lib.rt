@@ -13,4 +13,5 @@ mod writing;
 
 pub use engine::LogEngine;
 pub use engine::opening::{Engine, EnginePipes};
+pub use raft_log_purge_steps::PurgeStep;
 pub use raft_log_replay::ReplayThreads;

@@ -4,7 +4,7 @@ use Rattle.std.specs.Prelude.{◌^◌, ◌+◌, ◌<◌}
 use Rattle.raft_log_model_laws.specs.Item.{Item, Tagged, items_of}
 use Rattle.raft_log_model_laws.specs.Item.Item.{Run, Clean, Compact, Put, Del}
 use Rattle.raft_log_model_laws.specs.Groups.{of_group, taken}
-use Rattle.raft_log_machine_laws.proofs.TruthRaises.{no_word}
+use Rattle.raft_log_machine_laws.proofs.Public.{append_answered, append_synced, no_word}
 use Rattle.raft_log_fs.specs.Disk.{Disk}
 use Rattle.raft_log_file_writer.specs.LogQueue.{LogFiles}
 use Rattle.raft_log_record_base.specs.declared.pipe_log.LogQueue.TheVariants.{Append}
@@ -16,12 +16,11 @@ use Rattle.raft_log_block_cache.specs.Signing.{SaysItself, record_said, signed_f
 use Rattle.raft_log_machine_laws.specs.Calls.Which.{InAppend}
 use Rattle.raft_log_machine_laws.specs.Log.{IsAt, View}
 use Rattle.raft_log_machine_laws.specs.Log.{ViewEndsAt as ViewEnds}
-use Rattle.raft_log_machine_laws.proofs.CallLaws.{append_answered, append_synced}
 use Rattle.raft_log_extents.specs.declared.place.Place.{Place}
 use Rattle.raft_log_memtable_index.specs.declared.group_files.GroupFiles.{GroupFiles}
 use Rattle.raft_log_memtable_index.specs.Shown.{IsOrderly, Shown, all_stepped, stepped}
 use Rattle.raft_log_memtable_index.specs.Noted.{FilesRise}
-use Rattle.raft_log_memtable_index.proofs.Rising.{rises_on}
+use Rattle.raft_log_memtable_index.proofs.Public.{rises_on}
 use Rattle.raft_log_block_cache.specs.raft_log_memtables.specs.Batch.{MayFollowAll, all_shown}
 use Rattle.raft_log_block_cache.specs.raft_log_dual_pipes.specs.Crash.{AllowsIn}
 use Rattle.raft_log_block_cache.specs.raft_log_dual_pipes.specs.Queues.{SaysRecord}
@@ -29,14 +28,9 @@ use Rattle.raft_log_block_cache.specs.raft_log_dual_pipes.specs.Own.{log_layout}
 use Rattle.raft_log_block_cache.specs.raft_log_dual_pipes.specs.State.{Ties}
 use Rattle.raft_log_block_cache.specs.raft_log_dual_pipes.specs.Steps.{next_log}
 use Rattle.raft_log_block_cache.specs.Stored.{AreStored, KeepsBytes, entries_at}
-use Rattle.raft_log_block_cache.proofs.Keeping.{calls_keep_bytes}
-use Rattle.raft_log_block_cache.proofs.Staying.{stored_entries_stay}
-use Rattle.raft_log_block_cache.proofs.Taking.{taken_entries_are_stored}
-use Rattle.raft_log_block_cache.proofs.Lasting.{written_entries_are_stored}
-use Rattle.raft_log_block_cache.proofs.WholeBlocks.{batch_whole}
+use Rattle.raft_log_block_cache.proofs.Public.{batch_whole, calls_keep_bytes, stored_entries_stay, taken_entries_are_stored, written_entries_are_stored}
 use Rattle.raft_log_block_cache.specs.raft_log_memtables.specs.Views.{AreMeant, LieIn, view_of}
-use Rattle.raft_log_block_cache.specs.raft_log_memtables.proofs.Growing.{view_grows}
-use Rattle.raft_log_block_cache.specs.raft_log_memtables.proofs.WrittenEntries.{written_in}
+use Rattle.raft_log_block_cache.specs.raft_log_memtables.proofs.Public.{view_grows, written_in}
 use Rattle.raft_log_active_file.specs.Queue.{synced}
 use Rattle.raft_log_block_cache.specs.raft_log_dual_pipes.specs.Pipes.{LogPipes, RunsOn, LogRecordValue, State, queue_of}
 use Rattle.raft_log_block_cache.specs.raft_log_dual_pipes.specs.Calls.{AppendsTo, SyncsQueue}

@@ -7,7 +7,7 @@ use std.Path.{fun_ext}
 use Rattle.raft_log_model_laws.specs.Item.{Item}
 use Rattle.raft_log_model_laws.specs.Item.Item.{Run, Clean, Compact, Put, Del}
 use Rattle.raft_log_model_laws.specs.Groups.{of_group}
-use Rattle.raft_log_model_laws.proofs.RenamedLaws.{of_group_renamed}
+use Rattle.raft_log_model_laws.proofs.Public.{of_group_renamed}
 use Rattle.raft_log_record_base.specs.declared.errors.Error.{Error}
 use Rattle.raft_log_record_base.specs.declared.pipe_log.LogQueue.TheVariants.{Rewrite}
 use Rattle.raft_log_record_base.specs.declared.pipe_log.FileBlockHandle.{FileBlockHandle}
@@ -24,20 +24,15 @@ use Rattle.raft_log_extents.specs.declared.place.Place.{Place}
 use Rattle.raft_log_memtable_index.specs.Shown.{Shown, IsOrderly}
 use Rattle.raft_log_memtable_index.specs.Bridge.{CanAllMove, CanMove, Located, Move, all_moved, in_queue, items_of as copies_of, located, moved}
 use Rattle.raft_log_memtable_index.specs.Bridge.Move.{MoveKey, MoveRun}
-use Rattle.raft_log_memtable_index.proofs.Moving.{move_orderly}
+use Rattle.raft_log_memtable_index.proofs.Public.{copies_rise, move_orderly}
 use Rattle.raft_log_memtable_index.specs.Noted.{AllIn, AllUpTo, AreInFile, AreUpTo, FilesRise, MovesIn}
-use Rattle.raft_log_memtable_index.proofs.Rising.{copies_rise}
 use Rattle.raft_log_block_cache.specs.raft_log_memtables.specs.Rewriting.{AreCopies, copied_items, moves_of}
-use Rattle.raft_log_block_cache.specs.raft_log_memtables.proofs.Copies.{copies_move}
+use Rattle.raft_log_block_cache.specs.raft_log_memtables.proofs.Public.{copies_move, copies_on, written_in}
 use Rattle.raft_log_block_cache.specs.raft_log_dual_pipes.specs.Turning.{HasLast}
 use Rattle.raft_log_block_cache.specs.Stored.{AreStored, Each, IsStored, entries_at, file_bytes}
 use Rattle.raft_log_block_cache.specs.Written.{IsLaidOver, RunIsStored}
-use Rattle.raft_log_block_cache.proofs.Staying.{means_alike}
-use Rattle.raft_log_block_cache.proofs.Lasting.{written_entries_are_stored}
-use Rattle.raft_log_block_cache.proofs.WholeBlocks.{batch_whole}
+use Rattle.raft_log_block_cache.proofs.Public.{batch_whole, means_alike, written_entries_are_stored}
 use Rattle.raft_log_block_cache.specs.raft_log_memtables.specs.Views.{AreMeant, ViewCarries, view_of}
-use Rattle.raft_log_block_cache.specs.raft_log_memtables.proofs.Carrying.{copies_on}
-use Rattle.raft_log_block_cache.specs.raft_log_memtables.proofs.WrittenEntries.{written_in}
 use Rattle.raft_log_block_cache.specs.raft_log_dual_pipes.specs.Pipes.{State}
 use Rattle.raft_log_block_cache.specs.raft_log_dual_pipes.specs.Calls.{AppendsTo, FailsToAppendTo}
 use Rattle.raft_log_engine_laws.specs.EngineState.{LogDirectories, IsLaidOut, KeepsOrForgets, LogMap, EngineState}
@@ -116,10 +111,6 @@ module _ (P : Located → Type 0) where
   behind (suc r) zero ps less all = absurd (omega (arith, less))
   behind (suc r) (suc k) [] less all = tt
   behind (suc r) (suc k) (p ∷ ps) less (first, rest) = behind r k ps (omega (arith, less)) rest
-
-  none_there : (r : ℕ) → Each P (located r [])
-  none_there zero = tt
-  none_there (suc r) = tt
 
   -- new places in Rewrite, and others behind them in Append
   put_on : (ps rest : List Place) → Each (λ p. P (in_queue false p)) ps → Each P (located 0 rest) → Each P (located (length ps) (ps ++ rest))

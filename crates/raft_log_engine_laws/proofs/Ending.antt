@@ -11,14 +11,13 @@ use Rattle.raft_log_model_laws.specs.Groups.{of_group}
 use Rattle.raft_log_model_laws.specs.Renamed.{renamed}
 use Rattle.raft_log_machine_laws.specs.Machine.{IsJoined}
 use Rattle.raft_log_machine_laws.specs.Unbroken.{joined}
-use Rattle.raft_log_machine_laws.proofs.Words.{of_group_append}
+use Rattle.raft_log_machine_laws.proofs.Public.{end_answered, end_may_be_there, of_group_append}
 use Rattle.raft_log_record_base.specs.declared.errors.Error.{Error}
 use Rattle.raft_log_record_base.specs.declared.pipe_log.FileBlockHandle.{FileBlockHandle}
 use Rattle.raft_log_record_frames.specs.declared.status.AtomicGroupStatus.TheVariants as statuses
 use Rattle.raft_log_record_batches.specs.Batch.{Batch}
 use Rattle.raft_log_block_cache.specs.Signing.{signed_for}
 use Rattle.raft_log_machine_laws.specs.Calls.Which.{InRewrite}
-use Rattle.raft_log_machine_laws.proofs.GroupCalls.{end_answered, end_may_be_there}
 use Rattle.raft_log_block_cache.specs.raft_log_dual_pipes.specs.Crash.{AllowsIn}
 use Rattle.raft_log_block_cache.specs.raft_log_dual_pipes.specs.State.{Ties}
 use Rattle.raft_log_block_cache.specs.raft_log_dual_pipes.specs.Steps.{next_log}
@@ -28,14 +27,14 @@ use Rattle.raft_log_memtable_index.specs.Shown.{IsOrderly, Shown}
 use Rattle.raft_log_memtable_index.specs.Bridge.{CanAllMove, Located, all_moved, in_queue, items_of as copies_of, located, moved_key, moved_run}
 use Rattle.raft_log_memtable_index.specs.Bridge.Move.{MoveKey, MoveRun}
 use Rattle.raft_log_memtable_index.specs.Noted.{FilesRise, IsLeastInRewrite, noting, with_note}
-use Rattle.raft_log_memtable_index.proofs.Moving.{move_orderly}
-use Rattle.raft_log_memtable.proofs.Leasts.{front_is_least, noted_by_least}
+use Rattle.raft_log_memtable_index.proofs.Public.{move_orderly}
+use Rattle.raft_log_memtable.proofs.Public.{front_is_least, noted_by_least}
 use Rattle.raft_log_memtable.specs.Table.{shown}
 use Rattle.raft_log_block_cache.specs.raft_log_memtables.specs.Rewriting.{copied_items}
 use Rattle.raft_log_block_cache.specs.Stored.{AreStored, Each, EntryLiesIn, IsStored, entries_at}
-use Rattle.raft_log_block_cache.proofs.Staying.{stored_entries_stay}
+use Rattle.raft_log_block_cache.proofs.Public.{stored_entries_stay}
 use Rattle.raft_log_block_cache.specs.raft_log_memtables.specs.Views.{AreMeant, ended, view_of}
-use Rattle.raft_log_block_cache.specs.raft_log_memtables.proofs.Ending.{group_ends}
+use Rattle.raft_log_block_cache.specs.raft_log_memtables.proofs.Public.{group_ends}
 use Rattle.raft_log_block_cache.specs.raft_log_dual_pipes.specs.Calls.{AppendsTo, FailsToAppendTo}
 use Rattle.raft_log_block_cache.specs.raft_log_dual_pipes.specs.Pipes.{State}
 use Rattle.raft_log_engine_laws.specs.EngineState.{LogDirectories, KeepsOrForgets, LogMap, EngineState, log_in}

@@ -29,7 +29,7 @@ use Rattle.raft_log_block_cache.specs.raft_log_dual_pipes.specs.State.{Spanned}
 use Rattle.raft_log_block_cache.specs.raft_log_dual_pipes.specs.Pipes.{LogRecordValue, State}
 use Rattle.raft_log_block_cache.specs.declared.block_cache.BlockCache.{BlockCache}
 use Rattle.raft_log_block_cache.specs.Blocks.{AreUnread, BlockIsStored, IsEntryUnread, IsFileUnread, IsNoEntry, IsOfLog, IsUnplaced, KeepsBlock, ReadsEntries, ReadsEntry, written_block}
-use Rattle.raft_log_block_cache.proofs.KeptBlocks.{file_unread, kept_is_written, none_kept, stopped_block}
+use Rattle.raft_log_block_cache.proofs.Public.{file_unread, kept_is_written, none_kept, stopped_block}
 use Rattle.raft_log_engine_laws.specs.EngineState.{LogDirectories, LogMap, EngineState, sense}
 use Rattle.raft_log_engine_laws.specs.Holding.{Represents}
 use Rattle.raft_log_engine_laws.specs.Fetching.{AreEntriesOf, AreToRead, IsEntryOf, IsOneUntold, IsUntold, StaysButBlock}

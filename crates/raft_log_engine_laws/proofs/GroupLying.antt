@@ -16,7 +16,7 @@ use Rattle.raft_log_memtable_index.specs.Bridge.{Located, in_queue}
 use Rattle.raft_log_block_cache.specs.raft_log_memtables.specs.Rewriting.{copied_items}
 use Rattle.raft_log_block_cache.specs.Stored.{Each, EntryLiesIn, KeepsLog, entries_at, part}
 use Rattle.raft_log_block_cache.specs.Written.{RunIsStored}
-use Rattle.raft_log_block_cache.proofs.Staying.{block_stays}
+use Rattle.raft_log_block_cache.proofs.Public.{block_stays}
 use Rattle.raft_log_block_cache.specs.raft_log_dual_pipes.specs.Pipes.{State}
 use Rattle.raft_log_engine_laws.specs.EngineState.{IsLaidOut}
 use Rattle.raft_log_engine_laws.specs.Writing.{items_at}

@@ -18,7 +18,7 @@ use Rattle.raft_log_record_frames.specs.Marking.{marking_of_items}
 use Rattle.raft_log_record_frames.specs.Meaning.{marked, part_of, record_of, tagged_items}
 use Rattle.raft_log_record_batches.specs.Batch.{Batch, block_place}
 use Rattle.raft_log_record_batches.specs.Places.{entry_bytes}
-use Rattle.raft_log_record_batches.proofs.PlacedMeanings.{read_means_what_was_added}
+use Rattle.raft_log_record_batches.proofs.Public.{read_means_what_was_added}
 use Rattle.raft_log_block_cache.specs.Signing.{record_said}
 use Rattle.raft_log_machine_laws.specs.Log.{View}
 use Rattle.raft_log_machine_laws.specs.Tables.{GrowsTo}
@@ -27,8 +27,7 @@ use Rattle.raft_log_memtable_index.specs.Shown.{Shown, IsOrderly}
 use Rattle.raft_log_memtable_index.specs.Bridge.{Located, table_of}
 use Rattle.raft_log_block_cache.specs.raft_log_memtables.specs.Batch.{MayFollowAll, all_shown, all_written}
 use Rattle.raft_log_block_cache.specs.raft_log_memtables.specs.Views.{LieIn, view_of}
-use Rattle.raft_log_block_cache.specs.raft_log_memtables.proofs.Growing.{view_grows}
-use Rattle.raft_log_block_cache.specs.raft_log_memtables.proofs.WrittenEntries.{written_in}
+use Rattle.raft_log_block_cache.specs.raft_log_memtables.proofs.Public.{view_grows, written_in}
 use Rattle.raft_log_engine_laws.specs.EngineState.{IsLaidOut, IsWellMarked, LogMap, said_by, said_of}
 use Rattle.raft_log_record_base.specs.Files.{no_block}
 use Rattle.raft_log_engine_laws.specs.Writing.{items_at}

@@ -9,15 +9,13 @@ use Rattle.raft_log_model_laws.specs.Groups.{taken}
 use Rattle.raft_log_block_cache.specs.raft_log_dual_pipes.specs.State.{Ties}
 use Rattle.raft_log_block_cache.specs.raft_log_dual_pipes.specs.Steps.{next_log}
 use Rattle.raft_log_block_cache.specs.Stored.{AreStored, KeepsBytes, KeepsLog, entries_at}
-use Rattle.raft_log_block_cache.proofs.Keeping.{calls_keep_bytes}
-use Rattle.raft_log_block_cache.proofs.Staying.{stored_entries_stay}
+use Rattle.raft_log_block_cache.proofs.Public.{calls_keep_bytes, kept_blocks_stay, none_kept, stored_entries_stay}
 use Rattle.raft_log_memtable_index.specs.Shown.{Shown}
 use Rattle.raft_log_memtable_index.specs.Noted.{FilesRise}
 use Rattle.raft_log_block_cache.specs.raft_log_memtables.specs.Views.{AreMeant, view_of}
 use Rattle.raft_log_block_cache.specs.raft_log_dual_pipes.specs.Pipes.{LogPipes, RunsOn, LogRecordValue, State}
 use Rattle.raft_log_block_cache.specs.declared.block_cache.BlockCache.{BlockCache}
 use Rattle.raft_log_block_cache.specs.Blocks.{IsOfLog}
-use Rattle.raft_log_block_cache.proofs.KeptBlocks.{kept_blocks_stay, none_kept}
 use Rattle.raft_log_engine_laws.specs.EngineState.{LogDirectories, KeepsOrForgets, LogMap, EngineState, log_in, sense}
 use Rattle.raft_log_engine_laws.specs.Holding.{EndsAt, FilesRiseIn, Represents, NotesEndIn, RunsAs}
 

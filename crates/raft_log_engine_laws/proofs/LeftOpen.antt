@@ -6,8 +6,7 @@ use Rattle.raft_log_model_laws.specs.Item.Record.{Part, Plain}
 use Rattle.raft_log_model_laws.specs.Item.Mark.{Begin, End, Middle}
 use Rattle.raft_log_model_laws.specs.Groups.{Open, none_open, onto, opened, set_open, settle, settled}
 use Rattle.raft_log_machine_laws.specs.Unbroken.{UnbrokenFrom, begun}
-use Rattle.raft_log_machine_laws.proofs.Words.{opened_append, settle_append}
-use Rattle.raft_log_machine_laws.proofs.UnbrokenLaws.{set_open-same}
+use Rattle.raft_log_machine_laws.proofs.Public.{opened_append, set_open-same, settle_append}
 use Rattle.raft_log_engine_laws.specs.LeftOpen.{AreNumberedFrom, GroupsLeftOpenCountNot, NewGroupsEndNoOldOnes}
 
 other_number : (n m k : ℕ) → n ≤ m → k < n → (m == k) ≡ false

@@ -1,3 +1,4 @@
+pub mod Public
 pub mod Renaming
 pub mod Growing
 pub mod Keeping

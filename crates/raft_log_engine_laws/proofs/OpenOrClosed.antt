@@ -7,12 +7,11 @@ use Rattle.raft_log_machine_laws.specs.Log.{IsLog}
 use Rattle.raft_log_active_file.specs.declared.record.LogRecord.{LogRecord}
 use Rattle.raft_log_active_file.specs.QueueFilesLaws.{files_are_told, is_layout, queues_are_apart}
 use Rattle.raft_log_block_cache.specs.raft_log_dual_pipes.specs.Queues.{AreTwoQueues}
-use Rattle.raft_log_block_cache.specs.raft_log_dual_pipes.proofs.OnDiskLaws.{logs_go_on_disks}
+use Rattle.raft_log_block_cache.specs.raft_log_dual_pipes.proofs.Public.{logs_go_on_disks, none_pending}
 use Rattle.raft_log_block_cache.specs.raft_log_dual_pipes.specs.Closing.{closed_log}
 use Rattle.raft_log_block_cache.specs.raft_log_dual_pipes.specs.OpenOrClosed.{none_open}
 use Rattle.raft_log_block_cache.specs.raft_log_dual_pipes.specs.Pipes.{LogPipes, RunsOn, LogRecordValue, State, files_of}
 use Rattle.raft_log_block_cache.specs.raft_log_dual_pipes.specs.State.{Ties}
-use Rattle.raft_log_block_cache.specs.raft_log_dual_pipes.proofs.Numbers.{none_pending}
 use Rattle.raft_log_block_cache.specs.raft_log_memtables.specs.Views.{view_of}
 use Rattle.raft_log_engine_laws.specs.EngineState.{LogDirectories, log_in, sense}
 use Rattle.raft_log_engine_laws.specs.Laws.{ClosedEnginesAreDurable, ClosedEnginesAreLeft, EnginesLieOnDisks}

@@ -16,26 +16,25 @@ use Rattle.raft_log_machine_laws.specs.Calls.{Raises, Which}
 use Rattle.raft_log_machine_laws.specs.Calls.Which.{InAppend, InRewrite}
 use Rattle.raft_log_machine_laws.specs.Log.{IsLog, IsSettled, View}
 use Rattle.raft_log_machine_laws.specs.Notes.{AppendStandsFrom, IsAppended, IsInRewrite, RewriteStandsFrom}
-use Rattle.raft_log_machine_laws.proofs.GroupCalls.{append_raise_failed, append_raise_settled, rewrite_raise_failed, rewrite_raise_settled}
+use Rattle.raft_log_machine_laws.proofs.Public.{append_raise_failed, append_raise_settled, rewrite_raise_failed, rewrite_raise_settled}
 use Rattle.raft_log_extents.specs.declared.place.Place.{Place}
 use Rattle.raft_log_memtable_index.specs.declared.group_files.GroupFiles.{GroupFiles}
 use Rattle.raft_log_memtable_index.specs.Shown.{KeyValue, Shown, is_in_append, whereabouts}
 use Rattle.raft_log_memtable_index.specs.Bridge.{Located, in_queue, located, table_of}
 use Rattle.raft_log_memtable_index.specs.Noted.{IsLeastInRewrite, file_at, held_file, noted_at, place_file, start_of}
-use Rattle.raft_log_memtable_index.proofs.Noting.{least_is_noted}
+use Rattle.raft_log_memtable_index.proofs.Public.{least_is_noted}
 use Rattle.raft_log_memtable.specs.Files.{IsLeastInAppend}
 use Rattle.raft_log_block_cache.specs.raft_log_dual_pipes.specs.State.{LogOnDisk, Ties}
 use Rattle.raft_log_block_cache.specs.raft_log_dual_pipes.specs.Syncing.{raised_log}
 use Rattle.raft_log_block_cache.specs.raft_log_dual_pipes.specs.OpenOrClosed.{IsOpenOrClosed, both_open, with_open}
 use Rattle.raft_log_block_cache.specs.Stored.{AreStored, Each, EntryLiesIn, IsStored, entries_at, entry_at, queue_in}
-use Rattle.raft_log_block_cache.proofs.Staying.{means_alike}
+use Rattle.raft_log_block_cache.proofs.Public.{means_alike, none_kept}
 use Rattle.raft_log_block_cache.specs.raft_log_memtables.specs.Views.{AreMeant, view_of}
 use Rattle.raft_log_block_cache.specs.raft_log_dual_pipes.specs.Pipes.{RunsOn, LogRecordValue, State, files_of}
 use Rattle.raft_log_block_cache.specs.raft_log_dual_pipes.specs.Calls.{FailsToPurgeQueue, PurgesQueue}
 use Rattle.raft_log_engine_laws.specs.EngineState.{LogDirectories, LogMap, EngineState, log_in, sense}
 use Rattle.raft_log_engine_laws.specs.Holding.{FilesRiseIn, IsRecoverableAs, NotesEndIn}
 use Rattle.raft_log_engine_laws.specs.Raising.{AppendMayBegin, MayBegin, PurgeLeavesHeld, RewriteMayBegin}
-use Rattle.raft_log_block_cache.proofs.KeptBlocks.{none_kept}
 use Rattle.raft_log_engine_laws.specs.Settled.{HoldsSettled}
 use Rattle.raft_log_engine_laws.proofs.Settling.{left_whole}
 

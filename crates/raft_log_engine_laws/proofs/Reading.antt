@@ -11,7 +11,7 @@ use Rattle.raft_log_model_laws.specs.Table.{content}
 use Rattle.raft_log_extents.specs.declared.place.Place.{Place}
 use Rattle.raft_log_memtable_index.specs.Shown.{KeyValue, Shown}
 use Rattle.raft_log_memtable_index.specs.Bridge.{IsMeant, Located, bytes_held, located, table_of}
-use Rattle.raft_log_memtable_index.proofs.Queues.{located_length}
+use Rattle.raft_log_memtable_index.proofs.Public.{located_length}
 use Rattle.raft_log_memtable_index.specs.Listing.{ListsAll, values_within}
 use Rattle.raft_log_memtable.specs.Reads.{first_of, last_of}
 use Rattle.raft_log_block_cache.specs.Stored.{entries_at}

@@ -11,8 +11,7 @@ use Rattle.raft_log_record_batches.specs.Batch.{Batch}
 use Rattle.raft_log_block_cache.specs.Signing.{signed_for}
 use Rattle.raft_log_machine_laws.specs.Calls.Which.{InAppend}
 use Rattle.raft_log_machine_laws.specs.Log.{View, LogEnds}
-use Rattle.raft_log_machine_laws.proofs.CallLaws.{append_cut_back, append_left_out, append_may_be_there, failed_whole}
-use Rattle.raft_log_machine_laws.proofs.Follows.{taken_twice}
+use Rattle.raft_log_machine_laws.proofs.Public.{append_cut_back, append_left_out, append_may_be_there, failed_whole, taken_twice}
 use Rattle.raft_log_block_cache.specs.raft_log_memtables.specs.Batch.{all_shown}
 use Rattle.raft_log_block_cache.specs.raft_log_dual_pipes.specs.Crash.{AllowsIn}
 use Rattle.raft_log_block_cache.specs.raft_log_dual_pipes.specs.Failing.{failed_pipe}
@@ -21,7 +20,7 @@ use Rattle.raft_log_block_cache.specs.raft_log_dual_pipes.specs.OnDisk.{LogLiesO
 use Rattle.raft_log_block_cache.specs.raft_log_dual_pipes.specs.State.{Ties}
 use Rattle.raft_log_block_cache.specs.raft_log_dual_pipes.specs.Steps.{next_log}
 use Rattle.raft_log_block_cache.specs.Stored.{KeepsBytes}
-use Rattle.raft_log_block_cache.proofs.Keeping.{calls_keep_bytes}
+use Rattle.raft_log_block_cache.proofs.Public.{calls_keep_bytes}
 use Rattle.raft_log_block_cache.specs.raft_log_memtables.specs.Views.{view_of}
 use Rattle.raft_log_block_cache.specs.raft_log_dual_pipes.specs.Pipes.{LogPipes, RunsOn, LogRecordValue, State, files_of}
 use Rattle.raft_log_block_cache.specs.raft_log_dual_pipes.specs.Calls.{CutsBackOn, FailsToAppendTo, FailsToSyncQueue, LeavesOutOn}

@@ -8,7 +8,7 @@ use Rattle.raft_log_model_laws.specs.Item.Item.{Run, Clean, Compact, Put, Del}
 use Rattle.raft_log_model_laws.specs.Holes.{Window}
 use Rattle.raft_log_model_laws.specs.Groups.{of_group}
 use Rattle.raft_log_model_laws.specs.Renamed.{renamed, renamed_tagged}
-use Rattle.raft_log_model_laws.proofs.RenamedLaws.{of_group_renamed}
+use Rattle.raft_log_model_laws.proofs.Public.{of_group_renamed}
 use Rattle.raft_log_machine_laws.specs.Whereabouts.{top}
 use Rattle.raft_log_record_base.specs.declared.pipe_log.FileBlockHandle.{FileBlockHandle}
 use Rattle.raft_log_record_items.specs.declared.item.LogItem.{LogItem}
@@ -20,7 +20,7 @@ use Rattle.raft_log_extents.specs.declared.place.Place.{Place}
 use Rattle.raft_log_memtable_index.specs.Shown.{Shown, next_span, span, MayAllFollow, MayFollow}
 use Rattle.raft_log_memtable_index.specs.Bridge.{Located, in_queue}
 use Rattle.raft_log_block_cache.specs.raft_log_memtables.specs.Batch.{MayFollowAll, all_written}
-use Rattle.raft_log_block_cache.specs.raft_log_memtables.proofs.Applied.{items_renamed, written_items}
+use Rattle.raft_log_block_cache.specs.raft_log_memtables.proofs.Public.{items_renamed, written_items}
 
 module _ {E F V : Type 0} (f : E → F) where
   span_renamed : (w : Window) (x : Item E V) → next_span w (renamed f x) ≡ next_span w x

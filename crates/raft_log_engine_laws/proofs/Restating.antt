@@ -9,17 +9,15 @@ use Rattle.raft_log_model_laws.specs.Meaning.Content.{Entry}
 use Rattle.raft_log_model_laws.specs.Meaning.Slot.{Index}
 use Rattle.raft_log_model_laws.specs.Groups.{of_group}
 use Rattle.raft_log_model_laws.specs.Renamed.{renamed, renamed_content}
-use Rattle.raft_log_model_laws.proofs.Cases.{if_true}
-use Rattle.raft_log_model_laws.proofs.TableSteps.{content_within, get_drop}
-use Rattle.raft_log_model_laws.proofs.Tests.{from_same_key}
+use Rattle.raft_log_model_laws.proofs.Public.{content_within, from_same_key, get_drop, if_true}
 use Rattle.raft_log_machine_laws.specs.Whereabouts.{RunStands}
 use Rattle.raft_log_extents.specs.declared.place.Place.{Place}
 use Rattle.raft_log_memtable_index.specs.Shown.{IsOrderly, KeyValue, Shown}
 use Rattle.raft_log_memtable_index.specs.Bridge.{IsMeant, Located, in_queue, located, moved_run, read, table_of}
-use Rattle.raft_log_memtable_index.proofs.Queues.{located_length}
+use Rattle.raft_log_memtable_index.proofs.Public.{located_length}
 use Rattle.raft_log_memtable.specs.Moves.{key_rewritten, may_move, rewritten_to}
 use Rattle.raft_log_block_cache.specs.raft_log_memtables.specs.Rewriting.{IsCopy}
-use Rattle.raft_log_block_cache.specs.raft_log_memtables.proofs.Copies.{run_moves}
+use Rattle.raft_log_block_cache.specs.raft_log_memtables.proofs.Public.{run_moves}
 use Rattle.raft_log_block_cache.specs.Stored.{Each}
 use Rattle.raft_log_engine_laws.specs.Parts.{WrittenPart, said_items}
 use Rattle.raft_log_engine_laws.specs.Whole.{AreFiledCopies, Filed, RunPiece, all_places, batches_of, filed_copies, filed_items, in_one, in_pieces}

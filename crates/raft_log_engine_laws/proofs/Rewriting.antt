@@ -6,7 +6,7 @@ use Rattle.raft_log_model_laws.specs.Item.Item.{Clean, Compact, Del}
 use Rattle.raft_log_model_laws.specs.Item.Record.{Plain}
 use Rattle.raft_log_model_laws.specs.Groups.{of_group, taken}
 use Rattle.raft_log_model_laws.specs.Renamed.{renamed}
-use Rattle.raft_log_model_laws.proofs.RenamedLaws.{of_group_renamed}
+use Rattle.raft_log_model_laws.proofs.Public.{of_group_renamed}
 use Rattle.raft_log_file_writer.specs.LogQueue.{LogFiles}
 use Rattle.raft_log_record_base.specs.declared.errors.Error.{Error}
 use Rattle.raft_log_record_base.specs.declared.errors.Error.TheVariants as errors
@@ -27,12 +27,11 @@ use Rattle.raft_log_machine_laws.specs.Calls.{Appends, MayAppend}
 use Rattle.raft_log_machine_laws.specs.Calls.Which.{InRewrite}
 use Rattle.raft_log_machine_laws.specs.Log.{IsAt, IsLog, View}
 use Rattle.raft_log_machine_laws.specs.Tables.{CarriesTo}
-use Rattle.raft_log_machine_laws.proofs.CallLaws.{copies_answered, copies_may_be_there, rewrite_left_out}
-use Rattle.raft_log_machine_laws.proofs.SettledLaws.{cut_back_settles, rewrite_settles}
+use Rattle.raft_log_machine_laws.proofs.Public.{copies_answered, copies_may_be_there, cut_back_settles, rewrite_left_out, rewrite_settles}
 use Rattle.raft_log_memtable_index.specs.Shown.{Shown}
 use Rattle.raft_log_memtable_index.specs.Bridge.{dels, marks, unmarked, without}
 use Rattle.raft_log_block_cache.specs.raft_log_memtables.specs.Owing.{AreOwedAt}
-use Rattle.raft_log_block_cache.specs.raft_log_memtables.proofs.Applied.{items_renamed}
+use Rattle.raft_log_block_cache.specs.raft_log_memtables.proofs.Public.{items_renamed, marks_on}
 use Rattle.raft_log_block_cache.specs.raft_log_dual_pipes.specs.Crash.{AllowsIn}
 use Rattle.raft_log_block_cache.specs.raft_log_dual_pipes.specs.Queues.{SaysRecord}
 use Rattle.raft_log_block_cache.specs.raft_log_dual_pipes.specs.Own.{log_layout}
@@ -41,10 +40,8 @@ use Rattle.raft_log_block_cache.specs.raft_log_dual_pipes.specs.State.{Ties}
 use Rattle.raft_log_block_cache.specs.raft_log_dual_pipes.specs.Steps.{next_log}
 use Rattle.raft_log_block_cache.specs.raft_log_dual_pipes.specs.Turning.{HasLast, IsCutBack}
 use Rattle.raft_log_block_cache.specs.Stored.{AreStored, KeepsBytes, KeepsLog, entries_at}
-use Rattle.raft_log_block_cache.proofs.Keeping.{calls_keep_bytes, calls_keep_log}
-use Rattle.raft_log_block_cache.proofs.Staying.{stored_entries_stay}
+use Rattle.raft_log_block_cache.proofs.Public.{calls_keep_bytes, calls_keep_log, stored_entries_stay}
 use Rattle.raft_log_block_cache.specs.raft_log_memtables.specs.Views.{AreMeant, ViewCarries, view_of}
-use Rattle.raft_log_block_cache.specs.raft_log_memtables.proofs.Carrying.{marks_on}
 use Rattle.raft_log_block_cache.specs.raft_log_dual_pipes.specs.Pipes.{LogPipes, RunsOn, LogRecordValue, State, files_of, header_at, spares_at}
 use Rattle.raft_log_block_cache.specs.raft_log_dual_pipes.specs.Calls.{AppendsTo, CutsBackOn, FailsToAppendTo, LeavesOutOn}
 use Rattle.raft_log_engine_laws.specs.EngineState.{LogDirectories, IsLaidOut, IsWellMarked, KeepsOrForgets, LogMap, EngineState, log_in, said_by, said_of, sense}

@@ -5,17 +5,15 @@ use Rattle.raft_log_model_laws.specs.Item.{Item}
 use Rattle.raft_log_model_laws.specs.Item.Item.{Clean, Compact, Del, Put, Run}
 use Rattle.raft_log_model_laws.specs.Meaning.Slot.{Index}
 use Rattle.raft_log_model_laws.specs.Groups.{of_group}
-use Rattle.raft_log_model_laws.proofs.TableSteps.{get_back, get_front, get_take}
+use Rattle.raft_log_model_laws.proofs.Public.{get_back, get_front, get_take}
 use Rattle.raft_log_extents.specs.declared.place.Place.{Place}
 use Rattle.raft_log_memtable_index.specs.Shown.{IsOrderly, Shown}
 use Rattle.raft_log_memtable_index.specs.Bridge.{CanAllMove, CanMove, Located, all_moved, moved_key, moved_run}
 use Rattle.raft_log_memtable_index.specs.Bridge.Move.{MoveKey, MoveRun}
 use Rattle.raft_log_memtable_index.specs.Noted.{AllIn, AllUpTo, AreInFile, AreUpTo, FilesRise, file_at, place_file}
-use Rattle.raft_log_memtable_index.proofs.Moving.{move_orderly}
-use Rattle.raft_log_memtable_index.proofs.Noting.{are_in, move_shrinks}
-use Rattle.raft_log_memtable_index.proofs.Rising.{copies_rise}
+use Rattle.raft_log_memtable_index.proofs.Public.{are_in, copies_rise, move_orderly, move_shrinks}
 use Rattle.raft_log_record_batches.specs.Batch.{block_place}
-use Rattle.raft_log_block_cache.specs.raft_log_memtables.proofs.WrittenEntries.{written_in}
+use Rattle.raft_log_block_cache.specs.raft_log_memtables.proofs.Public.{written_in}
 use Rattle.raft_log_engine_laws.specs.Writing.{items_at}
 use Rattle.raft_log_engine_laws.specs.Parts.{FilesGoUp, WrittenPart}
 use Rattle.raft_log_engine_laws.specs.Whole.{Filed, IsWholeCopy, MovedFilesRise, RunPiece, all_places, filed_in, filed_items, filed_moves, in_one, in_pieces, whole_moves}

@@ -12,9 +12,7 @@ use Rattle.raft_log_machine_laws.specs.Calls.{Which}
 use Rattle.raft_log_machine_laws.specs.Calls.Which.{InAppend, InRewrite}
 use Rattle.raft_log_machine_laws.specs.Log.{Follows, IsAt, IsLog, IsSettled, LogEnds, View}
 use Rattle.raft_log_machine_laws.specs.Model.{with_append, with_rewrite}
-use Rattle.raft_log_machine_laws.proofs.CallLaws.{failed_whole, rewrite_synced, stands_log}
-use Rattle.raft_log_machine_laws.proofs.Follows.{append_follows, rewrite_follows}
-use Rattle.raft_log_machine_laws.proofs.SettledLaws.{append_settles, rewrite_settles, settled_stays, sync_settles}
+use Rattle.raft_log_machine_laws.proofs.Public.{append_follows, append_settles, failed_whole, rewrite_follows, rewrite_settles, rewrite_synced, settled_stays, stands_log, sync_settles}
 use Rattle.raft_log_block_cache.specs.raft_log_dual_pipes.specs.Crash.{AllowsIn}
 use Rattle.raft_log_block_cache.specs.raft_log_dual_pipes.specs.Failing.{failed_pipe}
 use Rattle.raft_log_block_cache.specs.raft_log_dual_pipes.specs.OpenOrClosed.{OpenPipes, IsOpenOrClosed, both_open, with_open}
@@ -22,8 +20,7 @@ use Rattle.raft_log_block_cache.specs.raft_log_dual_pipes.specs.Syncing.{FailsMo
 use Rattle.raft_log_block_cache.specs.raft_log_dual_pipes.specs.State.{Ties, spanned_at}
 use Rattle.raft_log_block_cache.specs.raft_log_dual_pipes.specs.Steps.{next_log}
 use Rattle.raft_log_block_cache.specs.Stored.{AreStored, KeepsBytes, KeepsLog, entries_at}
-use Rattle.raft_log_block_cache.proofs.Keeping.{calls_keep_bytes, calls_keep_log}
-use Rattle.raft_log_block_cache.proofs.Staying.{stored_entries_stay}
+use Rattle.raft_log_block_cache.proofs.Public.{calls_keep_bytes, calls_keep_log, stored_entries_stay}
 use Rattle.raft_log_block_cache.specs.raft_log_memtables.specs.Views.{AreMeant, view_of}
 use Rattle.raft_log_block_cache.specs.raft_log_dual_pipes.specs.Pipes.{LogPipes, RunsOn, LogRecordValue, State, files_of}
 use Rattle.raft_log_block_cache.specs.raft_log_dual_pipes.specs.Calls.{FailsToRotateQueue, FailsToSyncQueue, RotatesQueue, SyncsQueue}

@@ -4,14 +4,14 @@ use Rattle.std.specs.BTreeMap.{get}
 use Rattle.std.specs.Ordering.{nat_cmp}
 use Rattle.std.proofs.lemmas.Bool.{false≢true}
 use Rattle.raft_log_model_laws.specs.Groups.{of_group}
-use Rattle.raft_log_model_laws.proofs.Cases.{from_eq_true}
+use Rattle.raft_log_model_laws.proofs.Public.{from_eq_true}
 use Rattle.raft_log_record_base.specs.declared.pipe_log.FileBlockHandle.{FileBlockHandle}
 use Rattle.raft_log_record_batches.specs.Batch.{Batch}
 use Rattle.raft_log_memtable_index.specs.declared.group_files.GroupFiles.{GroupFiles}
 use Rattle.raft_log_memtable_index.specs.Shown.{IsOrderly, Shown}
 use Rattle.raft_log_memtable_index.specs.Noted.{FilesRise, IsLeastInRewrite, with_note}
 use Rattle.raft_log_memtable_index.specs.Replayed.{Replayed}
-use Rattle.raft_log_memtable_index.proofs.Moving.{moves_orderly}
+use Rattle.raft_log_memtable_index.proofs.Public.{moves_orderly}
 use Rattle.raft_log_block_cache.specs.raft_log_memtables.specs.declared.group_table.GroupTable.{GroupTable}
 use Rattle.raft_log_block_cache.specs.raft_log_memtables.specs.Joining.{noted_in}
 use Rattle.raft_log_block_cache.specs.raft_log_memtables.specs.Rewriting.{all_rewritten}

@@ -8,19 +8,18 @@ use Rattle.raft_log_model_laws.specs.Item.Item.{Clean, Compact, Del, Put, Run}
 use Rattle.raft_log_model_laws.specs.Meaning.{Slot, says, write}
 use Rattle.raft_log_model_laws.specs.Meaning.Slot.{Index, Key}
 use Rattle.raft_log_model_laws.specs.Groups.{of_group}
-use Rattle.raft_log_model_laws.proofs.Cases.{at_bool, if_false, lt_false}
+use Rattle.raft_log_model_laws.proofs.Public.{at_bool, if_false, lt_false}
 use Rattle.raft_log_machine_laws.specs.Machine.{IsJoined}
-use Rattle.raft_log_machine_laws.proofs.JoinedLaws.{joined_behind, joined_same, joined_twice, two_runs}
-use Rattle.raft_log_machine_laws.proofs.Words.{option_or_none}
+use Rattle.raft_log_machine_laws.proofs.Public.{joined_behind, joined_same, joined_twice, option_or_none, two_runs}
 use Rattle.raft_log_extents.specs.declared.place.Place.{Place}
 use Rattle.raft_log_extents.specs.Counts.{passing}
 use Rattle.raft_log_memtable_index.specs.Shown.{IsOrderly, Shown}
 use Rattle.raft_log_memtable_index.specs.Bridge.{CanAllMove, Located, all_moved, in_queue, item_of, items_of as copies_of, moved_key, moved_run}
 use Rattle.raft_log_memtable_index.specs.Bridge.Move.{MoveKey, MoveRun}
-use Rattle.raft_log_memtable_index.proofs.Moving.{move_orderly}
+use Rattle.raft_log_memtable_index.proofs.Public.{move_orderly}
 use Rattle.raft_log_memtable.specs.Moves.{gated, movable, rewritten_at, rewritten_by}
 use Rattle.raft_log_block_cache.specs.raft_log_memtables.specs.Rewriting.{IsCopy, all_rewritten, rewritten_item}
-use Rattle.raft_log_block_cache.specs.raft_log_memtables.proofs.Copies.{copies_move, gated_first, run_moves}
+use Rattle.raft_log_block_cache.specs.raft_log_memtables.proofs.Public.{copies_move, gated_first, run_moves}
 use Rattle.raft_log_engine_laws.specs.Writing.{items_at}
 use Rattle.raft_log_engine_laws.specs.Parts.{WrittenPart}
 use Rattle.raft_log_engine_laws.specs.Whole.{AreFiledCopies, Filed, RunPiece, WholeGroupsAreMoved, all_places, filed_in, filed_copies, filed_items, filed_moves, in_one, in_pieces, parts_moved}

@@ -19,9 +19,7 @@ use Rattle.raft_log_record_batches.specs.Batch.{Batch}
 use Rattle.raft_log_block_cache.specs.Signing.{signed_for}
 use Rattle.raft_log_machine_laws.specs.Calls.{IsInGroup, LeavesOut, Syncs}
 use Rattle.raft_log_machine_laws.specs.Calls.Which.{InRewrite}
-use Rattle.raft_log_machine_laws.proofs.CallLaws.{begin_may_be_there, group_begun}
-use Rattle.raft_log_machine_laws.proofs.GroupCalls.{group_left_out, middle_answered, middle_may_be_there}
-use Rattle.raft_log_machine_laws.proofs.SettledLaws.{sync_settles}
+use Rattle.raft_log_machine_laws.proofs.Public.{begin_may_be_there, group_begun, group_left_out, middle_answered, middle_may_be_there, sync_settles}
 use Rattle.raft_log_block_cache.specs.raft_log_dual_pipes.specs.Crash.{AllowsIn}
 use Rattle.raft_log_block_cache.specs.raft_log_dual_pipes.specs.Own.{log_layout}
 use Rattle.raft_log_block_cache.specs.raft_log_dual_pipes.specs.Queues.{SaysRecord}
@@ -29,8 +27,7 @@ use Rattle.raft_log_block_cache.specs.raft_log_dual_pipes.specs.State.{Ties}
 use Rattle.raft_log_block_cache.specs.raft_log_dual_pipes.specs.Steps.{next_log}
 use Rattle.raft_log_memtable_index.specs.Noted.{FilesRise}
 use Rattle.raft_log_block_cache.specs.Stored.{Each, KeepsLog}
-use Rattle.raft_log_block_cache.proofs.Keeping.{calls_keep_bytes, calls_keep_log}
-use Rattle.raft_log_block_cache.proofs.Staying.{stored_entries_stay}
+use Rattle.raft_log_block_cache.proofs.Public.{calls_keep_bytes, calls_keep_log, stored_entries_stay}
 use Rattle.raft_log_block_cache.specs.raft_log_memtables.specs.Views.{view_of}
 use Rattle.raft_log_block_cache.specs.raft_log_dual_pipes.specs.Calls.{AppendsTo, FailsToAppendTo, LeavesOutOn, SyncsQueue}
 use Rattle.raft_log_block_cache.specs.raft_log_dual_pipes.specs.Pipes.{RunsOn, State}

@@ -25,9 +25,9 @@ use Rattle.raft_log_engine_laws.specs.Parts.{FilesGoUp, HoldsInGroup, IsGroupPar
 use Rattle.raft_log_engine_laws.specs.GroupWriting.{LeavesRecords}
 use Rattle.raft_log_engine_laws.specs.Whole.{HasWhole, IsWholeCopy, batches_of, filed_copies, filed_items, parts_moved, whole_moves}
 
--- How tables that show `v` apply a whole atomic group of the parts `ps`. `about` says which raft groups' tables
--- change; the parts have no items of the others. After the change, group `g` has nothing in Rewrite in files below
--- `least g`.
+-- How tables that show `v` apply a whole atomic group of the parts `ps`. `about` is true for the raft groups whose
+-- tables change. The parts have no items of any other raft group. If the table of raft group `g` changes, it then has
+-- nothing in Rewrite in files below `least g`.
 pub record TakesWhole (gate : Option ℕ) (ps : List WrittenPart) (v : ℕ → Shown) : Type 0 where
   pub about : ℕ → Bool
   pub least : ℕ → ℕ
@@ -42,8 +42,8 @@ abbrev pub whole_end : {E : Type 0} {at : Located → E} {gate : Option ℕ} {ps
 whole_end files k w =
     record { files = files; about = k.about; moves = λ g. whole_moves (w g); least = k.least }
 
--- An atomic group of copies may end, with the moves of all its parts. The parts are in the files `files`, and `items`
--- are their items, with the bytes of each entry.
+-- An atomic group of copies may end, with the moves of all its parts. The parts are in the files `files`. `items` are
+-- the items of the parts, with the bytes of each entry.
 abbrev pub WholeGroupsMayEnd : Type 0 → Type 0
 WholeGroupsMayEnd E = (at : Located → E) (gate : Option ℕ) (ps : List WrittenPart) (v : ℕ → Shown)
     (files : GroupFiles) (items : List (Tagged E (List ℕ))) (k : TakesWhole gate ps v)
@@ -52,8 +52,8 @@ WholeGroupsMayEnd E = (at : Located → E) (gate : Option ℕ) (ps : List Writte
     → ((g : ℕ) → of_group g items ≡ filed_copies at (filed_items g ps))
     → MayEnd at (whole_end files k w) v items
 
--- Assume that in each queue, a table's file numbers never fall as the index rises. After it noted an atomic group's
--- files, the table shows what `with_note` says, for some file `least` below which it has nothing in Rewrite.
+-- Assume that in each queue, a table's file numbers never fall as the index rises. After the table noted an atomic
+-- group's files, it shows what `with_note` says. There, `least` is a file below which the table had nothing in Rewrite.
 abbrev pub WholeGroupsAreNoted : Type 0
 WholeGroupsAreNoted = (t : Raw) (files : GroupFiles) (a r : ℕ) → IsOrderly (shown t) → FilesRise a r (shown t)
     → (least : ℕ) × IsLeastInRewrite (shown t) least × (with_group t files ≡ with_note (shown t) least files)

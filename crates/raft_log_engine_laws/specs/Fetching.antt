@@ -1,5 +1,6 @@
--- Reads of entries, which need the blocks of the log's files. They return the entries of the log's contents, parsed
--- by `reading` as messages. `s` and `t` are the engine's states before and after a call.
+-- Reads of entries, which have to read blocks of the log's files. They return entries of the log's contents after the
+-- pending batches, that is, of the durable contents with these batches applied. `reading` parses an entry's bytes as a
+-- message. `s` is the engine's state before a call, and `t` the state after it.
 use Rattle.std.specs.Prelude.{◌≡◌, ◌⊎◌, ◌+◌, ◌-◌, ◌≤◌, ◌<◌, ℕ, true, false, List, [], ◌∷◌, ◌++◌, length, Option, Some, None, Err, if◌then◌else◌}
 use Rattle.raft_log_model_laws.specs.Groups.{taken}
 use Rattle.raft_log_model_laws.specs.Meaning.Slot.{Index}
@@ -39,8 +40,8 @@ abbrev pub AreEntriesOf : {M : Type 0} → (List ℕ → Option M) → LogMap �
 AreEntriesOf reading m g i [] = Unit {0}
 AreEntriesOf reading m g i (x ∷ xs) = IsEntryOf reading m g i x × AreEntriesOf reading m g (i + 1) xs
 
--- A read of index `i` of group `g` returned the message of the entry there, or none if there is no entry. It read the
--- log's contents after the pending batches. At most the cached block changed.
+-- A read of index `i` of group `g` returned the message of the entry there, or none if there is no entry. The entry is
+-- that of the log's contents after the pending batches. At most the cached block changed.
 pub record TellsEntry {M : Type 0} (reading : List ℕ → Option M) (g i : ℕ) (s t : EngineState) (message : Option M)
     : Type 0 where
   pub lived : has_failed s ≡ false

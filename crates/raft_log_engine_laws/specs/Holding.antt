@@ -47,7 +47,7 @@ pub record Represents (home : LogDirectories) (e : EngineState) (m : LogMap) (pe
   pub at : IsAt (Ties (log_in home) state) (view_of e.tables map) m pending
 
 -- The pipes run over a log in these directories. Its durable contents are `m`, and the batches `pending` are written
--- after them, not yet synced. Nothing is said of the engine's tables.
+-- after them, not yet synced. This says nothing of the engine's tables.
 pub record RunsAs (home : LogDirectories) (v : LogPipes) (m : LogMap) (pending : List LogRecordValue) : Type 0 where
   pub state : State
   pub view : View (List ℕ) (List ℕ)

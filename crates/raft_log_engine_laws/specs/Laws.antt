@@ -20,7 +20,7 @@ use Rattle.raft_log_engine_laws.specs.Holding.{EndsAt, Represents, IsRecoverable
 use Rattle.raft_log_engine_laws.specs.Writing.{Leaves, items_at}
 
 -- The batch may be written: it isn't empty, its marks aren't broken, and its record is read back with its contents. Its
--- entries leave no hole and no index too high.
+-- entries leave no hole after what the tables show, and their indexes are below 2 ^ 64 - 1.
 pub record MayBeWritten (e : EngineState) (b : Batch) : Type 0 where
   pub some : b.items ≡ [] → ⊥
   pub marked : IsWellMarked b
@@ -28,8 +28,8 @@ pub record MayBeWritten (e : EngineState) (b : Batch) : Type 0 where
   pub says : SaysItself (signed_for b) b
   pub laid : IsLaidOut b
 
--- Suppose the batch `b` may be written. After the pipes wrote it and the tables applied it under the number of its
--- file, it is the last batch of the log, and joins the pending ones. A prefix of these may be durable already.
+-- Suppose the batch `b` may be written, the pipes wrote it, and the tables applied it under the number of its file.
+-- Then `b` is the last batch of the log, and joins the pending ones. A prefix of these may be durable already.
 abbrev pub BatchesAreWritten : Type 0
 BatchesAreWritten = (home : LogDirectories) (e t : EngineState) (b : Batch) (block : FileBlockHandle) (m : LogMap)
     (pending : List LogRecordValue) → Represents home e m pending → MayBeWritten e b

@@ -14,9 +14,9 @@ abbrev pub GroupsMayBeGivenUp : Type 0
 GroupsMayBeGivenUp = (home : LogDirectories) (e : EngineState) (m : LogMap) (o : UnendedGroup) → HoldsInGroup home e m o
     → Represents home e m []
 
--- Between the records `front` and `back` are those of atomic group `n`, which has a begin and no end. In `back`, each
--- middle or end of an atomic group comes right after the group's begin or another middle. So no record of `back`
--- continues `n`. Then all other records count as if those of `n` were not there.
+-- The records of atomic group `n`, which has a begin and no end, are between the records `front` and `back`. In `back`,
+-- each middle or end comes right after a begin or a middle of the same atomic group. So no record of `back` continues
+-- `n`. Then all other records count as if those of `n` were not there.
 abbrev pub GroupsLeftOpenCountNot : Type 0 → Type 0 → Type 0
 GroupsLeftOpenCountNot E V = (front back : List (Record E V)) (n : ℕ) (first : List (Tagged E V))
     (more : List (List (Tagged E V))) → UnbrokenFrom None back

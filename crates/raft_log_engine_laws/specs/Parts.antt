@@ -1,5 +1,5 @@
--- An engine's log while an atomic group of copies is open in Rewrite: begun, and not ended. Its records count together
--- at its end, or not at all.
+-- An engine's log while an atomic group of copies is open in Rewrite: begun, and not ended. The group's records take
+-- effect together when it ends, or not at all.
 use Rattle.std.specs.Prelude.{◌≡◌, ℕ, ◌≤◌, List, [], ◌∷◌, ◌++◌, map}
 use Rattle.raft_log_model_laws.specs.Item.{Item, Tagged}
 use Rattle.raft_log_model_laws.specs.Item.Item.{Run}
@@ -84,7 +84,7 @@ FilesGoUp low high (p ∷ ps) = (low ≤ p.block.id.seq) × FilesGoUp p.block.id
 
 -- An atomic group `o` of copies is open in Rewrite. The log has the contents `m`, and the tables show them, as if no
 -- part of `o` had been written.
--- - The group's records are the last ones of Rewrite, in the file of its first part and later ones.
+-- - The group's records are the last ones of Rewrite. They are in the file of its first part and in later files.
 -- - The entries of each part are in these files.
 -- - No entry that the tables show in Rewrite is in a later file than the first part.
 pub record HoldsInGroup (home : LogDirectories) (e : EngineState) (m : LogMap) (o : UnendedGroup) : Type 0 where

@@ -13,7 +13,8 @@ use Rattle.raft_log_engine_laws.specs.EngineState.{LogDirectories, LogMap, Engin
 use Rattle.raft_log_engine_laws.specs.Holding.{Represents, IsRecoverableAs, RunsAs}
 use Rattle.raft_log_engine_laws.specs.Settled.{HoldsSettled, SameTables}
 
--- if nothing is pending in either queue, as in `HoldsSettled`, the log has no pending batches, as in `Represents`
+-- if nothing is pending in either queue (`HoldsSettled`), the log has the same contents and no pending batch
+-- (`Represents`)
 abbrev pub SettledLogsAreHeld : Type 0
 SettledLogsAreHeld = (home : LogDirectories) (e : EngineState) (m : LogMap) → HoldsSettled home e m → Represents home e m []
 
@@ -32,9 +33,10 @@ FailedSyncsLeaveLogs = (which : Which) (home : LogDirectories) (v w : LogPipes) 
     → RunsAs home v m pending → FailsToSyncQueue which v w
     → Fails v.disk w.disk × IsRecoverableAs home w.disk m pending
 
--- A rotation keeps the log's contents. A rotation of Append makes all pending batches durable. If nothing was pending
--- in either queue before it, nothing is afterwards. After a rotation of Rewrite nothing is pending in either queue, if
--- no batch was pending in Append before.
+-- A rotation keeps the log's contents:
+-- - `append`: a rotation of Append makes all pending batches durable.
+-- - `stays`: if nothing is pending in either queue before a rotation of Append, nothing is pending after it.
+-- - `rewrite`: if no batch is pending before a rotation of Rewrite, nothing is pending in either queue after it.
 pub record RotationsKeepTheMap : Type 0 where
   pub append : (home : LogDirectories) (e t : EngineState) (m : LogMap) (pending : List LogRecordValue) → Represents home e m pending
       → SameTables e t → RotatesQueue InAppend e.pipes t.pipes → Represents home t (taken m pending) []

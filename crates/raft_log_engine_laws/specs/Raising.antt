@@ -1,5 +1,5 @@
 -- Files that are no longer needed leave a queue's live range. The log keeps its contents if the tables show nothing in
--- these files. For Append, no group may owe a tombstone to Rewrite either.
+-- these files. For Append there is a second condition: no group owes a tombstone to Rewrite.
 use Rattle.std.specs.Prelude.{◌≡◌, ℕ, ◌≤◌, None, List, []}
 use Rattle.raft_log_record_base.specs.declared.errors.Error.{Error}
 use Rattle.raft_log_record_base.specs.declared.errors.Error.TheVariants as errors
@@ -20,7 +20,8 @@ abbrev pub AppendMayBegin : ℕ → (ℕ → Shown) → Type 0
 AppendMayBegin n v = (g : ℕ) → OwesNothing (whereabouts (v g)) × IsLeastInAppend (v g) n
 
 -- Rewrite's live range may begin at file `n`. No entry or value that the tables show in Rewrite is in an earlier file.
--- No atomic group that may have written one of them begins in an earlier file.
+-- If an atomic group may have written one of these entries or values, the atomic group doesn't begin in an earlier file
+-- either.
 abbrev pub RewriteMayBegin : ℕ → (ℕ → Shown) → Type 0
 RewriteMayBegin n v =
     (g : ℕ) → (least : ℕ) × IsLeastInRewrite (v g) least × (n ≤ start_of least (v g).noted)

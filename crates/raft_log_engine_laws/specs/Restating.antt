@@ -1,5 +1,5 @@
--- What a purge writes to Rewrite to restate a group: its entries there from some index on, in pieces, and keys with
--- their values there.
+-- What a purge writes to restate a group, that is, to write what the group has in Rewrite once more, at Rewrite's end.
+-- It writes the entries from some index on, and keys with their values. Each record gets a piece of the entries.
 use Rattle.std.specs.Prelude.{◌≡◌, ℕ, ◌+◌, ◌≤◌, false, List, [], ◌∷◌, ◌++◌, length, Option, Some}
 use Rattle.raft_log_model_laws.specs.Item.{Item}
 use Rattle.raft_log_model_laws.specs.Item.Item.{Put, Run}
@@ -45,9 +45,9 @@ pub record HoldsRewritten (v : Shown) (k : KeyBytes) : Type 0 where
   pub bytes : held.bytes ≡ k.value
   pub rewritten : held.appended ≡ false
 
--- The batches have only these items of group `g`, with bytes as in the contents `m`:
--- - its entries from some index on, up to the last one that is in Rewrite
--- - keys with values that are in Rewrite
+-- The batches have only these items of group `g`:
+-- - its entries from some index on, up to the last one that is in Rewrite, with their bytes in the contents `m`
+-- - keys whose values are in Rewrite, with the values that the table shows
 pub record RestatesGroup (g : ℕ) (bs : List Batch) (v : Shown) (m : Slot → Option (Content (List ℕ) (List ℕ)))
     : Type 0 where
   pub first : ℕ

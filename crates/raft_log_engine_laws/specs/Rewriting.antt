@@ -74,7 +74,7 @@ SaysAt at block b = map (renamed_tagged (λ p. at (in_queue false p))) (items_at
     ≡ tagged_items (entry_bytes b.entries) b.items
 
 -- The batch's items are copies of entries and values that the tables `v` show of the contents `m`. The gate lets each
--- of them move to Rewrite. This holds at each location to which the batch may be written.
+-- of these copies move to Rewrite. This holds wherever the batch is written.
 abbrev pub HasCopies : Option ℕ → Batch → (ℕ → Shown) → LogMap → Type 0
 HasCopies gate b v m = (block : FileBlockHandle) (at : Located → List ℕ) → AreMeant at v m → SaysAt at block b
     → (g : ℕ) → AreCopies at gate block.id.seq (v g) (of_group g (items_at block b))

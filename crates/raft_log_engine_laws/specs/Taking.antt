@@ -40,9 +40,11 @@ pub record NotesFiles (group : ℕ) (files : GroupFiles) (old new : MemTables) :
   pub noted : replayed_of new group ≡ noted_in files (raw_of old group)
   pub others : (g : ℕ) → (group == g) ≡ false → replayed_of new g ≡ replayed_of old g
 
--- Let the parts `ps` be whole copies, with items of raft group `group` only, which has a table. File numbers never fall
--- from one part to the next, nor, within a queue, from one entry of a group to the next. If the tables `old` moved the
--- items of all parts, and then noted the files, they show the whole atomic group.
+-- The tables `old` moved the items of the parts `ps`, and became `m`. Then they noted the atomic group's files, and
+-- became `new`. The law says that `new` shows the whole atomic group (`ShowsWhole`). Premises:
+-- - The parts are whole copies (`IsWholeCopy`), with items of raft group `group` only, which has a table.
+-- - File numbers never fall from one part to the next.
+-- - In each queue, the file numbers of a group's entries never fall as the index rises.
 abbrev pub TablesTakeWholeGroups : Type 0 → Type 0
 TablesTakeWholeGroups E = (at : Located → E) (gate : Option ℕ) (a : ℕ) (ps : List WrittenPart)
     (files : GroupFiles) (group : ℕ) (old m new : MemTables) → ((g : ℕ) → IsOrderly (shown_of old g))

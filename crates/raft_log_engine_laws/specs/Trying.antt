@@ -22,14 +22,14 @@ abbrev pub WritesAt : (LogFileContext → List ℕ) → FileBlockHandle → LogP
 WritesAt signed block v w = AppendsTo InAppend signed block v w
     ⊎ ((mid : LogPipes) × TriesInVain signed v mid × AppendsTo InAppend signed block mid w)
 
--- An append to Append failed with `error`. The error is `NumberRange` only if the queue had to rotate, and its active
--- file has the last number that a file name can have.
+-- An append to Append failed with `error`. If that is `NumberRange` and the pipes ran over a log, the queue had to
+-- rotate. Then its active file has the last number that a file name can have.
 abbrev pub RefusesRecord : (LogFileContext → List ℕ) → Error → LogPipes → LogPipes → Type 0
 RefusesRecord signed error v w =
     FailsToAppendTo InAppend signed error v w × EndsNumbersAt InAppend signed error v w
 
--- The record wasn't written. Either the first try failed with an error other than `TryAgain`, or the first failed with
--- `TryAgain` and the second with `error`.
+-- A write failed to append the record, with `error`. Either the first try failed with `error`, which isn't `TryAgain`.
+-- Or the first try failed with `TryAgain`, and the second with `error`.
 abbrev pub RefusesAt : (LogFileContext → List ℕ) → Error → LogPipes → LogPipes → Type 0
 RefusesAt signed error v w = ((SaysTryAgain error → ⊥) × RefusesRecord signed error v w)
     ⊎ ((mid : LogPipes) × TriesInVain signed v mid × IsLater mid.disk w.disk

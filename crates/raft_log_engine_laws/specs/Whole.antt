@@ -1,7 +1,7 @@
--- What an atomic group of records changes in the tables. Its parts are records of Rewrite. When the last is written,
--- the table of each raft group notes the items of all parts in their new files. A run of entries may be split over
--- several parts, each piece in the file of its part's record. The gate is the last file of Append from which a purge
--- copies; without a gate, it copies only what is in Rewrite already.
+-- What an atomic group of records changes in the tables. Each part of the atomic group is a record of Rewrite. Once the
+-- last part is written, the table of each raft group gets the new locations of the items of all parts. A run of entries
+-- may be split over several parts, each piece in the file of its part's record. The gate is the last file of Append
+-- from which a purge copies; without a gate, it copies only what is in Rewrite already.
 use Rattle.std.specs.Prelude.{◌≡◌, ℕ, ◌+◌, false, List, [], ◌∷◌, ◌++◌, length, map, Option}
 use Rattle.raft_log_model_laws.specs.Item.{Item}
 use Rattle.raft_log_model_laws.specs.Item.Item.{Run}
@@ -51,8 +51,8 @@ abbrev pub filed_moves : List Filed → List Move
 filed_moves [] = []
 filed_moves (x ∷ xs) = moves_of x.file (x.item ∷ []) ++ filed_moves xs
 
--- Each item is a copy that the gate lets move: a copy of what the table shows after it applied the items before this
--- one. Before all of them it showed `v`.
+-- Each item is a copy that the gate lets move. It is a copy of what the table shows after the table applied all earlier
+-- items. Before the first item, the table showed `v`.
 abbrev pub AreFiledCopies : {E : Type 0} → (Located → E) → Option ℕ → Shown → List Filed → Type 0
 AreFiledCopies at gate v [] = Unit {0}
 AreFiledCopies at gate v (x ∷ xs) =

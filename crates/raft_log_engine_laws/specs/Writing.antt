@@ -72,7 +72,8 @@ IsUnfit b v _ = ⊥
 -- What is true after an append of the batch failed, by the error:
 -- - `Io`, `TryAgain`: a file system call failed; the record was truncated away, and all earlier batches are durable
 -- - `NumberRange`, `Memory`: the record is not in the log; a prefix of the pending batches may have been synced
--- - `Failed`: a file system call failed, and so has the engine; its files can be opened, with the batch or without it
+-- - `Failed`: a file system call failed, and the engine has failed; its files can be opened, with the batch or without
+--   it
 abbrev pub Leaves : LogDirectories → Batch → LogMap → List LogRecordValue → EngineState → EngineState → Error → Type 0
 Leaves home b m pending s t (errors.Io kind) =
     Fails s.pipes.disk t.pipes.disk × Represents home t (taken m pending) []

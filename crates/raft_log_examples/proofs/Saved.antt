@@ -14,14 +14,14 @@ use Rattle.raft_log_engine.specs.raft_log_model_laws.specs.Item.Item.{Put}
 use Rattle.raft_log_engine.specs.raft_log_model_laws.specs.Meaning.{Content, says}
 use Rattle.raft_log_engine.specs.raft_log_model_laws.specs.Meaning.Slot.{Key}
 use Rattle.raft_log_engine.specs.raft_log_model_laws.specs.Meaning.Content.{Value}
-use Rattle.raft_log_engine.specs.raft_log_model_laws.proofs.Tests.{put_sets}
+use Rattle.raft_log_engine.specs.raft_log_model_laws.proofs.Public.{put_sets}
 use Rattle.raft_log_engine.specs.raft_log_record_base.specs.declared.errors.Error.{Error}
 use Rattle.raft_log_engine.specs.raft_log_record_items.specs.declared.entry.EntryIndex.{EntryIndex}
 use Rattle.raft_log_engine.specs.raft_log_record_items.specs.Items.{put_item}
 use Rattle.raft_log_engine.specs.raft_log_record_frames.specs.Key.{is_internal}
 use Rattle.raft_log_engine.specs.raft_log_record_frames.specs.Meaning.{marked, record_of, tagged, tagged_items, unless_mark}
 use Rattle.raft_log_engine.specs.raft_log_record_frames.specs.declared.marking.Marking.{Marking}
-use Rattle.raft_log_engine.specs.raft_log_record_frames.proofs.Meanings.{keeps_mark, no_mark_key}
+use Rattle.raft_log_engine.specs.raft_log_record_frames.proofs.Public.{keeps_mark, no_mark_key}
 use Rattle.raft_log_engine.specs.raft_log_fs.specs.Disk.{Disk}
 use Rattle.raft_log_engine.specs.raft_log_record_batches.specs.Batch.{Batch, Puts, empty_batch}
 use Rattle.raft_log_engine.specs.raft_log_record_batches.specs.Places.{entry_bytes}

@@ -1,5 +1,5 @@
--- What a caller of an engine does in the example of ten lines. `disk` gives the disk of a file system's state, and
--- `tells` which sizes it may return as a directory's free space.
+-- What a caller of an engine does in the example of ten lines. `disk` gives the disk of a file system's state. `tells`
+-- says which numbers the file system may return as a directory's free space.
 use Rattle.std.specs.Prelude.{◌≡◌, ℕ, List, [], ◌∷◌, Option, Some, None, true}
 use Rattle.raft_log_engine.specs.raft_log_fs.specs.Disk.{Disk}
 use Rattle.raft_log_engine.specs.raft_log_record_items.specs.Items.{put_item}
@@ -15,9 +15,10 @@ use Rattle.raft_log_engine.specs.raft_log_engine_laws.specs.Reading.{ReadsValue}
 use Rattle.raft_log_engine.specs.raft_log_engine_laws.specs.Writing.{Writes}
 use Rattle.raft_log_engine.specs.raft_log_open.specs.Opening.{OpensDirectory}
 
--- A log was opened over `old`, and a batch that puts `value` at `key` of group `group` was written with a sync. Then
--- the key was read, and `found` is what the read returned. The log was closed with everything synced, which left `new`.
--- If nothing was pending in the opened log, `found` is `value`, whatever the log's contents were.
+-- A log was opened in the file system's state `old`. A batch that puts `value` at `key` of group `group` was written
+-- with a sync. Then the key was read, and `found` is what the read returned. The log was closed with everything synced,
+-- which left the state `new`. If nothing was pending in the opened log, `found` is `value`, whatever the log's contents
+-- were.
 pub record SavesInLog {F : Type 0} (disk : F → Disk) (tells : F → List ℕ → ℕ → Type 0) (config : Config)
     (group : ℕ) (key value : List ℕ) (old new : F) (found : Option (List ℕ)) : Type 0 where
   pub pipes : LogPipes

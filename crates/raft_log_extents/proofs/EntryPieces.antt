@@ -8,15 +8,7 @@ use Rattle.raft_log_record_base.specs.declared.pipe_log.FileBlockHandle.{FileBlo
 use Rattle.raft_log_extents.specs.Entries.{place_in, place_of}
 use Rattle.raft_log_extents.specs.declared.run.Run.{Run}
 use Rattle.raft_log_extents.specs.Runs.{block, laid, start_of_entry, starts_for}
-use Rattle.raft_log_extents.proofs.PieceRuns.{HaveLength, LastHas, even_are, gap, no_gap, one_more, pieces_drop, pieces_take, uneven_are}
-
-pub first_one : (es : List EntryIndex) → 0 < length es → AreOnePiece (map place_of (take 1 es))
-first_one [] h = absurd (omega arith)
-first_one (e ∷ es) h = tt
-
-pub first_pieces : (es : List EntryIndex) (d : EntryIndex) → 0 < length es → pieces (map place_of es) ≡ suc (gaps (place_of (slice_index_or es 0 d)) (map place_of (drop 1 es)))
-first_pieces [] d h = absurd (omega arith)
-first_pieces (e ∷ es) d h = refl
+use Rattle.raft_log_extents.proofs.PieceRuns.{HaveLength, LastHas, even_are, no_gap, one_more, pieces_drop, pieces_take, uneven_are}
 
 -- the places of entries that were read
 pub place_at : (es : List EntryIndex) (i : ℕ) (e : EntryIndex) (d : Place) → i < length es → e ≡ slice_index_or es i e → slice_index_or (map place_of es) i d ≡ place_of e
@@ -57,12 +49,6 @@ module _ (es : List EntryIndex) (i : ℕ) (a b : EntryIndex) (first : 1 ≤ i) (
   next_pieces all h f =
       start all h ∙ ap suc (no_gap ps (i - 1) d long (as_test true f))
       ∙ ap₂ (λ p l. suc (gaps p l)) after (ap (λ n. drop n ps) (let same : suc (suc (i - 1)) ≡ i + 1 = omega (arith, first) in same) ∙ drop-map place_of (i + 1) es)
-
-  pub last_pieces : (all : ℕ) → all ≡ suc (gaps (place_of a) (map place_of (drop i es))) → follows (place_of a) (place_of b) ≡ false
-      → all ≡ 1 + pieces (map place_of (drop i es))
-  last_pieces all h f =
-      start all h ∙ ap suc (gap ps (i - 1) d long (as_test false f)) ∙ (let same : suc (pieces (drop (suc (i - 1)) ps)) ≡ 1 + pieces (drop (suc (i - 1)) ps) = omega arith in same)
-      ∙ ap (λ l. 1 + pieces l) (ap (λ n. drop n ps) (sym one) ∙ drop-map place_of i es)
 
 -- all are one piece
 pub no_more_pieces : (es : List EntryIndex) (n : ℕ) (p : Place) (all : ℕ) → length es ≤ n → all ≡ suc (gaps p (map place_of (drop n es))) → all ≡ 1 + pieces (map place_of (drop n es))

@@ -1,3 +1,4 @@
+pub mod Public
 pub mod Replacing
 pub mod Rising
 pub mod RunPlaces

@@ -1,6 +1,6 @@
 -- A piece of places as one run, and how many pieces places have.
-use Rattle.std.proofs.Common.{◌≡◌, ℕ, zero, suc, ◌+◌, ◌-◌, ◌<◌, ◌≤◌, true, false, ◌&&◌, List, [], ◌∷◌, length, map, take, drop, slice_index_or, if◌then◌else◌, ◌==◌, refl, sym, ap, ap₂, ◌∙◌, arith}
-use Rattle.raft_log_model_laws.proofs.Cases.{at_bool, both, from_eq_true, if_false, if_true}
+use Rattle.std.proofs.Common.{◌≡◌, ℕ, zero, suc, ◌+◌, ◌-◌, ◌<◌, ◌≤◌, true, ◌&&◌, List, [], ◌∷◌, length, map, take, drop, slice_index_or, if◌then◌else◌, ◌==◌, refl, sym, ap, ap₂, ◌∙◌, arith}
+use Rattle.raft_log_model_laws.proofs.Public.{at_bool, both, from_eq_true, if_true}
 use Rattle.raft_log_extents.specs.declared.place.Place.{Place}
 use Rattle.raft_log_extents.specs.Blocks.{AreOnePiece, even_places, follows, gaps, in_block, pieces, uneven_places}
 use Rattle.raft_log_extents.proofs.Replacing.{drop_at}
@@ -70,14 +70,6 @@ pub no_gap : (ps : List Place) (i : ℕ) (d : Place) → i + 1 < length ps → f
 no_gap ps i d h f =
     gaps_next ps i d h
     ∙ if_true (follows (slice_index_or ps i d) (slice_index_or ps (suc i) d)) (gaps (slice_index_or ps (suc i) d) (drop (suc (suc i)) ps)) (suc (gaps (slice_index_or ps (suc i) d) (drop (suc (suc i)) ps))) f
-
--- where a place doesn't follow, the others are pieces of their own
-pub gap : (ps : List Place) (i : ℕ) (d : Place) → i + 1 < length ps → follows (slice_index_or ps i d) (slice_index_or ps (suc i) d) ≡ false
-    → gaps (slice_index_or ps i d) (drop (suc i) ps) ≡ pieces (drop (suc i) ps)
-gap ps i d h f =
-    gaps_next ps i d h
-    ∙ if_false (follows (slice_index_or ps i d) (slice_index_or ps (suc i) d)) (gaps (slice_index_or ps (suc i) d) (drop (suc (suc i)) ps)) (suc (gaps (slice_index_or ps (suc i) d) (drop (suc (suc i)) ps))) f
-    ∙ sym (ap pieces (drop_at (suc i) ps d (omega arith) ∙ ap (λ n. slice_index_or ps (suc i) d ∷ drop n ps) (let same : suc i + 1 ≡ suc (suc i) = omega arith in same)))
 
 -- Fewer places have no more pieces.
 pub pieces_le : (ps : List Place) → pieces ps ≤ length ps

@@ -1,7 +1,7 @@
 -- The places of a run, those in its block and those alone: cut in two and looked at one by one.
 use Rattle.std.proofs.Common.{◌≡◌, ℕ, zero, suc, ◌+◌, ◌-◌, ◌*◌, ◌<◌, ◌≤◌, Bool, true, false, List, [], ◌∷◌, ◌++◌, length, take, drop, slice_index_or, if◌then◌else◌, nat_le, nat_lt, refl, sym, ap, ap₂, subst, ◌∙◌, arith, append_assoc, append-nil, length-append, length-drop, length-take-le, take-append-drop, drop-drop}
 use Rattle.std.proofs.lemmas.List.{drop-append-le, get_or_append_left, take-append-le}
-use Rattle.raft_log_model_laws.proofs.Cases.{at_bool, from_le_false, from_le_true, from_lt_false, from_lt_true, if_false, if_true, lt_false, lt_true}
+use Rattle.raft_log_model_laws.proofs.Public.{at_bool, from_le_false, from_le_true, from_lt_false, from_lt_true, if_false, lt_false}
 use Rattle.raft_log_extents.specs.declared.place.Place.{Place}
 use Rattle.raft_log_extents.specs.declared.run.Run.{Run}
 use Rattle.raft_log_extents.specs.Runs.{StartsFit, head, laid, one_more, places_of, span, tail, total, width, width_of}
@@ -24,10 +24,6 @@ get_over : {A : Type 0} (xs ys : List A) (m c : ℕ) (d : A) → m ≡ length xs
 get_over [] ys m c d e = ap (λ k. slice_index_or ys k d) (let same : m ≡ c = omega (arith, e) in same)
 get_over (x ∷ xs) ys zero c d e = absurd (omega (arith, e))
 get_over (x ∷ xs) ys (suc m) c d e = get_over xs ys m c d (omega (arith, e))
-
--- how many starts go with so many entries
-pub span_in : (r : Run) (j : ℕ) → j < r.count → span r j ≡ width_of r.even j
-span_in r j h = if_true (nat_lt j r.count) (width_of r.even j) (width_of r.even r.count + (j - r.count) * 8) (lt_true j r.count h)
 
 pub span_past : (r : Run) (j : ℕ) → r.count ≤ j → span r j ≡ width_of r.even r.count + (j - r.count) * 8
 span_past r j h = if_false (nat_lt j r.count) (width_of r.even j) (width_of r.even r.count + (j - r.count) * 8) (lt_false j r.count h)
@@ -236,10 +232,6 @@ tail_fit r ss j d enough f =
     none : (e : Bool) → StartsFit e (record r { first = r.first + j; count = 0; at = r.at + span r j; alone = r.alone - (j - r.count) })
     none true = λ i h. absurd (omega (arith, h))
     none false = tt
-
--- One entry more that is alone.
-pub width-more : (r : Run) → width (one_more r) ≡ width r + 8
-width-more r = omega arith
 
 pub places-push : (r : Run) (ss : List ℕ) (p : Place) → width r ≡ length ss → places_of (one_more r) (ss ++ words_of p) ≡ places_of r ss ++ (p ∷ [])
 places-push r ss p e =

@@ -1,5 +1,5 @@
 -- The places of a run, cut in two and looked at one by one.
-use Rattle.std.proofs.Common.{◌≡◌, ℕ, zero, suc, ◌+◌, ◌-◌, ◌*◌, ◌<◌, ◌≤◌, ◌^◌, Bool, true, false, List, [], ◌∷◌, ◌++◌, length, take, drop, slice_index_or, refl, sym, ap, subst, ◌∙◌, arith, zero-mul, suc-mul, add-mul, mul-le-mul_right, length-take-le, take-take}
+use Rattle.std.proofs.Common.{◌≡◌, ℕ, zero, suc, ◌+◌, ◌-◌, ◌*◌, ◌<◌, ◌≤◌, ◌^◌, Bool, true, false, List, [], ◌∷◌, ◌++◌, length, take, drop, slice_index_or, refl, sym, ap, subst, ◌∙◌, arith, zero-mul, suc-mul, add-mul, length-take-le, take-take}
 use Rattle.std.proofs.lemmas.List.{drop-take, take-append-le}
 use Rattle.raft_log_extents.specs.declared.place.Place.{Place}
 use Rattle.raft_log_extents.specs.declared.run.Run.{Run}
@@ -121,7 +121,3 @@ tail_fits true r ss j k n m d e h f =
     subst (λ o. (i : ℕ) → i < k → o + i * r.size < 2 ^ 32) (sym (ap (λ p. p.entry_offset) (get-even (block r) r.size r.start r.count j d h)))
     (λ i l. let all = f (j + i) (omega arith) in let parts = add-mul j i r.size in omega (arith, all, parts))
 tail_fits false r ss j k n m d e h f = tt
-
--- where the last offset fits, all do
-pub all_fit : (r : Run) → 0 < r.count → r.start + (r.count - 1) * r.size < 2 ^ 32 → StartsFit true r
-all_fit r h last = λ j k. let less = mul-le-mul_right r.size (let low : j ≤ r.count - 1 = omega arith in low) in omega (arith, less, last)

@@ -1,7 +1,7 @@
 -- Runs that come in the stead of others between two borders.
-use Rattle.std.proofs.Common.{◌≡◌, ℕ, zero, suc, ◌+◌, ◌-◌, ◌<◌, ◌≤◌, ◌^◌, List, [], ◌∷◌, ◌++◌, length, take, drop, refl, sym, ap, ap₂, subst, subst₂, ◌∙◌, arith, nat_le, append_assoc, append-nil, length-append, length-drop, length-take-le, take-append-drop, take-take, take_all}
-use Rattle.std.proofs.lemmas.List.{drop_all, drop_at, take-append-le, take_at}
-use Rattle.raft_log_model_laws.proofs.Cases.{at_bool, from_le_false, from_le_true}
+use Rattle.std.proofs.Common.{◌≡◌, ℕ, zero, suc, ◌+◌, ◌-◌, ◌<◌, ◌≤◌, ◌^◌, List, [], ◌∷◌, ◌++◌, length, take, drop, refl, sym, ap, ap₂, subst, subst₂, ◌∙◌, arith, nat_le, append_assoc, length-append, length-drop, length-take-le, take-append-drop, take-take}
+use Rattle.std.proofs.lemmas.List.{drop_at, take-append-le, take_at}
+use Rattle.raft_log_model_laws.proofs.Public.{at_bool, from_le_false, from_le_true}
 use Rattle.raft_log_extents.specs.declared.place.Place.{Place}
 use Rattle.raft_log_extents.specs.declared.run.Run.{Run}
 use Rattle.raft_log_extents.specs.declared.spot.Spot.{Spot}
@@ -86,9 +86,6 @@ renumbered_front n m b k rs h e =
 pub renumbered_none : (n b k : ℕ) (rs : List Run) → IsNumbered n b (take k rs) → IsNumbered (n + counts (take k rs)) (b + widths (take k rs)) (drop k rs) → rs ≡ renumbered n b rs
 renumbered_none n b k rs h g =
     sym (take-append-drop k rs) ∙ ap (λ l. l ++ drop k rs) (sym (renumbered_same n b (take k rs) h)) ∙ renumbered_front n (b + widths (take k rs)) b k rs g refl
-
-pub renumbered_all : (n b k : ℕ) (rs : List Run) → length rs ≤ k → renumbered n b (take k rs) ++ drop k rs ≡ renumbered n b rs
-renumbered_all n b k rs h = ap₂ (λ x y. renumbered n b x ++ y) (take_all k rs h) (drop_all k rs h) ∙ append-nil (renumbered n b rs)
 
 -- what is left of a list that was turned
 pub turned_out : {A : Type 0} (xs one : List A) (i j m k : ℕ) → i ≤ j → j ≤ length xs → one ≡ drop j xs ++ take j xs → m ≡ length xs → k ≡ m - (j - i) → take k one ≡ drop j xs ++ take i xs

@@ -1,7 +1,7 @@
 -- Where an entry is in a list of runs, and what becomes of a list that is cut there.
 use Rattle.std.proofs.Common.{◌≡◌, ℕ, zero, suc, ◌+◌, ◌-◌, ◌*◌, ◌<◌, ◌≤◌, ◌^◌, Bool, true, false, List, [], ◌∷◌, ◌++◌, length, take, drop, slice_index_or, refl, sym, ap, ap₂, subst, subst₂, ◌∙◌, nat_le, arith, get_or-drop, get_or-take, length-append, length-drop, length-take-le, take-append-drop, take-take, take_all, drop-drop}
 use Rattle.std.proofs.lemmas.List.{get_or_default, take-append-le, take_more}
-use Rattle.raft_log_model_laws.proofs.Cases.{at_bool, from_le_false, from_le_true}
+use Rattle.raft_log_model_laws.proofs.Public.{at_bool, from_le_false, from_le_true}
 use Rattle.raft_log_extents.specs.Blocks.{in_block}
 use Rattle.raft_log_extents.proofs.RunPlaces.{get-laid_even, get-uneven, get-uneven_last}
 use Rattle.raft_log_extents.specs.declared.place.Place.{Place}

@@ -124,9 +124,6 @@ module _ (front base len : ℕ) (rs : List Run) (ss : List ℕ) (sound : IsSound
 
 -- A run that is cut in two.
 module _ (front base len position : ℕ) (rs : List Run) (ss : List ℕ) (s : Spot) (sound : IsSound front base len rs ss) (spot : IsSpot rs ss position s) where
-  at_border : s.within ≡ 0 → counts (take s.at rs) ≡ position
-  at_border h = let there = spot.within_is in omega (arith, there, h)
-
   pub split_apart : (p q : Place) (h t : Run) (new : List Run) → 0 < s.within → p ≡ slice_index_or (places_of s.run (drop s.from ss)) (s.within - 1) p
       → q ≡ slice_index_or (places_of s.run (drop s.from ss)) s.within q → h ≡ head s.run s.within p.entry_len
       → t ≡ tail s.run s.within q.entry_offset → new ≡ take s.at rs ++ (h ∷ (t ∷ drop (s.at + 1) rs))

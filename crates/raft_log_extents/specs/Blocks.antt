@@ -1,5 +1,6 @@
--- Places: each says where the bytes of an entry are. It has the file, the offset and length of a block, and the entry's
--- offset and length in the block. A piece is a list of places that are adjacent in one block.
+-- A place says where the bytes of an entry are. It has the file's number, and the offset and length of a block in the
+-- file. It also has the entry's offset and length in the block. A piece is a list of places that are adjacent in one
+-- block.
 use Rattle.std.specs.Prelude.{◌≡◌, ℕ, zero, suc, ◌+◌, ◌-◌, Bool, true, ◌&&◌, List, [], ◌∷◌, if◌then◌else◌, ◌==◌}
 use Rattle.raft_log_extents.specs.declared.place.Place.{Place}
 
@@ -9,7 +10,7 @@ follows p q =
     (((p.file == q.file) && (p.offset == q.offset)) && (p.len == q.len))
     && (p.entry_offset + p.entry_len == q.entry_offset)
 
--- how many of the places `ps` don't follow the one before (`follows`); before the first comes `p`
+-- how many of the places `ps` don't follow the place before them (`follows`); `p` is the place before the first of `ps`
 abbrev pub gaps : Place → List Place → ℕ
 gaps p [] = 0
 gaps p (q ∷ ps) = if follows p q then gaps q ps else suc (gaps q ps)
@@ -34,14 +35,14 @@ abbrev pub even_places : Place → ℕ → ℕ → ℕ → List Place
 even_places b size offset zero = []
 even_places b size offset (suc n) = in_block b offset size ∷ even_places b size (offset + size) n
 
--- Adjacent places in the block of `b`, with these offsets. Each ends where the next begins; the last has the length
--- `size`.
+-- Adjacent places in the block of `b`, at these offsets. Each place ends at the offset of the next one. The last place
+-- has the length `size`.
 abbrev pub uneven_places : Place → ℕ → List ℕ → List Place
 uneven_places b size [] = []
 uneven_places b size (o ∷ []) = in_block b o size ∷ []
 uneven_places b size (o ∷ (p ∷ os)) = in_block b o (p - o) ∷ uneven_places b size (p ∷ os)
 
--- `n` numbers: the first is `x`, and each is `s` more than the one before
+-- `n` numbers: the first is `x`, and each is `s` more than the number before it
 abbrev pub rising : ℕ → ℕ → ℕ → List ℕ
 rising x s zero = []
 rising x s (suc n) = x ∷ rising (x + s) s n

@@ -10,8 +10,9 @@ use Rattle.raft_log_model_laws.specs.Item.Item.{Run}
 use Rattle.raft_log_extents.specs.declared.place.Place.{Place}
 use Rattle.raft_log_extents.specs.Blocks.{between}
 
--- The places of a table's entries. `runs` and `starts` count the runs and starts that store them (`Runs.antt` says what
--- these are). Memory is reserved in advance for `wanted` more places, and for `moves` replacements.
+-- The places of the entries of a memtable. `runs` and `starts` are how many runs and starts store these places
+-- (`Runs.antt` says what runs and starts are). Memory is reserved in advance for `wanted` more places, and for `moves`
+-- replacements of places.
 pub record PlaceList : Type 0 where
   pub items : List Place
   pub runs : ℕ
@@ -23,7 +24,8 @@ pub record PlaceList : Type 0 where
 abbrev pub kept_bytes : PlaceList → ℕ
 kept_bytes p = p.runs * 64 + p.starts * 4
 
--- the place of entry `e` in this block; an entry without a block has file 0 and a block of length 0 at offset 0
+-- The place of entry `e`, whose block is at this location. An entry without a location has file 0 and a block of length
+-- 0 at offset 0.
 abbrev pub place_in : Option FileBlockHandle → EntryIndex → Place
 place_in None e =
     record { file = 0; offset = 0; len = 0; entry_offset = e.entry_offset; entry_len = e.entry_len }
@@ -39,7 +41,7 @@ place_in (Some block) e = record {
 abbrev pub place_of : EntryIndex → Place
 place_of e = place_in e.entries e
 
--- the queue of an entry: Rewrite if it was copied there (`rewritten`), else Append
+-- the queue of an entry: Rewrite if a purge copied the entry there (`rewritten`), else Append
 abbrev pub queue_of : Bool → LogQueue
 queue_of rewritten = if rewritten then Rewrite else Append
 
@@ -58,12 +60,13 @@ abbrev pub entries_of : LogQueue → ℕ → List Place → List EntryIndex
 entries_of queue index [] = []
 entries_of queue index (p ∷ ps) = entry_of queue index p ∷ entries_of queue (index + 1) ps
 
--- the entries as an item: a run of their places, which begins at the index of the first
+-- these entries as an item of the model, which has their places as a run of consecutive indexes; the run begins at the
+-- first entry's index
 abbrev pub run_of : List EntryIndex → Item Place (List ℕ)
 run_of [] = Run 0 []
 run_of (e ∷ es) = Run e.index (map place_of (e ∷ es))
 
--- the block at `block`, as a place of length 0 in it
+-- the location `block` as a place, with an entry of length 0 at the beginning of the block
 abbrev pub place_at : FileBlockHandle → Place
 place_at block = record {
   file = block.id.seq;
@@ -73,7 +76,7 @@ place_at block = record {
   entry_len = 0;
 }
 
--- The adjacent entries in `block`, of which each begins at one of the offsets `bounds` and ends at the next. Their
--- indexes rise by one from `index`.
+-- Adjacent entries in the block at the location `block`. Each begins at one of the offsets `bounds` and ends at the
+-- next. Their indexes rise by one from `index`.
 abbrev pub entries_between : FileBlockHandle → ℕ → List ℕ → List EntryIndex
 entries_between block index bounds = entries_of block.id.queue index (between (place_at block) bounds)

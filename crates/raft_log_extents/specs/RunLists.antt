@@ -21,8 +21,8 @@ start_total r = deque_len r.starts
 abbrev pub bytes_of : Runs → ℕ
 bytes_of r = run_total r * 64 + start_total r * 4
 
--- `n` more entries fit without an allocation, whether each needs a run or eight starts, and their numbers stay below
--- 2 ^ 64
+-- `n` more entries fit without an allocation, even if each needs a run and eight starts. The entry numbers and the
+-- start numbers stay below 2 ^ 64.
 abbrev pub HasRoom : Runs → ℕ → Type 0
 HasRoom r n =
     (deque_len r.runs + n ≤ deque_capacity r.runs) × (deque_len r.starts + n * 8 ≤ deque_capacity r.starts)

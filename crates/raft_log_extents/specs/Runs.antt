@@ -1,7 +1,7 @@
--- Lists of runs, which encode the places of a group's consecutive entries. The first entries of a run are adjacent in
--- one block. If they all have the same length, the run is even, and stores only the offset of its first entry.
--- Otherwise the offset of each is in a second list, `starts`. Each other entry of a run is alone in its block; `starts`
--- has its place, as eight numbers.
+-- Lists of runs, which encode the places of a group's consecutive entries. A run begins with entries that are adjacent
+-- in one block, the block of the run. If all these entries have the same length, the run is even, and stores only the
+-- offset of the first one. Otherwise the offset of each is in a second list, `starts`. The entries of a run after these
+-- are each alone in a block. For each of them, `starts` has its place, as eight numbers.
 use Rattle.std.specs.Prelude.{◌≡◌, ℕ, ◌+◌, ◌-◌, ◌*◌, ◌<◌, ◌≤◌, ◌^◌, Bool, true, false, List, [], ◌∷◌, ◌++◌, if◌then◌else◌, nat_le, nat_lt, length, map, take, drop, slice_index_or}
 use Rattle.std.specs.Coded.{Unit-prop, le_prop, Coded-set, coded_ℕ}
 use Rattle.raft_log_record_items.specs.declared.entry.EntryIndex.{EntryIndex}
@@ -10,12 +10,12 @@ use Rattle.raft_log_extents.specs.declared.run.Run.{Run}
 use Rattle.raft_log_extents.specs.Blocks.{even_places, uneven_places}
 use Rattle.raft_log_extents.specs.Words.{whole_places}
 
--- the block of run `r`, as a place of length 0 in it
+-- the block of run `r`, as the place of an entry of length 0 at the beginning of the block
 abbrev pub block : Run → Place
 block r = record { file = r.file; offset = r.offset; len = r.len; entry_offset = 0; entry_len = 0 }
 
--- how many starts are stored for `count` entries in a run's block: none if all have the same length (`true`), else one
--- for each
+-- how many starts are stored for `count` entries in the block of a run: none if the run is even (`true`), else one for
+-- each entry
 abbrev pub width_of : Bool → ℕ → ℕ
 width_of true count = 0
 width_of false count = count
@@ -33,18 +33,18 @@ abbrev pub span : Run → ℕ → ℕ
 span r count =
     if nat_lt count r.count then width_of r.even count else width_of r.even r.count + (count - r.count) * 8
 
--- The places of the entries in the block of run `r`. If these have one length, as the flag says, their places follow
--- from it. Otherwise `starts` begins with their offsets.
+-- The places of the entries in the block of run `r`. The flag says whether the run is even. If so, `start` and `size`
+-- of the run give these places. Otherwise `starts` begins with the entries' offsets.
 abbrev pub laid : Bool → Run → List ℕ → List Place
 laid true r starts = even_places (block r) r.size r.start r.count
 laid false r starts = uneven_places (block r) r.size (take r.count starts)
 
--- the places of run `r`, if its stored starts are the first of `starts`: first those in its block, and then those alone
--- in theirs
+-- The places of run `r`, whose stored starts are the first of `starts`. First come the places in the block of the run,
+-- and then those of entries that are alone in a block.
 abbrev pub places_of : Run → List ℕ → List Place
 places_of r starts = laid r.even r starts ++ whole_places r.alone (drop (width_of r.even r.count) starts)
 
--- the places of these runs, whose stored starts are `starts`, in order
+-- the places of these runs, in order; `starts` has the stored starts of all runs
 abbrev pub expand : List Run → List ℕ → List Place
 expand [] starts = []
 expand (r ∷ rs) starts = places_of r starts ++ expand rs (drop (width r) starts)
@@ -63,14 +63,15 @@ widths (r ∷ rs) = width r + widths rs
 abbrev pub one_more : Run → Run
 one_more r = record r { alone = r.alone + 1 }
 
--- The first `count` entries of run `r`. If these are in the block, `size` is the length of the last one, or of each if
--- the run is even.
+-- The first `count` entries of run `r`. If all of these are in the run's block, `size` is the length of the last one;
+-- in an even run, of each.
 abbrev pub head : Run → ℕ → ℕ → Run
 head r count size =
     if nat_le count r.count then record r { count = count; size = size; alone = 0 }
     else record r { alone = count - r.count }
 
--- run `r` without its first `gone` entries: if the first that is left is in the block, its offset is `start`
+-- Run `r` without its first `gone` entries. If the first entry that is left is in the run's block, its offset there is
+-- `start`.
 abbrev pub tail : Run → ℕ → ℕ → Run
 tail r gone start =
     if nat_lt gone r.count
@@ -82,27 +83,27 @@ tail r gone start =
       alone = r.alone - (gone - r.count);
     }
 
--- if the run is even, each entry in its block begins at an offset below 2 ^ 32
+-- if the run is even (`true`), each entry in its block begins at an offset below 2 ^ 32
 abbrev pub StartsFit : Bool → Run → Type 0
 StartsFit true r = (j : ℕ) → j < r.count → r.start + j * r.size < 2 ^ 32
 StartsFit false r = Unit {0}
 
--- Every run has entries. The entries of all runs are numbered consecutively from `first`, and their starts from `at`.
--- In even runs, each entry in the block begins at an offset below 2 ^ 32.
+-- Every run has entries. The entries of all runs are numbered consecutively from `first` on, and their stored starts
+-- from `at` on. In even runs, each entry in the block begins at an offset below 2 ^ 32.
 abbrev pub IsNumbered : ℕ → ℕ → List Run → Type 0
 IsNumbered first at [] = Unit {0}
 IsNumbered first at (r ∷ rs) =
     (r.first ≡ first) × (r.at ≡ at) × (0 < total r) × StartsFit r.even r
     × IsNumbered (first + total r) (at + width r) rs
 
--- the runs, renumbered: their entries count from `first` on, and their starts from `at` on
+-- the same runs with other numbers: their entries are numbered from `first` on, and their starts from `at` on
 abbrev pub renumbered : ℕ → ℕ → List Run → List Run
 renumbered first at [] = []
 renumbered first at (r ∷ rs) =
     record r { first = first; at = at } ∷ renumbered (first + total r) (at + width r) rs
 
--- The invariant of a list of runs and its starts. Entries are numbered from `front`, and starts from `base`. The runs
--- have `len` entries in total, and `starts` has exactly the starts that they store. No number reaches 2 ^ 64.
+-- The invariant of a list of runs and its starts. Entries are numbered from `front` on, and starts from `base` on. The
+-- runs have `len` entries in total. `starts` has exactly the starts of these runs. No number reaches 2 ^ 64.
 pub record IsSound (front base len : ℕ) (rs : List Run) (starts : List ℕ) : Type 0 where
   pub numbered : IsNumbered front base rs
   pub count : counts rs ≡ len
@@ -110,16 +111,16 @@ pub record IsSound (front base len : ℕ) (rs : List Run) (starts : List ℕ) : 
   pub fits : front + len < 2 ^ 64
   pub starts_fit : base + length starts < 2 ^ 64
 
--- The runs `more` were appended to the runs `old`, which gives `new`; the starts `kept` were appended to `were`, which
--- gives `starts`. The entries of `more` are numbered from `first`, and the starts from `at`. They encode `len` entries,
--- at the places `ps`.
+-- The runs `more` were appended to the runs `old`, which gives `new`. Their starts `kept` were appended to the starts
+-- `were`, which gives `starts`. The entries of `more` are numbered from `first` on, and the starts `kept` from `at` on.
+-- The runs `more` encode `len` entries, at the places `ps`.
 pub record AreAdded (first at len : ℕ) (ps : List Place) (old new : List Run) (were starts : List ℕ) (more : List Run) (kept : List ℕ) : Type 0 where
   pub runs : new ≡ old ++ more
   pub starts_are : starts ≡ were ++ kept
   pub sound : IsSound first at len more kept
   pub places : expand more kept ≡ ps
 
--- the run at position `k` has the entry with the number `number`, if any run has it
+-- if some run has the entry with the number `number`, it is the run at position `k`
 pub record IsFound (number : ℕ) (rs : List Run) (k : ℕ) : Type 0 where
   pub within : k < length rs
   pub low : (d : Run) → (slice_index_or rs k d).first ≤ number
@@ -129,7 +130,8 @@ pub record IsFound (number : ℕ) (rs : List Run) (k : ℕ) : Type 0 where
 abbrev pub start_of_entry : EntryIndex → ℕ
 start_of_entry e = e.entry_offset
 
--- the starts that are stored for these entries: none if all have the same length (`true`), else the offset of each
+-- the starts that are stored for these entries in a run's block: none if the run is even (`true`), else the offset of
+-- each
 abbrev pub starts_for : Bool → List EntryIndex → List ℕ
 starts_for true es = []
 starts_for false es = map start_of_entry es

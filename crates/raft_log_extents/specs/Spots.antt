@@ -5,10 +5,11 @@ use Rattle.raft_log_extents.specs.declared.spot.Spot.{Spot}
 use Rattle.raft_log_extents.specs.Runs.{counts, total, width, widths}
 
 -- `s` says where the entry at `position` is in the runs `rs`, whose starts are `starts` (`Runs.antt`). Its fields:
--- - `run`, `at`: the run that has the entry, and the number of runs before that one.
--- - `from`: the number of starts that are stored for these earlier runs.
--- - `within`: the number of entries before this one in its run.
--- The starts of this run are stored too. If it is even, each entry in its block begins at an offset below 2 ^ 32.
+-- - `run`, `at`: the run that has the entry, and how many runs are before that run.
+-- - `from`: how many starts are stored for these earlier runs.
+-- - `within`: how many entries of the same run are before this entry.
+-- `starts` also has the starts of that run. If the run is even, each entry in its block begins at an offset below 2 ^
+-- 32.
 pub record IsSpot (rs : List Run) (starts : List ℕ) (position : ℕ) (s : Spot) : Type 0 where
   pub there : s.at < length rs
   pub run_is : s.run ≡ slice_index_or rs s.at s.run

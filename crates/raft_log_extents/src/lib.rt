@@ -1,5 +1,5 @@
-//! The places of a group's entries, and room for more. They are kept as runs of entries that follow one another in a
-//! block, each with entries after it that came alone.
+//! The places of a group's entries, and capacity for more. They are kept as runs: entries that are adjacent in one
+//! block, and then entries that are each alone in a block.
 #![tactic(auto)]
 
 pub mod bounds;

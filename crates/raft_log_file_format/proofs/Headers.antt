@@ -12,9 +12,7 @@ use Rattle.raft_log_record_base.specs.declared.pipe_log.Version.TheVariants.{V1,
 use Rattle.raft_log_record_base.specs.Grammar.{IsReader, Then, ◌>>=◌}
 use Rattle.raft_log_record_base.specs.Number.{IsU64, high_first_at, u64_bytes}
 use Rattle.raft_log_record_base.specs.Files.{version_number}
-use Rattle.raft_log_record_base.proofs.Grammar.{is_then, is_known, bind_ok, ok_is, chosen}
-use Rattle.raft_log_record_base.proofs.Fixed.{is_high_first}
-use Rattle.raft_log_record_base.proofs.Faults.{is_lifted}
+use Rattle.raft_log_record_base.proofs.Public.{bind_ok, chosen, is_high_first, is_known, is_lifted, is_then, ok_is}
 use Rattle.raft_log_record_base.specs.Fault.{Fault, lifted, lifted_at}
 use Rattle.raft_log_record_base.specs.Fault.Fault.{corrupt}
 use Rattle.raft_log_file_format.specs.declared.header.LogFileFormat.{LogFileFormat}

@@ -1,2 +1,3 @@
+pub mod Public
 pub mod Headers
 pub mod Names

@@ -59,8 +59,8 @@ magic_at bytes = if starts_with nat_eq bytes magic then Ok (tt, drop (length mag
 abbrev pub version_of : ℕ → Result Version Fault
 version_of n = if n == 1 then Ok V1 else (if n == 2 then Ok V2 else Err (corrupt (unknown_version n)))
 
--- Reads a version. If there are fewer than eight bytes, it fails as the reading of any number does. A number of no
--- version is a corruption.
+-- Reads a version. If there are fewer than eight bytes, it fails as the read of any number does. If no version has the
+-- number that was read, it fails with a corruption.
 unfoldable pub version_at : Reader Version Fault
 version_at bytes = do
   number ← lifted (high_first_at w64 bytes)

@@ -40,7 +40,8 @@ sixteen_digits n = replicate (16 - length (decimal n)) 48 ++ decimal n
 abbrev pub signed_digits : ℕ → List ℕ
 signed_digits n = 43 ∷ (replicate (15 - length (decimal n)) 48 ++ decimal n)
 
--- numbers below this limit have names with a plus sign (`true`), which leaves fifteen digits, or without one
+-- The limit below which a number has a name. With `true` the name has a plus sign, which leaves fifteen digits for the
+-- number.
 abbrev pub name_limit : Bool → ℕ
 name_limit true = 10 ^ 15
 name_limit false = 10 ^ 16

@@ -10,7 +10,7 @@ use Rattle.raft_log_file_listeners.specs.Active.{ActiveFiles, IsNext, ListsOrMis
 use Rattle.raft_log_file_listeners.specs.Hearing.{HookHears, WritesHoldNothingBack, WrittenFilesAreHeld}
 use Rattle.raft_log_file_listeners.specs.Least.{lesser}
 use Rattle.raft_log_dual_pipes.specs.Telling.{BothHear, Hears, Told, begun}
-use Rattle.raft_log_dual_pipes.proofs.Telling.{second_hears}
+use Rattle.raft_log_dual_pipes.proofs.Public.{second_hears}
 use Rattle.raft_log_file_listeners.proofs.Held.{waiting_files_are_held}
 
 -- the first file of which a record waits

@@ -1,3 +1,4 @@
+pub mod Public
 pub mod Held
 pub mod Hook
 pub mod Least

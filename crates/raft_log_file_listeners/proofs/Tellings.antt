@@ -5,7 +5,7 @@ use Rattle.raft_log_record_base.specs.declared.errors.Error.{Error}
 use Rattle.raft_log_record_base.specs.declared.pipe_log.FileId.{FileId}
 use Rattle.raft_log_dual_pipes.specs.Telling.{BothHear, Hears, Told, files_purged}
 use Rattle.raft_log_record_base.specs.declared.pipe_log.LogQueue.{LogQueue}
-use Rattle.raft_log_dual_pipes.proofs.Telling.{a_file, both_hear, hears_one}
+use Rattle.raft_log_dual_pipes.proofs.Public.{a_file, both_hear, hears_one}
 
 -- files went, and the second is told of the last one
 pub both_hear_purged : {L M : Type 0} (hears : Told → L → L → Type 0) (hears_too : Told → M → M → Type 0) (file : FileId)

@@ -16,13 +16,11 @@ use Rattle.raft_log_fs.specs.Image.{IsSound}
 use Rattle.raft_log_file_writer.specs.LogFormat.{Format}
 use Rattle.raft_log_file_writer.specs.LogQueue.{LogFiles, IsPast}
 use Rattle.raft_log_fs.specs.Touching.{HasFile}
-use Rattle.raft_log_fs.proofs.KeptLaws.{IsCalm, kept_delete}
-use Rattle.raft_log_fs.proofs.CauseLaws.{fails_after}
-use Rattle.raft_log_fs.proofs.Updates.{name_apart}
+use Rattle.raft_log_fs.proofs.Public.{fails_after, kept_delete, name_apart, IsCalm}
 use Rattle.raft_log_active_file.specs.Queue.{begun}
 use Rattle.raft_log_active_file.specs.States.{IsNew}
 use Rattle.raft_log_active_file.specs.Standing.{Names}
-use Rattle.raft_log_active_file.proofs.FileSteps.{new_over}
+use Rattle.raft_log_active_file.proofs.Public.{new_over}
 use Rattle.raft_log_active_file.specs.Layout.{FilePaths, IsLayout, path_of}
 use Rattle.raft_log_active_file.specs.Exits.{IsOpen}
 use Rattle.raft_log_active_file.specs.Rotation.{CanDrop, Drops, FailsToDrop, FilesStay}
@@ -127,9 +125,6 @@ gone_stay paths N M first kept path (f ∷ fs) (here, behind) same (below, liste
     (below, listed, (id, same (path_of paths f) here ∙ named), others, alone, gone_stay paths N M first kept path fs behind same rest)
 
 module _ {R : Type 0} (F : Format R) (own : List ℕ → Type 0) (paths : FilePaths) (lawful : IsLayout F own paths) where
-  pub none_dropped : (gone : List (List ℕ)) (d : Disk) → DropsTo F own paths gone 0 d d
-  none_dropped gone d base files q gs spelled is are = (is, λ m below none. none, are, refl, refl)
-
   -- one more is dropped
   pub drops_more : (gone : List (List ℕ)) (i : ℕ) (path : List ℕ) (old mid new : Disk) → IsSound mid → i < length gone → take (suc i) gone ≡ take i gone ++ path ∷ [] → DropsTo F own paths gone i old mid → Drops F own path mid new
       → ((id : ℕ) → mid.names path ≡ Some id → FilesStay id id mid new) → Deletes path mid new → DropsTo F own paths gone (suc i) old new

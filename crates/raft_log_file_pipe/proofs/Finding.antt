@@ -4,9 +4,9 @@ use Rattle.raft_log_fs.specs.Disk.{Disk}
 use Rattle.raft_log_fs.specs.Image.{IsSound}
 use Rattle.raft_log_file_writer.specs.LogFormat.{Format}
 use Rattle.raft_log_file_writer.specs.LogQueue.{LogFiles, IsLeftover, kept_to}
-use Rattle.raft_log_fs.proofs.ImageLaws.{image_is_sound}
+use Rattle.raft_log_fs.proofs.Public.{image_is_sound}
 use Rattle.raft_log_active_file.specs.Standing.{Names, Stands}
-use Rattle.raft_log_active_file.proofs.Keeping.{files_restart}
+use Rattle.raft_log_active_file.proofs.Public.{files_restart}
 use Rattle.raft_log_active_file.specs.Layout.{FilePaths, IsLayout, path_of}
 use Rattle.raft_log_file_pipe.specs.Files.{Listed}
 use Rattle.raft_log_file_pipe.specs.Laws.{AreFoundOnDisk, PipesAreFound}

@@ -1,3 +1,4 @@
+pub mod Public
 pub mod Lists
 pub mod Naming
 pub mod Raising

@@ -52,10 +52,6 @@ module _ {R : Type 0} (F : Format R) where
     pub numbers_apart : (a b m n : ℕ) → m < F.limit → n < F.limit → (m ≡ n → ⊥) → paths.numbered a m ≡ paths.numbered b n → ⊥
     numbers_apart a b m n small less apart same = apart (lawful.format.paths m n (paths.numbered b n) small less (subst (F.IsPath m) same (lawful.numbered a m small)) (lawful.numbered b n less))
 
-    -- a reserved name is no number's
-    pub reserved_apart : (a b m n : ℕ) → n < F.limit → paths.reserved a m ≡ paths.numbered b n → ⊥
-    reserved_apart a b m n less same = lawful.apart a m n less (subst (F.IsPath n) (sym same) (lawful.numbered b n less))
-
     -- a file that is kept for use isn't one of a number from the span's first on
     pub kept_is_no_number : (first : ℕ) (d : Disk) (f : Listed) (m : ℕ) → IsKeptForUse F paths first d f → first ≤ m → m < F.limit → F.IsPath m (path_of paths f) → ⊥
     kept_is_no_number first d f m is from less at = elim (cases_Bool f.reserved) [

@@ -9,15 +9,13 @@ use Rattle.raft_log_fs.specs.Arguments.{WrongCreate, WrongHandle, WrongRename, W
 use Rattle.raft_log_fs.specs.Calls.{Creates, Renames}
 use Rattle.raft_log_fs.specs.Exits.{FailsToCreate, FailsToRename, FailsToSync}
 use Rattle.raft_log_fs.specs.declared.handle.Handle.{Handle}
-use Rattle.raft_log_fs.proofs.KeptLaws.{IsCalm, kept_create, kept_rename}
-use Rattle.raft_log_fs.proofs.TouchingLaws.{touches_change, touches_sync}
-use Rattle.raft_log_fs.proofs.Updates.{name_apart}
+use Rattle.raft_log_fs.proofs.Public.{kept_create, kept_rename, name_apart, touches_change, touches_sync, IsCalm}
 use Rattle.raft_log_file_writer.specs.Writer.{Closes, FailsToClose, FailsToTakeUp, TakesUp}
 use Rattle.raft_log_file_writer.specs.Writer.FailsToClose.{not_cut, not_synced}
 use Rattle.raft_log_file_writer.specs.Writer.FailsToTakeUp.{not_measured, not_begun}
 use Rattle.raft_log_file_writer.specs.Writer.TakesUp.{goes_on, begins}
 use Rattle.raft_log_file_writer.specs.declared.writer.LogFileWriter.{LogFileWriter}
-use Rattle.raft_log_file_writer.proofs.WriterLaws.{cut_touches, touches_next, touches_refused}
+use Rattle.raft_log_file_writer.proofs.Public.{cut_touches, touches_next, touches_refused}
 use Rattle.raft_log_active_file.specs.Standing.{Names}
 use Rattle.raft_log_active_file.specs.Exits.{BeginMakes}
 use Rattle.raft_log_active_file.specs.Rotation.{RotationMakes}

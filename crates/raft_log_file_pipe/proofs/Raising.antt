@@ -1,5 +1,5 @@
 -- The first files of a pipe's span leave it: some stay for use, the others are to be dropped.
-use Rattle.std.proofs.Common.{◌≡◌, ℕ, ◌+◌, ◌-◌, ◌<◌, ◌≤◌, ◌&&◌, nat_lt, suc, zero, Some, List, [], ◌∷◌, ◌++◌, length, map, get_or, drop, take, Bool, false, true, cond, refl, sym, ◌∙◌, ap, subst, inl, inr, arith, append_assoc}
+use Rattle.std.proofs.Common.{◌≡◌, ℕ, ◌+◌, ◌-◌, ◌<◌, ◌≤◌, ◌&&◌, nat_lt, suc, zero, Some, List, [], ◌∷◌, ◌++◌, length, get_or, drop, take, Bool, false, cond, refl, sym, ◌∙◌, ap, subst, inl, inr, arith, append_assoc}
 use Rattle.std.proofs.lemmas.Bool.{cases_Bool}
 use Rattle.std.proofs.lemmas.List.{take_all}
 use Rattle.raft_log_fs.specs.Disk.{Disk}
@@ -186,24 +186,6 @@ module _ {R : Type 0} (F : Format R) (own : List ℕ → Type 0) (paths : FilePa
       (cause, left, gaps, span, subst (λ (ps : List (List ℕ)). LosesFirst ps old new) spelled first, subst (λ (ps : List (List ℕ)). DropsUntil ps old new) spelled calls)
 
 -- Parting the files, one after the other.
-
-pub staying_more : (room : ℕ) (kept all rest : List Listed) (f : Listed) (i : ℕ) → (is_signed f.format.version && nat_lt 0 room) ≡ true → drop i all ≡ f ∷ rest → (r : ℕ) → staying r all ≡ kept ++ staying room (drop i all) → staying r all ≡ (kept ++ f ∷ []) ++ staying (room - 1) rest
-staying_more room kept all rest f i stays here r before =
-    before ∙ ap (λ (fs : List Listed). kept ++ staying room fs) here ∙ ap (λ (b : Bool). kept ++ cond b (f ∷ staying (room - 1) rest) (staying room rest)) stays ∙ sym (append_assoc kept (f ∷ []) (staying (room - 1) rest))
-
-pub staying_skips : (room : ℕ) (kept all rest : List Listed) (f : Listed) (i : ℕ) → (is_signed f.format.version && nat_lt 0 room) ≡ false → drop i all ≡ f ∷ rest → (r : ℕ) → staying r all ≡ kept ++ staying room (drop i all) → staying r all ≡ kept ++ staying room rest
-staying_skips room kept all rest f i goes here r before = before ∙ ap (λ (fs : List Listed). kept ++ staying room fs) here ∙ ap (λ (b : Bool). kept ++ cond b (f ∷ staying (room - 1) rest) (staying room rest)) goes
-
-pub going_skips : (paths : FilePaths) (room : ℕ) (gone : List (List ℕ)) (all rest : List Listed) (f : Listed) (i : ℕ) → (is_signed f.format.version && nat_lt 0 room) ≡ true → drop i all ≡ f ∷ rest → (r : ℕ)
-    → map (path_of paths) (going r all) ≡ gone ++ map (path_of paths) (going room (drop i all)) → map (path_of paths) (going r all) ≡ gone ++ map (path_of paths) (going (room - 1) rest)
-going_skips paths room gone all rest f i stays here r before =
-    before ∙ ap (λ (fs : List Listed). gone ++ map (path_of paths) (going room fs)) here ∙ ap (λ (b : Bool). gone ++ map (path_of paths) (cond b (going (room - 1) rest) (f ∷ going room rest))) stays
-
-pub going_more : (paths : FilePaths) (room : ℕ) (gone : List (List ℕ)) (all rest : List Listed) (f : Listed) (i : ℕ) → (is_signed f.format.version && nat_lt 0 room) ≡ false → drop i all ≡ f ∷ rest → (r : ℕ)
-    → map (path_of paths) (going r all) ≡ gone ++ map (path_of paths) (going room (drop i all)) → map (path_of paths) (going r all) ≡ (gone ++ path_of paths f ∷ []) ++ map (path_of paths) (going room rest)
-going_more paths room gone all rest f i goes here r before =
-    before ∙ ap (λ (fs : List Listed). gone ++ map (path_of paths) (going room fs)) here ∙ ap (λ (b : Bool). gone ++ map (path_of paths) (cond b (going (room - 1) rest) (f ∷ going room rest))) goes
-    ∙ sym (append_assoc gone (path_of paths f ∷ []) (map (path_of paths) (going room rest)))
 
 -- the item at a place of a list's front
 pub item_here : (fs : List Listed) (count i : ℕ) (f : Listed) → i < count → count ≤ length fs → f ≡ get_or fs i f → drop i (take count fs) ≡ f ∷ drop (suc i) (take count fs)

@@ -4,7 +4,7 @@ use Rattle.std.specs.Result.{OnOk, OnErr, IfErr}
 use Rattle.std.specs.declared.io.ErrorKind.{ErrorKind}
 use Rattle.std.specs.Map.{update}
 use Rattle.std.specs.Str.{bytes_eq}
-use Rattle.std.proofs.Common.{Bor, map, ◌≡◌, ℕ, ◌<◌, ◌≤◌, ◌+◌, ◌^◌, suc, max, min, Some, None, List, [], ◌∷◌, ◌++◌, if◌then◌else◌, false, true, refl, sym, ◌∙◌, ap, subst, inl, inr, arith, reverse}
+use Rattle.std.proofs.Common.{Bor, map, ◌≡◌, ℕ, ◌<◌, ◌≤◌, ◌+◌, ◌^◌, suc, max, min, Some, None, List, [], ◌∷◌, ◌++◌, if◌then◌else◌, false, refl, sym, ◌∙◌, ap, subst, inl, inr, arith, reverse}
 use Rattle.std.proofs.lemmas.Bool.{cases_Bool}
 use Rattle.std.proofs.lemmas.List.{reverse-append, map-append}
 use Rattle.raft_log_record_base.specs.declared.errors.Error.{Error}
@@ -16,20 +16,16 @@ use Rattle.raft_log_fs.specs.Image.{IsSound}
 use Rattle.raft_log_file_writer.specs.LogFormat.{Format}
 use Rattle.raft_log_file_writer.specs.LogQueue.{LogFiles, HoldsLast}
 use Rattle.raft_log_fs.specs.Touching.{TouchesOnly}
-use Rattle.raft_log_fs.proofs.KeptLaws.{IsCalm, kept_rename}
-use Rattle.raft_log_fs.proofs.Updates.{name_apart}
+use Rattle.raft_log_fs.proofs.Public.{kept_rename, name_apart, IsCalm}
 use Rattle.raft_log_file_writer.specs.declared.writer.LogFileWriter.{LogFileWriter}
 use Rattle.raft_log_active_file.specs.Queue.{settled}
 use Rattle.raft_log_active_file.specs.Standing.{Names}
 use Rattle.raft_log_active_file.specs.Bridge.{GapsStay}
-use Rattle.raft_log_active_file.proofs.FileSteps.{active_holds, past_settled}
-use Rattle.raft_log_active_file.proofs.Standing.{stands_weaker, same_files}
-use Rattle.raft_log_active_file.proofs.SettingAside.{stands_set_aside, gaps_set_aside}
+use Rattle.raft_log_active_file.proofs.Public.{active_holds, gaps_set_aside, left_calm, past_settled, same_files, stands_set_aside, stands_weaker}
 use Rattle.raft_log_active_file.specs.Layout.{FilePaths, IsLayout, path_of}
 use Rattle.raft_log_active_file.specs.LastFile.{IsPastTo}
 use Rattle.raft_log_active_file.specs.Exits.{IsFinished, Finishes, FailsToFinish}
 use Rattle.raft_log_active_file.specs.Rotation.{StandsWithRecords}
-use Rattle.raft_log_active_file.proofs.Rotating.{left_calm}
 use Rattle.raft_log_file_pipe.specs.declared.pipe_files.PipeFiles.{PipeFiles}
 use Rattle.raft_log_file_pipe.specs.Files.{Listed, IsSpan, AllKept, IsPipe}
 use Rattle.raft_log_file_pipe.specs.Closing.{IsSettledBy, LeavesClosed, Reserves, ReservesAll, NumbersStay, StaysLeft, AreBelow, greatest_reserved}
@@ -180,14 +176,6 @@ pub reserves_step : (paths : FilePaths) (all : List Listed) (first : ℕ) (start
     → Reserves paths f last next now mid → ReservesOn paths all first start (reverse front) next mid
 reserves_step paths all first start files front f last next now mid on split listed reserves e rest =
     on e (subst (λ (fs : List Listed). ReservesAll paths fs last now e) (sym (newest_first files front f split)) (inr (listed, (next, mid, reserves, rest))))
-
-pub reserves_stop : (paths : FilePaths) (all : List Listed) (first : ℕ) (start : Disk) (files front : List Listed) (f : Listed) (last : ℕ) (now : Disk) → ReservesOn paths all first start (reverse files) last now → files ≡ front ++ f ∷ [] → f.reserved ≡ true
-    → ReservesAll paths all first start now
-reserves_stop paths all first start files front f last now on split hidden =
-    on now (subst (λ (fs : List Listed). ReservesAll paths fs last now now) (sym (newest_first files front f split)) (inl (hidden, refl)))
-
-pub reserves_end : (paths : FilePaths) (all : List Listed) (first : ℕ) (start : Disk) (files : List Listed) (last : ℕ) (now : Disk) → ReservesOn paths all first start (reverse files) last now → files ≡ [] → ReservesAll paths all first start now
-reserves_end paths all first start files last now on none = on now (subst (λ (fs : List Listed). ReservesAll paths (reverse fs) last now now) (sym none) refl)
 
 pub held_step : {R : Type 0} (F : Format R) (own : List ℕ → Type 0) (all : List Listed) (start : Disk) (files front : List Listed) (f : Listed) (now mid : Disk) → IsHeldOn F own all start files now → files ≡ front ++ f ∷ [] → StaysLeft F own (f ∷ []) now mid
     → IsHeldOn F own all start front mid

@@ -11,8 +11,7 @@ use Rattle.raft_log_fs.specs.Image.{IsSound}
 use Rattle.raft_log_file_writer.specs.LogFormat.{Format}
 use Rattle.raft_log_fs.specs.Touching.{TouchesOnly}
 use Rattle.raft_log_fs.specs.declared.handle.Handle.{Handle}
-use Rattle.raft_log_fs.proofs.Updates.{name_here, name_apart}
-use Rattle.raft_log_fs.proofs.TouchingLaws.{same_file}
+use Rattle.raft_log_fs.proofs.Public.{name_apart, name_here, same_file}
 use Rattle.raft_log_file_format.specs.declared.header.LogFileFormat.{LogFileFormat}
 use Rattle.raft_log_file_format.specs.Header.{header_bytes}
 use Rattle.raft_log_active_file.specs.Queue.{with_room}

@@ -1,6 +1,6 @@
 -- A rotation of a pipe: the queue's next file is its last one, and all other files are where they were.
 use Rattle.std.specs.Prelude.{Result, Ok, Err}
-use Rattle.std.specs.Result.{IfErr, OnOk}
+use Rattle.std.specs.Result.{IfErr}
 use Rattle.std.specs.declared.io.ErrorKind.{ErrorKind}
 use Rattle.std.specs.Map.{update}
 use Rattle.std.specs.Str.{bytes_eq}
@@ -16,7 +16,7 @@ use Rattle.raft_log_file_writer.specs.LogQueue.{LogFiles, rotated}
 use Rattle.raft_log_fs.specs.Reading.{IsOpened}
 use Rattle.raft_log_fs.specs.declared.handle.Handle.{Handle}
 use Rattle.raft_log_fs.specs.declared.handle.Permission.TheVariants.{ReadWrite}
-use Rattle.raft_log_fs.proofs.Updates.{name_here, name_apart}
+use Rattle.raft_log_fs.proofs.Public.{name_apart, name_here}
 use Rattle.raft_log_record_base.specs.declared.errors.Error.{Error}
 use Rattle.raft_log_record_base.specs.declared.errors.Error.TheVariants as errors
 use Rattle.raft_log_file_format.specs.declared.header.LogFileFormat.{LogFileFormat}
@@ -27,7 +27,7 @@ use Rattle.raft_log_active_file.specs.Standing.{Names}
 use Rattle.raft_log_active_file.specs.Layout.{FilePaths, IsLayout, IsUnaligned, path_of, plain_place}
 use Rattle.raft_log_active_file.specs.Exits.{IsOpen}
 use Rattle.raft_log_active_file.specs.Rotation.{CanRotate, IsSpare, RotatesBy, RotatesToNew, FailsToRotateToNew, RotatesOver, FailsToRotateOver, RotationMakes, FilesStay}
-use Rattle.raft_log_active_file.proofs.Rotating.{open_left}
+use Rattle.raft_log_active_file.proofs.Public.{open_left}
 use Rattle.raft_log_file_pipe.specs.declared.pipe_files.PipeFiles.{PipeFiles}
 use Rattle.raft_log_file_pipe.specs.Files.{Listed, IsSpan, NoneHas, AllKept, IsPipe}
 use Rattle.raft_log_file_pipe.specs.Calls.{TurnsBy, TurnsNot}
@@ -396,19 +396,6 @@ same_then a b c first next = record {
 }
 
 module _ {R : Type 0} (F : Format R) (own : List ℕ → Type 0) (paths : FilePaths) where
-  -- what a rotation makes of files that are listed alike
-  pub rotates_same : (header : List ℕ) (before like after : PipeFiles) (old new : Disk) → SameFiles before like → Rotates F own paths header like after old new → Rotates F own paths header before after old new
-  rotates_same header before like after old new same rotates base q is =
-      let (room, stale, holds, stands, gaps, calls) = rotates base q (pipe_same F own paths base before like q old same is) in (
-        room,
-        stale,
-        subst (λ (fs : List Listed). IsStaleOfNext fs old stale) same.recycled holds,
-        stands,
-        gaps,
-        subst (λ (w : LogFileWriter). TurnsBy paths header before.recycled.items w after.active after.writer old new) same.writer
-            (subst (λ (fs : List Listed). TurnsBy paths header fs like.writer after.active after.writer old new) same.recycled calls),
-      )
-
   pub leaves_same : (header : List ℕ) (before like after : PipeFiles) (error : Error) (old new : Disk) → SameFiles before like → RotationLeaves F own paths header like after error old new → RotationLeaves F own paths header before after error old new
   leaves_same header before like after errors.Memory old new same (then, is) = (same_then before like after same then, is)
   leaves_same header before like after errors.NumberRange old new same (out, then, is) = (
@@ -430,15 +417,6 @@ module _ {R : Type 0} (F : Format R) (own : List ℕ → Type 0) (paths : FilePa
             (subst (λ (fs : List Listed). TurnsNot paths header fs like.writer (suc like.active.seq) old new) same.recycled calls)),
       ))
   leaves_same header before like after _ old new same left = absurd left
-
-  -- of an answer
-  pub rotates_either : (result : Result (Unit {0}) Error) (header : List ℕ) (before like after : PipeFiles) (old new : Disk) → SameFiles before like → OnOk result (Rotates F own paths header like after old new) → OnOk result (Rotates F own paths header before after old new)
-  rotates_either (Ok v) header before like after old new same is = rotates_same header before like after old new same is
-  rotates_either (Err e) header before like after old new same is = tt
-
-  pub turned_either : (result : Result (Unit {0}) Error) (format : LogFileFormat) (before like after : PipeFiles) → SameFiles before like → OnOk result (IsTurned format like after) → OnOk result (IsTurned format before after)
-  turned_either (Ok v) format before like after same is = turned_same format before like after same is
-  turned_either (Err e) format before like after same is = tt
 
   pub leaves_either : (result : Result (Unit {0}) Error) (header : List ℕ) (before like after : PipeFiles) (old new : Disk) → SameFiles before like → IfErr result (λ e. RotationLeaves F own paths header like after e old new)
       → IfErr result (λ e. RotationLeaves F own paths header before after e old new)

@@ -7,7 +7,7 @@ use Rattle.raft_log_fs.specs.Calls.{after_change}
 use Rattle.raft_log_fs.specs.Exits.{Writes}
 use Rattle.raft_log_fs.specs.Touching.{HasFile}
 use Rattle.raft_log_fs.specs.declared.handle.Handle.{Handle}
-use Rattle.raft_log_fs.proofs.Updates.{file_here}
+use Rattle.raft_log_fs.proofs.Public.{file_here}
 use Rattle.raft_log_record_base.specs.declared.pipe_log.LogQueue.{LogQueue}
 use Rattle.raft_log_record_base.specs.declared.pipe_log.LogFileContext.{LogFileContext}
 use Rattle.raft_log_record_base.specs.declared.pipe_log.FileBlockHandle.{FileBlockHandle}

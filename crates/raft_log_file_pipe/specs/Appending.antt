@@ -1,7 +1,7 @@
--- Appending a record to a pipe: which calls are made, and what they leave. `before` and `after` are the pipe's files,
--- `old` and `new` the disk or the file system. `begin` are the settings for new files. `signed` gives the record's
--- bytes for the file that they are signed for. `paths` gives the path of each file of the queue. `own` says which paths
--- are the queue's.
+-- Appending a record to a pipe: which calls are made, and what they leave. `before` and `after` are the pipe's files
+-- before and after the append. `old` and `new` are the disk, or the file system. `begin` are the settings for new
+-- files. `signed` gives the record's bytes, signed for a given file. `paths` gives the path of each file of the queue.
+-- `own` says which paths are the queue's.
 use Rattle.std.specs.Prelude.{◌≡◌, ◌⊎◌, ℕ, ◌+◌, ◌<◌, ◌≤◌, List, length}
 use Rattle.std.specs.declared.io.ErrorKind.TheVariants.{StorageFull}
 use Rattle.raft_log_fs.specs.Disk.{Disk}
@@ -68,8 +68,9 @@ pub data TurnsElsewhere {R : Type 0} (F : Format R) (own : List ℕ → Type 0) 
   nowhere : RotationLeaves F own paths (header_bytes begin.format) before after error old new
       → TurnsElsewhere F own paths begin before after error old new
 
--- The pipe rotated, and the next file's directory was chosen by the free space that `old` reports. `old` and `new` are
--- states of the file system: `disk` gives the disk of a state, and `tells` its free space, which isn't on the disk.
+-- The pipe rotated, and `IsPlaced` says in which directory the next file is. `old` and `new` are states of the file
+-- system. `disk` gives the disk of a state. `tells` gives the free space that a state reports, which is no part of the
+-- disk.
 pub record GoesInto {R F : Type 0} (disk : F → Disk) (tells : F → List ℕ → ℕ → Type 0)
     (format : Format R) (own : List ℕ → Type 0) (paths : FilePaths) (begin : NewFiles)
     (before after : PipeFiles) (old new : F) : Type 0 where
@@ -78,9 +79,8 @@ pub record GoesInto {R F : Type 0} (disk : F → Disk) (tells : F → List ℕ �
   pub placed : IsPlaced (tells old) (disk old) begin.target_size paths.directories
       before.recycled.items after.active.path_id
 
--- A record's write failed for lack of space, and what was written of it was truncated away. The pipe may have rotated
--- before the write. After the write, it rotated. The free space that the file system reported then determined the next
--- file's directory.
+-- A record's write failed for lack of space, and what was written of the record was truncated away. The pipe may have
+-- rotated before the write. After the truncation it rotated as `GoesInto` says.
 pub record GoesElsewhere {R F : Type 0} (disk : F → Disk) (tells : F → List ℕ → ℕ → Type 0)
     (format : Format R) (own : List ℕ → Type 0) (paths : FilePaths) (begin : NewFiles) (queue : LogQueue)
     (signed : LogFileContext → List ℕ) (before after : PipeFiles) (old new : F) : Type 0 where
@@ -94,8 +94,8 @@ pub record GoesElsewhere {R F : Type 0} (disk : F → Disk) (tells : F → List 
   pub lists : SameLists middle cut
   pub goes : GoesInto disk tells format own paths begin cut after short new
 
--- A record's write failed for lack of space, and what was written of it was truncated away. The pipe may have rotated
--- before the write. It didn't rotate after the write, as no directory has free space (`IsFull`).
+-- A record's write failed for lack of space, and what was written of the record was truncated away. The pipe may have
+-- rotated before the write. It didn't rotate after the write, as no directory reports free space (`IsFull`).
 pub record StaysFull {R F : Type 0} (disk : F → Disk) (tells : F → List ℕ → ℕ → Type 0)
     (format : Format R) (own : List ℕ → Type 0) (paths : FilePaths) (begin : NewFiles) (queue : LogQueue)
     (signed : LogFileContext → List ℕ) (before after : PipeFiles) (old new : F) : Type 0 where
@@ -113,8 +113,8 @@ GoesOnBy count before after =
     (before.active.seq ≤ after.active.seq) × (after.active.seq ≤ before.active.seq + count)
 
 -- How an append ends after its write failed, by the fault.
--- - `CutBack`: the error is `Io` with the write's error kind, and nothing more was done. Or space was lacking, and then
---   the pipe tried to rotate (`TurnsElsewhere`).
+-- - `CutBack`: either the error is `Io` with the write's error kind, and nothing more was done; or the kind is
+--   `StorageFull`, and the pipe tried to rotate (`TurnsElsewhere`).
 -- - `Failed`: the error is `Failed`, and nothing more was done.
 abbrev pub Tells : {R : Type 0} → Format R → (List ℕ → Type 0) → FilePaths → NewFiles → WriteFault → PipeFiles
     → PipeFiles → Error → Disk → Disk → Type 0

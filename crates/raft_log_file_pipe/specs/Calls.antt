@@ -1,4 +1,4 @@
--- Which file system calls a call of a pipe makes, in order. It makes no others.
+-- Which file system calls a call of a pipe makes, in order. The call makes no other calls that change the disk.
 use Rattle.std.specs.Prelude.{◌≡◌, ◌⊎◌, ℕ, true, None, List, [], ◌∷◌, length}
 use Rattle.std.specs.declared.io.ErrorKind.{ErrorKind}
 use Rattle.raft_log_fs.specs.Disk.{Disk}
@@ -30,8 +30,8 @@ IsUnopened path d = (d.stopped ≡ true) ⊎ (d.names path ≡ None)
 abbrev pub next_path : FilePaths → Listed → ℕ → List ℕ
 next_path paths file = paths.numbered (plain_place (length paths.directories) file.path_id)
 
--- The calls of a failed rotation: those up to the one that failed. If the oldest file kept for recycling can't be
--- opened, nothing was changed.
+-- The calls of a failed rotation, up to the one that failed. If the oldest file kept for recycling can't be opened,
+-- nothing was changed.
 abbrev pub TurnsNot : FilePaths → List ℕ → List Listed → LogFileWriter → ℕ → Disk → Disk → Type 0
 TurnsNot paths header [] writer number old new = (directory : ℕ) × (error : ErrorKind)
     × RotationMakes writer header (FailsToCreate (paths.numbered directory number))

@@ -1,7 +1,6 @@
 -- What each call of a pipe does, on any disk: which file system calls it makes, in order, and the pipe's files after
--- it. This doesn't require that the files are those of a queue. `before` and `after` are the pipe's files, `old` and
--- `new` the disk. `begin` are the settings for new files. `signed` gives a record's bytes for the file that they are
--- signed for.
+-- the call. This doesn't require that the files are those of a queue. `before` and `after` are the pipe's files, `old`
+-- and `new` the disk. `begin` are the settings for new files. `signed` gives a record's bytes, signed for a given file.
 use Rattle.std.specs.Prelude.{◌≡◌, ◌⊎◌, ℕ, ◌<◌, ◌≤◌, ◌^◌, false, List, [], ◌∷◌, ◌++◌, length, suc}
 use Rattle.std.specs.declared.io.ErrorKind.{ErrorKind}
 use Rattle.std.specs.declared.io.ErrorKind.TheVariants.{StorageFull}
@@ -34,7 +33,7 @@ use Rattle.raft_log_file_pipe.specs.declared.pipe_files.PipeFiles.{PipeFiles}
 
 -- A rotation.
 
--- the pipe rotated by these calls into the next file, which is at a path of its number
+-- The pipe rotated into the next file, by the calls that `TurnsBy` lists. The next file's name isn't a reserved one.
 pub record TurnsPipeBy (paths : FilePaths) (format : LogFileFormat) (before after : PipeFiles)
     (old new : Disk) : Type 0 where
   pub turned : IsTurned format before after
@@ -71,8 +70,8 @@ pub data TurnsFirstBy (paths : FilePaths) (begin : NewFiles) (before after : Pip
   turns : begin.target_size ≤ before.writer.written → TurnsPipeBy paths begin.format before after old new
       → TurnsFirstBy paths begin before after old new
 
--- A record was written to the active file at the writer's offset, after the pipe had rotated if it had to. It is signed
--- for this file. `block` has the file's number, the offset, and the length of the record.
+-- A record was written to the active file at the writer's offset, after the pipe had rotated if it had to. The record
+-- is signed for this file. `block` has the file's number, the offset, and the length of the record.
 pub record AppendsBy (paths : FilePaths) (begin : NewFiles) (queue : LogQueue)
     (signed : LogFileContext → List ℕ) (before after : PipeFiles) (block : FileBlockHandle) (old new : Disk)
     : Type 0 where
@@ -94,8 +93,8 @@ TurnsElsewhereBy paths format before after error old new =
     ⊎ FailsToTurnBy paths format before after error old new
 
 -- How an append ends after its write failed, by the fault.
--- - `CutBack`: the error is `Io` with the write's error kind, and nothing more was done. Or space was lacking, and then
---   the pipe tried to rotate (`TurnsElsewhereBy`).
+-- - `CutBack`: either the error is `Io` with the write's error kind, and nothing more was done; or the kind is
+--   `StorageFull`, and the pipe tried to rotate (`TurnsElsewhereBy`).
 -- - `Failed`: the error is `Failed`, and nothing more was done.
 abbrev pub TellsBy : FilePaths → LogFileFormat → WriteFault → PipeFiles → PipeFiles → Error → Disk → Disk
     → Type 0

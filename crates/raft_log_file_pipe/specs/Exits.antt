@@ -1,6 +1,7 @@
 -- What each call of a pipe leaves, whether it succeeds or fails. `before` and `after` are the pipe's files, `old` and
--- `new` the disk. "The pipe ran over a queue" means `IsPipe`, for any queue `q` of records in the format `F`. `own`
--- says which paths are the queue's. Since the disk `base`, only these have changed.
+-- `new` the disk. "The pipe ran over a queue" means that `IsPipe` was true on `old`, for any queue `q` of records in
+-- the format `F`. `own` says which paths are the queue's. Since the disk `base`, only these paths and their files have
+-- changed.
 use Rattle.std.specs.Prelude.{◌≡◌, ℕ, false, ◌≤◌, ◌^◌, List, [], ◌∷◌, ◌++◌, length, drop, suc}
 use Rattle.std.specs.declared.io.ErrorKind.{ErrorKind}
 use Rattle.raft_log_fs.specs.Disk.{Disk}
@@ -47,7 +48,8 @@ pub record IsTurned (format : LogFileFormat) (before after : PipeFiles) : Type 0
   pub recycled : after.recycled.items ≡ drop 1 before.recycled.items
 
 -- If the pipe ran over a queue, the queue has rotated into its next file, and the pipe runs over the rotated queue. No
--- gap in the file numbers was filled. The file system calls are those of `TurnsBy`.
+-- gap in the file numbers was filled: a number that had no file still has none (`GapsStay`). The file system calls are
+-- those of `TurnsBy`.
 abbrev pub Rotates : {R : Type 0} → Format R → (List ℕ → Type 0) → FilePaths → List ℕ → PipeFiles → PipeFiles
     → Disk → Disk → Type 0
 Rotates {R} F own paths header before after old new = (base : Disk) (q : LogFiles R)
@@ -56,8 +58,9 @@ Rotates {R} F own paths header before after old new = (base : Disk) (q : LogFile
     × IsPipe F own paths base after (with_room room (rotated header stale q)) new × GapsStay F q old new
     × TurnsBy paths header before.recycled.items before.writer after.active after.writer old new
 
--- A rotation failed. If the pipe ran over a queue, a file call failed. The last file holds its records, and there may
--- be a next file without records. The files of the live range, with the active file, are at their paths.
+-- A rotation failed. Suppose the pipe ran over a queue. Then a file call failed. The queue has the same files as
+-- before, or also a next file without records (`StaysBehind`). The files of the live range, including the active one,
+-- are at their paths.
 abbrev pub FailsToRotate : {R : Type 0} → Format R → (List ℕ → Type 0) → FilePaths → List ℕ → PipeFiles
     → Disk → Disk → Type 0
 FailsToRotate {R} F own paths header before old new = (base : Disk) (q : LogFiles R)
@@ -88,8 +91,9 @@ RotationLeaves F own paths header before after errors.Failed old new =
     FailsToRotate F own paths header before old new
 RotationLeaves F own paths header before after _ old new = ⊥
 
--- If the pipe ran over a queue, a record with these bytes was appended at the offset `at` of the active file. The pipe
--- runs over the queue with this record, and zeros may be allocated after it.
+-- Suppose the pipe ran over a queue, and `bytes` encode a record in the queue's last file. Then this record was
+-- appended at the offset `at` of that file, and is the last pending one. The pipe runs over the queue with this record.
+-- Zeros may be allocated after the record.
 abbrev pub Adds : {R : Type 0} → Format R → (List ℕ → Type 0) → FilePaths → List ℕ → ℕ → PipeFiles → PipeFiles
     → Disk → Disk → Type 0
 Adds {R} F own paths bytes at before after old new = (base : Disk) (q : LogFiles R) (w : Written R)
@@ -98,9 +102,10 @@ Adds {R} F own paths bytes at before after old new = (base : Disk) (q : LogFiles
     × ((room : ℕ) × IsPipe F own paths base after (with_more (w ∷ []) (with_room room q)) new)
 
 -- What a failed write of the record `w` leaves.
--- - `CutBack`: what was written of it was truncated away. All records before it are durable, and the pipe still runs.
--- - `Failed`: the truncation or its sync failed too. The record may be on disk, and counts as the last pending one. The
---   files of the live range are at their paths.
+-- - `CutBack`: what was written of `w` was truncated away. All records before `w` are durable, and the pipe still runs
+--   over the queue.
+-- - `Failed`: the truncation, or the sync after it, failed too. `w` may be on disk, and counts as the last pending one.
+--   The files of the live range are at their paths.
 abbrev pub AddLeaves : {R : Type 0} → Format R → (List ℕ → Type 0) → FilePaths → WriteFault → Disk → Written R
     → LogFiles R → PipeFiles → Disk → Type 0
 AddLeaves F own paths (CutBack kind) base w q after new = IsPipe F own paths base after (settled q) new
@@ -108,8 +113,8 @@ AddLeaves F own paths (Failed kind) base w q after new = (room : ℕ)
     × StandsWithRecords F own base (with_more (w ∷ []) (with_room room q)) new
     × IsSpan paths new.names after.first_seq after.earlier.items q.last
 
--- A record with these bytes wasn't appended. If the pipe ran over a queue, a file call failed, and `AddLeaves` says
--- what is left.
+-- The record that `bytes` encode wasn't appended. Suppose the pipe ran over a queue. Then a file call failed, and
+-- `AddLeaves` says what is left.
 abbrev pub FailsToAdd : {R : Type 0} → Format R → (List ℕ → Type 0) → FilePaths → List ℕ → WriteFault →
     PipeFiles
     → PipeFiles → Disk → Disk → Type 0
@@ -117,7 +122,7 @@ FailsToAdd {R} F own paths bytes fault before after old new = (base : Disk) (q :
     → F.IsFrame q.last q.header w.bytes w.value → w.bytes ≡ bytes → IsPipe F own paths base before q old
     → Fails old new × AddLeaves F own paths fault base w q after new
 
--- the pipe has the same files in the same lists; its writer may be another one
+-- the pipe has the same files in the same lists; its writer may have changed
 pub record SameLists (before after : PipeFiles) : Type 0 where
   pub first : after.first_seq ≡ before.first_seq
   pub earlier : after.earlier.items ≡ before.earlier.items

@@ -17,8 +17,8 @@ use Rattle.raft_log_file_pipe.specs.declared.pipe_files.PipeFiles.{PipeFiles}
 abbrev pub Listed : Type 0
 Listed = listed.File
 
--- The list has one file for each number from `first` on, below `last`, in this order. By the names `N` of a disk, each
--- is at its path, under the node number of its handle.
+-- The list has one file for each number from `first` up to `last - 1`, in this order, and none has a reserved name.
+-- `N`, the names of a disk, maps each file's path to the node number in the file's handle.
 abbrev pub IsSpan : FilePaths → Names → ℕ → List Listed → ℕ → Type 0
 IsSpan paths N first [] last = first ≡ last
 IsSpan paths N first (f ∷ fs) last = (f.seq ≡ first) × (f.reserved ≡ false)
@@ -50,8 +50,9 @@ AllKept F paths first d (f ∷ fs) = IsKeptForUse F paths first d f
     × NoneHas paths (path_of paths f) fs × AllKept F paths first d fs
 
 -- The pipe with these lists runs over the queue `q` on the disk `d`. The active file is the queue's last one, and the
--- queue is open to the pipe's writer. The earlier files are those from the live range's first number on. Each file kept
--- for recycling can be recycled. Since `base`, only the queue's own paths (`own`) and their files have changed.
+-- queue is open to the pipe's writer. The earlier files are those from the live range's first number up to the active
+-- file. Each file kept for recycling can be recycled. Since the disk `base`, only the queue's own paths (`own`) and
+-- their files have changed.
 pub record IsPipe {R : Type 0} (F : Format R) (own : List ℕ → Type 0) (paths : FilePaths) (base : Disk)
     (files : PipeFiles) (q : LogFiles R) (d : Disk) : Type 0 where
   pub active : IsOpen F own base files.writer q (path_of paths files.active) d.names d

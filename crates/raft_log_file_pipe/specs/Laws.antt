@@ -42,9 +42,9 @@ pub record AreFoundOnDisk {R : Type 0} (F : Format R) (paths : FilePaths) (earli
   pub span : IsSpan paths d.names (first_number earlier last) earlier number
   pub spares : AllKept F paths (first_number earlier last) d kept
 
--- Let the last file of a queue `q` hold its records on a sound disk, and let a stop without a CRC collision leave
--- `image`. Given `CanTellFormat`, a pipe may be opened over the files of the queue that are found there. The queue then
--- has its durable records and the first `count` pending ones.
+-- Suppose the last file of a queue `q` holds its records on a sound disk, and a stop without a CRC collision leaves
+-- `image`. Given `CanTellFormat`, a pipe may be opened over the files of the queue that are found on `image`
+-- (`IsFound`). The queue on `image` has the durable records and, for some `count`, the first `count` pending ones.
 abbrev pub PipesAreFound : {R : Type 0} → Format R → (List ℕ → Type 0) → FilePaths → Type 0
 PipesAreFound {R} F own paths = CanTellFormat F → (base : Disk) (q : LogFiles R) (d image : Disk) → IsSound d
     → StandsWithRecords F own base q d → IsImage d image → NoChanceInLast F q d image

@@ -1,5 +1,6 @@
 -- Opening a pipe over the files that were found of its queue. If none were found, the queue begins. The files found are
--- `earlier` and `last`. `last` was read up to `end`, or has no header (`None`). `kept` are the files for recycling.
+-- `earlier` and `last`. `last` was read up to `end`; if `end` is `None`, it has no header. `kept` are the files kept
+-- for recycling.
 use Rattle.std.specs.Prelude.{◌≡◌, ℕ, false, Option, Some, None, List, [], ◌∷◌, ◌++◌}
 use Rattle.raft_log_fs.specs.Disk.{Disk}
 use Rattle.raft_log_fs.specs.Causes.{Fails}
@@ -22,7 +23,7 @@ use Rattle.raft_log_file_pipe.specs.declared.found_files.FoundFiles.{FoundFiles}
 use Rattle.raft_log_file_pipe.specs.declared.new_files.NewFiles.{NewFiles}
 use Rattle.raft_log_file_pipe.specs.declared.pipe_files.PipeFiles.{PipeFiles}
 
--- the last file as the pipe lists it after it was read up to `end`: without a header (`None`), it gets one of version 1
+-- the last file as the pipe lists it: if it has no header (`None`), it gets one, and is listed with version 1
 abbrev pub taken_up : Option ℕ → Listed → Listed
 taken_up (Some end) last = last
 taken_up None last = record last { format = first_format }
@@ -37,8 +38,8 @@ abbrev pub HasOwnHeader : {R : Type 0} → Format R → Option ℕ → Listed �
 HasOwnHeader F (Some end) last d = HandleBeginsWith F last.handle (header_bytes last.format) d
 HasOwnHeader F None last d = Unit {0}
 
--- These files were found, and a stop left the queue `q` in them. The last one was read up to `end`. The earlier ones
--- are at their paths, and those in `kept` can be recycled.
+-- These files were found, and a stop left the queue `q` in them. The last file was read up to `end`. The earlier files
+-- are at their paths, and the files in `kept` can be recycled.
 pub record IsFound {R : Type 0} (F : Format R) (own : List ℕ → Type 0) (paths : FilePaths) (base : Disk)
     (earlier : List Listed) (last : Listed) (end : Option ℕ) (kept : List Listed) (q : LogFiles R) (d : Disk)
     : Type 0 where
@@ -69,8 +70,8 @@ TakesUpFound {R} F own paths earlier last end kept files old new = (base : Disk)
     × GapsStay F q old new
     × ReopensBy last.handle end (header_bytes (taken_up end last).format) files.writer old new
 
--- The pipe wasn't opened. If these files of a queue were found, a file call failed. The queue still has all records
--- that were read of it, and the files that were found are still at their paths. No gap in the file numbers was filled.
+-- The pipe wasn't opened. Suppose these files of a queue were found. Then a file call failed. The queue still has all
+-- records that were read of it, and the earlier files are still at their paths. No gap in the file numbers was filled.
 abbrev pub FailsToTakeUpFound : {R : Type 0} → Format R → (List ℕ → Type 0) → FilePaths → List Listed → Listed
     → Option ℕ → List Listed → Disk → Disk → Type 0
 FailsToTakeUpFound {R} F own paths earlier last end kept old new = (base : Disk) (q : LogFiles R)
@@ -95,8 +96,8 @@ BeginsPipe {R} F own paths format kept files old new = (base : Disk) (older : �
     × BeginsQueueBy (path_of paths files.active) (header_bytes format) files.active.handle files.writer
     old new
 
--- Beginning the queue failed. If the queue could begin before, a file call failed. It can still begin, or its file 1
--- exists without a record. There is no file 0.
+-- Beginning the queue failed. Suppose the queue could begin before. Then a file call failed. The queue can still begin,
+-- or its file 1 exists without a record. There is no file 0.
 abbrev pub FailsToBeginPipe : {R : Type 0} → Format R → (List ℕ → Type 0) → FilePaths → LogFileFormat
     → List Listed → Disk → Disk → Type 0
 FailsToBeginPipe {R} F own paths format kept old new = (base : Disk) (older : ℕ → Past R)
@@ -125,8 +126,9 @@ pub data OpensPipe {R : Type 0} (F : Format R) (own : List ℕ → Type 0) (path
       → IsListedAs earlier (taken_up found.end last) found.recycled.items files
       → OpensPipe F own paths begin found files old new
 
--- Why a queue didn't begin, and what that leaves. Memory ran out, and nothing was done; or a file call failed, and the
--- error is `Io` with the kind that the call returned.
+-- Why a queue didn't begin, and what that leaves:
+-- - `Memory`: memory ran out, and nothing was done
+-- - `Io`: a file call failed, and returned this error kind
 abbrev pub BeginLeaves : {R : Type 0} → Format R → (List ℕ → Type 0) → FilePaths → LogFileFormat → List Listed
     → Error → Disk → Disk → Type 0
 BeginLeaves F own paths format kept errors.Memory old new = new ≡ old

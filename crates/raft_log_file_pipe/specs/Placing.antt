@@ -11,8 +11,8 @@ use Rattle.raft_log_file_pipe.specs.Files.{Listed}
 abbrev pub HasSpace : (List ℕ → ℕ → Type 0) → ℕ → List ℕ → Type 0
 HasSpace tells size directory = (space : ℕ) × tells directory space × (size ≤ space)
 
--- The free space that is reported for the directory is less than `size` bytes. Or the call for it fails: the file
--- system has stopped, or the path isn't that of a directory.
+-- Either a free space of less than `size` bytes is reported for the directory, or the call for the free space fails. It
+-- fails because the file system has stopped, or the path isn't that of a directory.
 abbrev pub LacksRoom : (List ℕ → ℕ → Type 0) → Disk → ℕ → List ℕ → Type 0
 LacksRoom tells d size directory = ((space : ℕ) × tells directory space × (space < size))
     ⊎ ((d.stopped ≡ true) ⊎ ((error : ErrorKind) × WrongListing directory d error))
@@ -43,7 +43,8 @@ pub data IsChosen (tells : List ℕ → ℕ → Type 0) (d : Disk) (size : ℕ) 
   none : AllLackRoom tells d size directories → place ≡ 0 → IsChosen tells d size directories place
 
 -- `place` is the position of the next file's directory. A recycled file stays in its directory, and its new name has no
--- plus sign before the number. If no file is kept for recycling, a new one is created in the directory of `IsChosen`.
+-- plus sign before the number. If no file is kept for recycling, a new one is created in the directory that `IsChosen`
+-- determines.
 abbrev pub IsPlaced : (List ℕ → ℕ → Type 0) → Disk → ℕ → List (List ℕ) → List Listed → ℕ → Type 0
 IsPlaced tells d size directories [] place = IsChosen tells d size directories place
 IsPlaced tells d size directories (f ∷ fs) place = place ≡ plain_place (length directories) f.path_id

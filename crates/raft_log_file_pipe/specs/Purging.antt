@@ -42,7 +42,7 @@ room_from capacity seq files = capacity - suc (files.active.seq - seq) - length 
 abbrev pub IsInSpan : ℕ → PipeFiles → Type 0
 IsInSpan seq files = (files.first_seq ≤ seq) × (seq - files.first_seq ≤ length files.earlier.items)
 
--- the names of a disk without these paths
+-- `N`, the names of a disk, without these paths
 abbrev pub without : List (List ℕ) → Names → Names
 without [] N = N
 without (path ∷ paths) N = without paths (update bytes_eq N path None)
@@ -56,7 +56,7 @@ AreGone paths N first kept (f ∷ fs) = (f.seq < first) × (f.reserved ≡ false
     × NoneHas paths (path_of paths f) fs × AreGone paths N first kept fs
 
 -- Suppose a pipe ran over a queue, and the files at these paths were free to be deleted (`AreGone`). Then the first
--- `count` of them were deleted, in order. The others are still there, and the pipe still runs over the queue.
+-- `count` of these files were deleted, in order. The others still exist, and the pipe still runs over the queue.
 abbrev pub DropsTo : {R : Type 0} → Format R → (List ℕ → Type 0) → FilePaths → List (List ℕ) → ℕ → Disk → Disk
     → Type 0
 DropsTo {R} F own paths gone count old new = (base : Disk) (files : PipeFiles) (q : LogFiles R)
@@ -71,7 +71,7 @@ abbrev pub LosesFirst : List (List ℕ) → Disk → Disk → Type 0
 LosesFirst gone old new = (count : ℕ) × (new.names ≡ without (take count gone) old.names)
 
 -- Deleting the file at one of these paths failed. Suppose a pipe ran over a queue, and the files at these paths were
--- free to be deleted (`AreGone`). Then a prefix of these paths name no file any more. The last file holds its records,
+-- free to be deleted (`AreGone`). Then a prefix of these paths names no file any more. The last file holds its records,
 -- and the files of the live range are at their paths.
 abbrev pub FailsToDropAll : {R : Type 0} → Format R → (List ℕ → Type 0) → FilePaths → List (List ℕ) → Disk
     → Disk → Type 0
@@ -106,8 +106,9 @@ Purges {R} F own paths capacity seq before after old new = (base : Disk) (q : Lo
     × (new.names ≡ without (paths_going paths capacity seq before) old.names)
     × DropsBy (paths_going paths capacity seq before) old new
 
--- If the pipe ran over a queue, deleting one of the files to delete failed. The files before that one were deleted, and
--- at a stop perhaps that one too. The last file holds its records. The files of the live range are at their paths.
+-- If the pipe ran over a queue, deleting one of the files to delete failed. The files before that one were deleted. If
+-- the file system stopped at that deletion, that file may be deleted too. The last file holds its records. The files of
+-- the live range are at their paths.
 abbrev pub FailsToPurge : {R : Type 0} → Format R → (List ℕ → Type 0) → FilePaths → ℕ → ℕ → PipeFiles
     → PipeFiles → Disk → Disk → Type 0
 FailsToPurge {R} F own paths capacity seq before after old new = (base : Disk) (q : LogFiles R)

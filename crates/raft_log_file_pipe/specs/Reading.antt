@@ -23,14 +23,14 @@ abbrev pub IsUnlisted : ℕ → PipeFiles → Type 0
 IsUnlisted seq files = (seq ≡ files.active.seq → ⊥)
     × (files.first_seq ≤ seq → seq - files.first_seq < length files.earlier.items → ⊥)
 
--- why no file with the number `seq` is returned: the live range has none, and the error is `Corruption`; or memory ran
--- out
+-- Why no file with the number `seq` is returned. Either the live range has none, and the error is `Corruption`. Or
+-- memory ran out.
 abbrev pub IsNotTold : ℕ → PipeFiles → Error → Type 0
 IsNotTold seq files errors.Memory = Unit {0}
 IsNotTold seq files (errors.Corruption text) = IsUnlisted seq files
 IsNotTold seq files _ = ⊥
 
--- `bytes` are the bytes at the location `block`, fewer than its length if the file ends first
+-- `bytes` are the bytes at the location `block`, fewer than the block's length if the file ends first
 abbrev pub IsReadAt : PipeFiles → FileBlockHandle → List ℕ → Disk → Type 0
 IsReadAt files block bytes d = (id : ℕ) × IsListed block.id.seq files id
     × HasFile id (AreBytesAt block.offset block.len bytes) d

@@ -1,4 +1,4 @@
--- On any disk, a pipe writes to the file that it lists as the active one, and the file then has what was written.
+-- On any disk, a pipe writes to the file that it lists as the active one, and this file then has what was written.
 use Rattle.std.specs.Prelude.{◌≡◌, List, ℕ}
 use Rattle.raft_log_fs.specs.Disk.{Disk}
 use Rattle.raft_log_fs.specs.Touching.{HasFile}
@@ -14,7 +14,7 @@ use Rattle.raft_log_file_pipe.specs.declared.found_files.FoundFiles.{FoundFiles}
 use Rattle.raft_log_file_pipe.specs.declared.new_files.NewFiles.{NewFiles}
 use Rattle.raft_log_file_pipe.specs.declared.pipe_files.PipeFiles.{PipeFiles}
 
--- the handle of the pipe's writer is that of the file that it lists as the active one
+-- the pipe's writer has the handle of the file that the pipe lists as the active one
 abbrev pub WritesItsLast : PipeFiles → Type 0
 WritesItsLast files = files.writer.handle ≡ files.active.handle
 
@@ -24,8 +24,9 @@ StandsAt queue signed files block d = (block.id ≡ record { queue = queue; seq 
     × HasFile files.active.handle.file
     (AreBytesAt block.offset block.len (signed (context_of queue files))) d
 
--- On any disk, a pipe's writer has the active file open after an open and after a rotation. A writer that has it open
--- before an append has it open after the append. The file then has the record at the location that was returned.
+-- On any disk, a pipe's writer has the active file open after an open and after a rotation. If the writer has the
+-- active file open before an append, it has it open after the append too. The active file then has the record at the
+-- location that was returned.
 pub record PipesWriteTheirLast (paths : FilePaths) : Type 0 where
   pub opened : (format : LogFileFormat) (found : FoundFiles) (files : PipeFiles) (old new : Disk)
       → OpensPipeBy paths format found files old new → WritesItsLast files

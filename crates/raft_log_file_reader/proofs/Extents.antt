@@ -12,12 +12,12 @@ use Rattle.raft_log_record_base.specs.declared.errors.Error.TheVariants as error
 use Rattle.raft_log_record_base.specs.declared.pipe_log.LogFileContext.{LogFileContext}
 use Rattle.raft_log_record_base.specs.declared.pipe_log.FileId.{FileId}
 use Rattle.raft_log_record_base.specs.declared.pipe_log.Version.{Version}
-use Rattle.raft_log_record_base.proofs.Grammar.{done, ok_is, bind_ok, chosen}
+use Rattle.raft_log_record_base.proofs.Public.{bind_ok, chosen, done, ok_is}
 use Rattle.raft_log_record_items.specs.declared.item.LogItem.{LogItem}
 use Rattle.raft_log_record_items.specs.Placed.{placed}
 use Rattle.raft_log_record_items.specs.declared.compression.CompressionType.{CompressionType}
 use Rattle.raft_log_record_frames.specs.Record.{Front, header_at, header_too_short, footer_of, frame_of, frame_at, past_input, placed_footer_of}
-use Rattle.raft_log_record_frames.proofs.Headers.{is_sound_header}
+use Rattle.raft_log_record_frames.proofs.Public.{is_sound_header}
 use Rattle.raft_log_fs.specs.Disk.{Disk}
 use Rattle.raft_log_file_reader.specs.Source.{CannotRead}
 use Rattle.raft_log_file_reader.specs.Batches.{extent_at, batch_at, block_at, context_of}

@@ -6,12 +6,11 @@ use Rattle.std.proofs.Math.Seq.{take-append_seam}
 use Rattle.raft_log_record_base.specs.Fault.{Fault}
 use Rattle.raft_log_record_base.specs.Files.{signature_of}
 use Rattle.raft_log_record_base.specs.declared.pipe_log.LogFileContext.{LogFileContext}
-use Rattle.raft_log_record_base.proofs.Grammar.{ok_is, bind_ok}
+use Rattle.raft_log_record_base.proofs.Public.{bind_ok, ok_is}
 use Rattle.raft_log_record_items.specs.declared.item.LogItem.{LogItem}
 use Rattle.raft_log_record_items.specs.Placed.{placed}
 use Rattle.raft_log_record_frames.specs.Record.{IsFrame, Front, block_of, frame_at}
-use Rattle.raft_log_record_frames.proofs.Frames.{frame_back, frames_take_bytes}
-use Rattle.raft_log_record_frames.proofs.Fronts.{frame_is_read, record_of_block}
+use Rattle.raft_log_record_frames.proofs.Public.{frame_back, frame_is_read, frames_take_bytes, record_of_block}
 use Rattle.raft_log_file_writer.specs.LawsChains.{Refuses, spelled}
 use Rattle.raft_log_file_reader.specs.Batches.{padding_len, GoesOnAt, batch_at, block_at, context_of, HasBatches}
 use Rattle.raft_log_file_reader.specs.Batches.GoesOnAt.{behind_padding, at_once}

@@ -3,7 +3,7 @@ use Rattle.std.proofs.Common.{◌≡◌, ◌↔◌, ℕ, ◌≤◌, List, length
 use Rattle.std.specs.Int.{w64, from_be_bytes}
 use Rattle.std.proofs.lemmas.Bool.{le-ltb}
 use Rattle.std.proofs.lemmas.List.{length-take, take-take, drop-take}
-use Rattle.raft_log_record_base.proofs.Grammar.{done, ok_is}
+use Rattle.raft_log_record_base.proofs.Public.{done, ok_is}
 use Rattle.raft_log_record_base.specs.Grammar.{◌>>=◌}
 use Rattle.raft_log_record_base.specs.Fault.{Fault, FailsOrMemory, ReadsOrMemory}
 use Rattle.raft_log_record_base.specs.declared.errors.Error.{Error}

@@ -1,6 +1,6 @@
 -- What a call of a reader of items makes of what still comes.
 use Rattle.std.specs.Vec.Iter.{into_iter_items}
-use Rattle.std.proofs.Common.{◌≡◌, ◌+◌, ◌<◌, ◌≤◌, List, [], ◌∷◌, ◌++◌, length, None, Ok, Err, refl, sym, ap, subst, ◌∙◌, arith}
+use Rattle.std.proofs.Common.{◌≡◌, ◌<◌, ◌≤◌, List, [], ◌∷◌, ◌++◌, length, None, Err, refl, sym, ap, subst, ◌∙◌, arith}
 use Rattle.raft_log_record_base.specs.declared.errors.Error.{Error}
 use Rattle.raft_log_record_items.specs.declared.item.LogItem.{LogItem}
 use Rattle.raft_log_fs.specs.Disk.{Disk}
@@ -19,9 +19,6 @@ pub record HasReadTo {F : Type 0} (disk : F → Disk) (old new : LogItemReader F
   pub goes_on : AnswersGoOn (StillGives disk) old [] new
   pub fewer : most_to_come disk new ≤ most_to_come disk old
 
-pub at_first : {F : Type 0} (disk : F → Disk) (reader : LogItemReader F) → IsFileAtWork disk reader → HasReadTo disk reader reader
-at_first disk reader work = record { work = work; goes_on = λ rest more. more; fewer = omega arith }
-
 pub empty_of : {A : Type 0} (xs : List A) → length xs ≡ 0 → xs ≡ []
 empty_of [] none = refl
 empty_of (x ∷ xs) none = absurd (omega (arith, none))
@@ -35,48 +32,6 @@ of_files : {F : Type 0} (disk : F → Disk) (reader : LogItemReader F) (answers 
     → GivesRest (disk_of disk reader) reader.batches answers
 of_files disk reader answers none gives =
     subst (GivesRest (disk_of disk reader) reader.batches) (sym (gives.all ∙ ap (λ (items : List LogItem). given items ++ gives.rest) none)) gives.of_rest
-
--- the next item of the batch that was read last
-pub gave_item : {F : Type 0} (disk : F → Disk) (old from : LogItemReader F) (new : LogItemReader F) (item : LogItem) → HasReadTo disk old from
-    → new.file_system ≡ from.file_system → new.batches ≡ from.batches → into_iter_items from.items ≡ item ∷ into_iter_items new.items
-    → AnswersGoOn (StillGives disk) old (Ok item ∷ []) new × (most_to_come disk new < most_to_come disk old) × IsFileAtWork disk new
-gave_item disk old from new item come lent same next =
-    let step : AnswersGoOn (StillGives disk) from (Ok item ∷ []) new = λ rest more. record {
-      rest = more.rest;
-      of_rest = rw (sym lent, sym same) more.of_rest;
-      all = ap (λ (l : List Answer). Ok item ∷ l) more.all ∙ ap (λ (items : List LogItem). given items ++ more.rest) (sym next);
-    } in (
-      goes_further (StillGives disk) old from new (Ok item ∷ []) come.goes_on step,
-      omega (arith, come.fewer, ap length next, left),
-      rw (lent, same) come.work,
-    )
-  where
-    left : most_left (disk_of disk new) new.batches ≡ most_left (disk_of disk from) from.batches
-    left = rw (lent, same) refl
-
--- a batch of the files was read behind the last item
-pub took_batch : {F : Type 0} (disk : F → Disk) (old from new : LogItemReader F) (items : List LogItem) → HasReadTo disk old from → into_iter_items from.items ≡ []
-    → disk_of disk new ≡ disk_of disk from → into_iter_items new.items ≡ items
-    → AnswersGoOn (GivesRest (disk_of disk from)) from.batches (given items) new.batches
-    → length items + most_left (disk_of disk from) new.batches < most_left (disk_of disk from) from.batches → IsFileAtWork disk new
-    → HasReadTo disk old new × (most_to_come disk new < most_to_come disk from)
-took_batch disk old from new items come none same are step fewer work =
-    let left : most_left (disk_of disk new) new.batches ≡ most_left (disk_of disk from) new.batches = ap (λ (d : Disk). most_left d new.batches) same in
-    let goes_on : AnswersGoOn (StillGives disk) from [] new = λ rest more.
-    emptied disk from rest none (subst (GivesRest (disk_of disk from) from.batches) (sym (more.all ∙ ap (λ (l : List LogItem). given l ++ more.rest) are))
-    (step more.rest (subst (λ (d : Disk). GivesRest d new.batches more.rest) same more.of_rest))) in (
-      record { work = work; goes_on = goes_further (StillGives disk) old from new [] come.goes_on goes_on; fewer = omega (arith, come.fewer, fewer, left, ap length are, ap length none) },
-      omega (arith, fewer, left, ap length are, ap length none),
-    )
-
--- the files hold no more
-pub ended : {F : Type 0} (disk : F → Disk) (old from new : LogItemReader F) → HasReadTo disk old from → into_iter_items from.items ≡ [] → into_iter_items new.items ≡ []
-    → disk_of disk new ≡ disk_of disk from → GivesRest (disk_of disk from) from.batches [] × GivesRest (disk_of disk from) new.batches []
-    → StillGives disk old [] × StillGives disk new []
-ended disk old from new come none still same nothing = (
-  come.goes_on [] (emptied disk from [] none nothing.0),
-  emptied disk new [] still (subst (λ (d : Disk). GivesRest d new.batches []) (sym same) nothing.1),
-)
 
 -- a file was refused
 pub refused : {F : Type 0} (disk : F → Disk) (error : Error) (old from new : LogItemReader F) → HasReadTo disk old from → into_iter_items from.items ≡ [] → into_iter_items new.items ≡ []

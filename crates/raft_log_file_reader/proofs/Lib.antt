@@ -1,3 +1,4 @@
+pub mod Public
 pub mod Steps
 pub mod OpenFiles
 pub mod Openings

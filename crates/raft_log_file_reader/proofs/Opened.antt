@@ -1,7 +1,7 @@
 -- Opening a file, and where its reading goes on.
 use Rattle.std.proofs.lemmas.Bool.{cases_lt}
 use Rattle.std.proofs.Common.{◌≡◌, ℕ, ◌+◌, ◌-◌, ◌<◌, ◌≤◌, inl, inr, min, List, ◌++◌, length, take, drop, sym, ap, ◌∙◌, arith, append_assoc}
-use Rattle.std.proofs.lemmas.List.{length-take, length-drop, length-append, take_all, take-append-drop}
+use Rattle.std.proofs.lemmas.List.{length-take, length-append, take_all, take-append-drop}
 use Rattle.raft_log_record_base.specs.Fault.{FailsOrMemory}
 use Rattle.raft_log_record_base.specs.declared.errors.Error.{Error}
 use Rattle.raft_log_record_base.specs.declared.errors.Error.TheVariants as errors
@@ -13,7 +13,6 @@ use Rattle.raft_log_file_format.specs.Header.{IsFileHeader, header_at}
 use Rattle.raft_log_file_format.specs.declared.header.LogFileFormat.{LogFileFormat}
 use Rattle.raft_log_file_reader.specs.Source.{bytes_in, bytes_of, CannotRead, CannotReadPart}
 use Rattle.raft_log_file_reader.specs.Batches.{GoesOnAt, batch_at, context_of}
-use Rattle.raft_log_file_reader.specs.Batches.GoesOnAt.{behind_padding, at_once}
 use Rattle.raft_log_file_reader.specs.Refused.{FailsAt, FailsBehind}
 use Rattle.raft_log_file_reader.specs.Opening.{SaysFormat, FailsToOpen}
 use Rattle.raft_log_file_reader.specs.declared.source.Source.{Source}
@@ -24,13 +23,6 @@ use Rattle.raft_log_file_reader.proofs.WrittenHeaders.{front_bytes, written_in}
 -- the size that was told is that of the bytes
 pub size_told : (id : ℕ) (d : Disk) (n : ℕ) → IsSize id d n → n ≡ length (bytes_in (d.files id))
 size_told id d n h = h.size ∙ ap (λ f. length (bytes_in f)) (sym h.is)
-
--- reading goes on within the file, and not in front of where it was
-pub goes_on_within : (alignment : ℕ) (content : List ℕ) (offset at : ℕ) → offset ≤ length content → GoesOnAt alignment content offset at → (offset ≤ at) × (at ≤ length content)
-goes_on_within alignment content offset at inside (behind_padding padding is) =
-    let room = padding.inside in
-    (omega (arith, is), omega (arith, is, room, length-drop offset content))
-goes_on_within alignment content offset at inside (at_once none is) = (omega (arith, is), omega (arith, is))
 
 -- why the record isn't read where reading goes on is why no batch comes
 pub fails_behind : (file : OpenFile) (d : Disk) (offset at : ℕ) (e : Error) → GoesOnAt file.format.alignment (bytes_of file.source d) offset at → offset ≤ at → at < length (bytes_of file.source d)

@@ -4,7 +4,7 @@ use Rattle.std.proofs.lemmas.Bool.{cases_lt, ne_eqb}
 use Rattle.std.proofs.lemmas.List.{drop_all}
 use Rattle.std.proofs.Math.Nat.{mod_self, mod-eq_of_lt, mul-add-mod_self_left, mod-lt}
 use Rattle.raft_log_record_base.specs.Fault.{Fault}
-use Rattle.raft_log_record_base.proofs.Grammar.{ok_is}
+use Rattle.raft_log_record_base.proofs.Public.{ok_is}
 use Rattle.raft_log_record_items.specs.declared.item.LogItem.{LogItem}
 use Rattle.raft_log_file_reader.specs.Batches.{padding_len, GoesOnAt, batch_at, context_of, HasBatch, HasBatches}
 use Rattle.raft_log_file_reader.specs.Batches.GoesOnAt.{behind_padding, at_once}

@@ -1,5 +1,5 @@
 -- What a step of a reader of batches makes of what still comes.
-use Rattle.std.proofs.Common.{◌≡◌, ℕ, ◌+◌, ◌<◌, ◌≤◌, List, [], ◌∷◌, ◌++◌, None, Err, refl, sym, ap, subst, ◌∙◌, append_assoc, arith}
+use Rattle.std.proofs.Common.{◌≡◌, ◌+◌, ◌<◌, ◌≤◌, List, [], ◌∷◌, ◌++◌, None, Err, refl, sym, ap, subst, ◌∙◌, append_assoc, arith}
 use Rattle.std.specs.Prelude.{sum_by}
 use Rattle.std.proofs.lemmas.List.Sums.{sum_by-cons}
 use Rattle.raft_log_record_base.specs.declared.errors.Error.{Error}
@@ -8,7 +8,7 @@ use Rattle.raft_log_file_reader.specs.Reader.{ReadsHonestly, file_of}
 use Rattle.raft_log_file_reader.specs.declared.reader.LogItemBatchFileReader.{LogItemBatchFileReader}
 use Rattle.raft_log_file_reader.specs.Answers.{Answer, GivesFiles}
 use Rattle.raft_log_file_reader.specs.ItemBatches.{GivesOpen, GivesRest, AnswersGoOn, files_of, most_of, most_left}
-use Rattle.raft_log_file_reader.specs.Steps.{EndsOpen, FailsOpen, OpensNext, HasNoFileLeft, FailsNext, most_open}
+use Rattle.raft_log_file_reader.specs.Steps.{EndsOpen, OpensNext, FailsNext, most_open}
 use Rattle.raft_log_file_reader.specs.declared.log_file.LogFile.{LogFile}
 use Rattle.raft_log_file_reader.specs.declared.batches.BatchReader.{BatchReader}
 
@@ -59,17 +59,10 @@ failed_next d error old new closed next rest more =
     let later : GivesFiles d (files_of new) rest = subst (GivesFiles d (files_of new)) (sym (more.both ∙ ap (λ (l : List Answer). l ++ more.later) (closed_gives d new.reader more.current next.closed.file more.of_current))) more.of_later in
     files_give d old (Err error ∷ rest) closed (subst (λ (files : List LogFile). GivesFiles d files (Err error ∷ rest)) (sym next.next) (Err error ∷ [], rest, next.told, later, refl))
 
--- no file is left
-pub nothing_left : (d : Disk) (reader : BatchReader) → file_of reader.reader ≡ None → files_of reader ≡ [] → GivesRest d reader []
-nothing_left d reader closed none = files_give d reader [] closed (rw none refl)
-
 -- How much is left at most.
 
 closed_most : (reader : LogItemBatchFileReader) → file_of reader ≡ None → most_open reader ≡ 0
 closed_most reader closed = rw closed refl
-
-pub fewer_read : (d : Disk) (old new : BatchReader) (count : ℕ) → files_of new ≡ files_of old → count + most_open new.reader < most_open old.reader → count + most_left d new < most_left d old
-fewer_read d old new count same fewer = omega (arith, fewer, ap (sum_by (most_of d)) same)
 
 pub ended_most : (d : Disk) (old new : BatchReader) → files_of new ≡ files_of old → file_of new.reader ≡ None → most_left d new + most_open old.reader ≡ most_left d old
 ended_most d old new same closed = omega (arith, closed_most new.reader closed, ap (sum_by (most_of d)) same)
@@ -79,9 +72,6 @@ most_next d file files = sum_by-cons (most_of d) file files
 
 pub fewer_opened : (d : Disk) (old new : BatchReader) → OpensNext d old new → most_left d new < most_left d old
 fewer_opened d old new next = omega (arith, next.fewer, ap (sum_by (most_of d)) next.next, most_next d next.file (files_of new))
-
-pub fewer_failed : (d : Disk) (error : Error) (old new : BatchReader) → FailsNext d error old new → most_left d new < most_left d old
-fewer_failed d error old new next = omega (arith, closed_most new.reader next.closed.file, ap (sum_by (most_of d)) next.next, most_next d next.file (files_of new))
 
 -- How the loop over the files goes on.
 
@@ -108,21 +98,7 @@ refused_next d error old from ended new come same ends next =
     goes_further (GivesRest d) old from new (Err error ∷ []) come.goes_on
     (goes_further (GivesRest d) from ended new (Err error ∷ []) (file_ended d [] from ended same ends.nothing ends.closed.file) (failed_next d error ended new ends.closed.file next))
 
--- no file was left behind one that ended
-pub came_to_end : (d : Disk) (old from ended new : BatchReader) → HasComeTo d old from → files_of ended ≡ files_of from → EndsOpen d from.reader ended.reader → HasNoFileLeft ended new
-    → GivesRest d old [] × GivesRest d new []
-came_to_end d old from ended new come same ends none = (
-  come.goes_on [] (file_ended d [] from ended same ends.nothing ends.closed.file [] (nothing_left d ended ends.closed.file none.none)),
-  nothing_left d new none.closed.file none.none_left,
-)
-
 -- a batch of the file that is open
 pub came_to_batch : (d : Disk) (first : List Answer) (old from new : BatchReader) → HasComeTo d old from → files_of new ≡ files_of from → AnswersGoOn (GivesOpen d) from.reader first new.reader
     → AnswersGoOn (GivesRest d) old first new
 came_to_batch d first old from new come same step = goes_further (GivesRest d) old from new first come.goes_on (read_on d first from new same step)
-
--- a batch was refused
-pub came_to_refusal : (d : Disk) (error : Error) (old from new : BatchReader) → HasComeTo d old from → files_of new ≡ files_of from → FailsOpen d error from.reader new.reader
-    → AnswersGoOn (GivesRest d) old (Err error ∷ []) new
-came_to_refusal d error old from new come same fails =
-    goes_further (GivesRest d) old from new (Err error ∷ []) come.goes_on (file_ended d (Err error ∷ []) from new same fails.told fails.closed.file)

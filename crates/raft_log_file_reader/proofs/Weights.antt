@@ -10,7 +10,7 @@ use Rattle.raft_log_record_items.specs.Items.{IsItem, AreItems}
 use Rattle.raft_log_record_items.specs.Placed.{laid_out, placed, written_item, content_len}
 use Rattle.raft_log_record_frames.specs.ItemBatch.{IsPlacedFooter}
 use Rattle.raft_log_record_frames.specs.Record.{Front}
-use Rattle.raft_log_record_frames.proofs.Fronts.{frame_is_read}
+use Rattle.raft_log_record_frames.proofs.Public.{frame_is_read}
 use Rattle.raft_log_file_reader.specs.Batches.{GoesOnAt, block_at, context_of}
 use Rattle.raft_log_file_reader.specs.Batches.GoesOnAt.{behind_padding, at_once}
 use Rattle.raft_log_file_reader.specs.Laws.{BatchesOutweighItems}

@@ -30,7 +30,7 @@ given_all [] = []
 given_all (items ∷ batches) = given items ++ given_all batches
 
 -- `answers` is what is read from an open file from an offset on: the items of its batches, up to the end of the file.
--- If reading a batch fails, it is the items of the batches before, and then the error.
+-- If reading a batch fails, `answers` is the items of the batches before that one, and then the error.
 pub data GivesFrom (d : Disk) (file : OpenFile) (offset : ℕ) (answers : List Answer) : Type 0 where
   whole : (batches : List (List LogItem)) (end : ℕ)
       → HasBatches file (bytes_of file.source d) offset batches end
@@ -40,8 +40,9 @@ pub data GivesFrom (d : Disk) (file : OpenFile) (offset : ℕ) (answers : List A
       → HasBatches file (bytes_of file.source d) offset batches end → FailsBehind file d end error
       → answers ≡ given_all batches ++ Err error ∷ [] → GivesFrom d file offset answers
 
--- Why the file at `path` wasn't opened for reading: the file system has stopped. Or it runs, and no file has the path
--- (`Io`) or memory ran out.
+-- Why the file at `path` wasn't opened for reading.
+-- - `Io`: the file system has stopped, or no file has the path.
+-- - `Memory`: memory ran out.
 abbrev pub IsReadOpenRefusal : List ℕ → Disk → Error → Type 0
 IsReadOpenRefusal path d (errors.Io kind) = IsAfterStop d kind ⊎ ((d.stopped ≡ false) × WrongName path d kind)
 IsReadOpenRefusal path d errors.Memory = d.stopped ≡ false
@@ -54,8 +55,8 @@ pub record IsLogFileOpen (d : Disk) (file : LogFile) (current : OpenFile) (start
   pub size : current.source.size ≡ length (bytes_of current.source d)
   pub header : SaysFormat (bytes_of current.source d) current.format start
 
--- `answers` is what is read from a log file. If the file couldn't be found or opened, that is only an error; otherwise
--- it is what is read after the header.
+-- `answers` is what is read from a log file. If the file couldn't be found or opened, `answers` is only the error.
+-- Otherwise `answers` is what is read after the header.
 pub data GivesFile (d : Disk) (file : LogFile) (answers : List Answer) : Type 0 where
   unfound : (error : Error) → IsReadOpenRefusal (string_bytes file.path) d error → answers ≡ Err error ∷ []
       → GivesFile d file answers

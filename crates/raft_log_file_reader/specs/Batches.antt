@@ -1,6 +1,6 @@
 -- The batches in the bytes of a log file. A batch has the items of one record, and records follow one another. If the
--- file has an alignment, there may be padding between them. The entry block of a record isn't checked: a record counts
--- if its bytes are a frame. `content` are all bytes of the open file `file`.
+-- file has an alignment, there may be padding between records. A record counts if its header and footer are valid; its
+-- bytes are then called a frame. Its entry block isn't checked. `content` are all bytes of the open file `file`.
 use Rattle.std.specs.Prelude.{◌≡◌, ℕ, ◌+◌, ◌-◌, ◌%◌, ◌<◌, ◌≤◌, List, [], ◌∷◌, length, take, drop, Result, Ok, Err, IsErr, nat_lt, ◌==◌, if◌then◌else◌}
 use Rattle.raft_log_record_base.specs.Grammar.{◌>>=◌}
 use Rattle.raft_log_record_base.specs.Files.{signature_of}
@@ -18,8 +18,8 @@ use Rattle.raft_log_file_reader.specs.declared.open_file.OpenFile.{OpenFile}
 abbrev pub padding_len : ℕ → ℕ → ℕ
 padding_len alignment offset = if alignment == 0 then 0 else (alignment - offset % alignment) % alignment
 
--- `bytes` begin with padding of this many bytes, of which the first and the last are 0. `bytes` are long enough for the
--- padding and for a record's header, but don't begin with a valid header.
+-- `bytes` begin with padding of this many bytes, of which the first and the last are 0. They are no shorter than a
+-- record's header (16 bytes), but don't begin with a valid one.
 pub record IsPadding (padding : ℕ) (bytes : List ℕ) : Type 0 where
   pub some : 0 < padding
   pub room : 16 ≤ length bytes
@@ -27,7 +27,7 @@ pub record IsPadding (padding : ℕ) (bytes : List ℕ) : Type 0 where
   pub broken : IsErr (header_at bytes)
   pub zeros : IsZeroPadded (take padding bytes)
 
--- Reading goes on at `at` after `offset`. If there is padding from `offset` to the next multiple of the alignment, `at`
+-- A reader at `offset` continues at `at`. If there is padding from `offset` to the next multiple of the alignment, `at`
 -- is that multiple. Otherwise `at` is `offset`.
 pub data GoesOnAt (alignment : ℕ) (content : List ℕ) (offset at : ℕ) : Type 0 where
   behind_padding : IsPadding (padding_len alignment offset) (drop offset content)

@@ -24,7 +24,7 @@ pub record IsLogPath (id : FileId) (path : List ℕ) : Type 0 where
   pub inside : IsPathIn directory path
   pub named : IsNameOf id inside.name
 
--- there is a file at `path`, and `files` has only this one, as the log file that its name says
+-- there is a file at `path`, and `files` has only this log file, with the queue and the number that its name says
 pub record IsFileAt (path : List ℕ) (d : Disk) (files : List LogFile) : Type 0 where
   pub there : d.names path ≡ None → ⊥
   pub file : LogFile
@@ -76,7 +76,7 @@ pub record AreFilesOf (directory : List ℕ) (d : Disk) (files : List LogFile) :
   pub ordered : IsSortedByKey (λ file. file.id) file_cmp files
 
 -- Why a directory's log files couldn't be listed. `Io`: the file system has stopped. `Memory`: memory ran out.
--- `InvalidArgument`: the path isn't a directory's, as the text says.
+-- `InvalidArgument`: a file has the path, or no directory has it. The text says that the path isn't a directory's.
 abbrev pub IsNoDirectory : List ℕ → Disk → Error → Type 0
 IsNoDirectory path d (errors.InvalidArgument text) = (d.stopped ≡ false)
     × (string_bytes text ≡ told (codes "Not a directory") path)

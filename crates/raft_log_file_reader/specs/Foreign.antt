@@ -1,5 +1,6 @@
 -- Foreign records. A foreign record is whole by its length and its footer's checksum. But its header has a compression
--- type other than 0, and this log can't read it. Another program wrote it, so it is no damage.
+-- type other than 0, and this log can't read it. Another program is assumed to have written it, so it doesn't count as
+-- damage.
 use Rattle.std.specs.Prelude.{◌≡◌, ℕ, ◌/◌, ◌%◌, ◌<◌, ◌≤◌, List, length, take, drop, slice_range, Option, MatchOption, IsOk}
 use Rattle.std.specs.Option.{ForSome}
 use Rattle.std.specs.Int.{w64, from_be_bytes}

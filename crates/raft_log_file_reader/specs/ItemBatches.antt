@@ -11,7 +11,7 @@ use Rattle.raft_log_file_reader.specs.Answers.{Answer, GivesFrom, GivesFiles}
 use Rattle.raft_log_file_reader.specs.declared.log_file.LogFile.{LogFile}
 use Rattle.raft_log_file_reader.specs.declared.batches.BatchReader.{BatchReader}
 
--- `answers` is what is still to be read of the file that the reader has open; nothing if it has none open
+-- `answers` is what is still to be read of the file that the reader has open; nothing if no file is open
 abbrev pub GivesOpen : Disk → LogItemBatchFileReader → List Answer → Type 0
 GivesOpen d reader answers =
     MatchOption (file_of reader) (answers ≡ []) (λ file. GivesFrom d file (end_of reader) answers)
@@ -28,8 +28,8 @@ pub record GivesRest (d : Disk) (reader : BatchReader) (answers : List Answer) :
   pub of_later : GivesFiles d (files_of reader) later
   pub both : answers ≡ current ++ later
 
--- The step from `old` to `new` returned `first`: if `new` will still return `rest`, then `old` was still to return
--- `first` and then `rest`.
+-- The step from `old` to `new` returned `first`. `gives` says what a state will still return: if `new` will return
+-- `rest`, then `old` had still to return `first` and then `rest`.
 abbrev pub AnswersGoOn : {S : Type 0} → (S → List Answer → Type 0) → S → List Answer → S → Type 0
 AnswersGoOn gives old first new = (rest : List Answer) → gives new rest → gives old (first ++ rest)
 

@@ -27,7 +27,7 @@ pub record StillGives {F : Type 0} (disk : F → Disk) (reader : LogItemReader F
   pub all : answers ≡ given (into_iter_items reader.items) ++ rest
 
 -- A call returns the first of what the reader had still to return, and `new` will return the rest. If nothing was left,
--- it returns nothing, and nothing is left after it.
+-- the call returns nothing, and nothing is left after the call.
 abbrev pub GivesFirst : {F : Type 0} → (F → Disk) → LogItemReader F → Option Answer → LogItemReader F → Type 0
 GivesFirst disk old answer new = MatchOption answer (StillGives disk old [] × StillGives disk new [])
     (λ first. AnswersGoOn (StillGives disk) old (first ∷ []) new)

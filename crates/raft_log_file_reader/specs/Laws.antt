@@ -10,7 +10,7 @@ use Rattle.raft_log_file_writer.specs.LawsChains.{Written, Reads}
 use Rattle.raft_log_file_reader.specs.Batches.{HasBatch, HasBatches, HasNoMore, IsBroken, padding_len, batch_at, block_at, context_of}
 use Rattle.raft_log_file_reader.specs.declared.open_file.OpenFile.{OpenFile}
 
--- no batch follows at `offset`: the file ends there, or it has only padding, or reading the next record fails
+-- no batch follows at `offset`: the file ends, has only padding from there on, or reading the next record fails
 abbrev pub EndsBehind : OpenFile → List ℕ → ℕ → Type 0
 EndsBehind file content offset =
     HasNoMore file content offset ⊎ ((fault : Fault) × IsBroken file content offset fault)
@@ -50,8 +50,8 @@ placed_frames context at [] = []
 placed_frames context at (w ∷ ws) =
     placed (block_at context at (length w.value.1)) w.value.0 ∷ placed_frames context (at + length w.bytes) ws
 
--- If a file has no alignment, the batches that are read from an offset on are the frames that follow one another there.
--- Where no batch follows any more, no frame begins.
+-- If a file has no alignment, the batches that are read from an offset on are the frames that follow one another from
+-- this offset on. No frame begins at the end of the last batch.
 abbrev pub BatchesAreFrames : Type 0
 BatchesAreFrames = (file : OpenFile) (content : List ℕ) (offset end : ℕ) (xs : List (List LogItem))
     → file.format.alignment ≡ 0 → HasBatches file content offset xs end → EndsBehind file content end

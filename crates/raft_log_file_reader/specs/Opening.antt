@@ -24,8 +24,8 @@ pub record SaysFormat (content : List ℕ) (format : LogFileFormat) (end : ℕ) 
 abbrev pub IsUnreadInFront : Handle → Disk → ErrorKind → Type 0
 IsUnreadInFront handle d kind = IsUnread handle 0 69 d kind
 
--- Why a file wasn't opened. Its size or its first 69 bytes couldn't be read; or memory ran out; or the error is the
--- fault of the header in these bytes.
+-- Why a file wasn't opened. If the error is `Io`, the file's size or its first 69 bytes couldn't be read. Otherwise the
+-- error is `Memory`, or the fault of the header in these bytes.
 abbrev pub FailsToOpen : Handle → Disk → Error → Type 0
 FailsToOpen handle d (errors.Io kind) = IsNotMeasured handle d kind ⊎ IsUnreadInFront handle d kind
 FailsToOpen handle d e = FailsOrMemory e (header_at (take 69 (bytes_in (d.files handle.file))))

@@ -5,8 +5,8 @@ use Rattle.raft_log_file_reader.specs.Batches.{GoesOnAt}
 use Rattle.raft_log_file_reader.specs.Source.{bytes_of}
 use Rattle.raft_log_file_reader.specs.declared.open_file.OpenFile.{OpenFile}
 
--- `at` is an offset of the file that isn't before `offset`. If all reads were honest, the next record after `offset` is
--- there.
+-- `at` is an offset of the file that isn't before `offset`. If all reads were honest, a reader at `offset` continues at
+-- `at` (`GoesOnAt`).
 pub record FindsPlace (honest : Bool) (file : OpenFile) (d : Disk) (offset at : ℕ) : Type 0 where
   pub from : offset ≤ at
   pub inside : at ≤ file.source.size

@@ -31,7 +31,8 @@ last_block reader = reader.last_block
 abbrev pub honest_of : LogItemBatchFileReader → Bool
 honest_of reader = reader.window.receipt.honest
 
--- The reader's window has bytes of this file on disk `d` (`HoldsPart`). The reader's offset is within the file.
+-- If the window's reads were honest, the reader's window has bytes of this file on disk `d` (`HoldsPart`). The reader's
+-- offset is within the file.
 pub record IsReadingFile (d : Disk) (reader : LogItemBatchFileReader) (file : OpenFile) : Type 0 where
   pub holds : HoldsPart file.source d reader.window
   pub within : reader.valid_offset ≤ file.source.size
@@ -45,7 +46,7 @@ pub record ReadsHonestly (d : Disk) (reader : LogItemBatchFileReader) : Type 0 w
   pub reading : IsReading d reader
   pub honest : IsTrue (honest_of reader)
 
--- the location is within the file that the reader has open
+-- if the reader has a file open, the location ends within that file's size
 abbrev pub IsInsideFile : FileBlockHandle → LogItemBatchFileReader → Type 0
 IsInsideFile block reader = ForSome reader.file (λ file. block.offset + block.len ≤ file.source.size)
 
@@ -70,8 +71,9 @@ pub record IsUnmoved (old new : LogItemBatchFileReader) : Type 0 where
   pub end : end_of new ≡ end_of old
   pub block : last_block new ≡ last_block old
 
--- Reading the next batch of `file` changed the reader `old` into `new`, and returned `found`. A batch is the next one
--- after the offset of `old`, and ends at the offset of `new`. `None`: no batch follows, and the reader is unmoved.
+-- Reading the next batch of `file` changed the reader `old` into `new`, and returned `found`. If `found` is a batch, it
+-- is the next one after the offset of `old`, and ends at the offset of `new`. If `found` is `None`, no batch follows,
+-- and the reader has the same offset as before.
 abbrev pub AnswersBatch : Disk → OpenFile → LogItemBatchFileReader → LogItemBatchFileReader → Option ItemBatch
     → Type 0
 AnswersBatch d file old new found = MatchOption found

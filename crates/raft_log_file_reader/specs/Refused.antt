@@ -13,13 +13,14 @@ use Rattle.raft_log_file_reader.specs.Batches.{IsBroken}
 use Rattle.raft_log_file_reader.specs.declared.source.Source.{Source}
 use Rattle.raft_log_file_reader.specs.declared.open_file.OpenFile.{OpenFile}
 
--- Why a call that reads from the offset `at` on failed with this error. `reading` is the result for the bytes there.
--- The error is the fault in `reading`, the file system failed a read from `at` on, or memory ran out.
+-- Why a call failed with this error. The call reads the bytes that begin at the offset `at`, and decodes them;
+-- `reading` is what the decoding returns. Either the error is the fault in `reading`, or the file system failed a read
+-- of these bytes, or memory ran out.
 abbrev pub FailsAt : {Y : Type 0} → Source → Disk → ℕ → Error → Result Y Fault → Type 0
 FailsAt source d at (errors.Io kind) reading = IsUnreadFrom source at d kind
 FailsAt source d at e reading = FailsOrMemory e reading
 
--- Why the next batch after `offset` wasn't read. The file system failed a read from there on, memory ran out, or the
+-- Why the next batch after `offset` wasn't read. The file system failed a read from `offset` on, memory ran out, or the
 -- error is the next record's fault.
 abbrev pub FailsBehind : OpenFile → Disk → ℕ → Error → Type 0
 FailsBehind file d offset (errors.Io kind) = IsUnreadFrom file.source offset d kind

@@ -30,8 +30,8 @@ pub record FailsOpen (d : Disk) (error : Error) (old new : LogItemBatchFileReade
   pub some : 0 < most_open old
   pub closed : HasNoneOpen new
 
--- The reader opened the first of the files that it hadn't opened yet. What it will return from this file is what
--- `GivesFile` says.
+-- The reader opened the first of the files that it hadn't opened yet. `GivesFile` says what the reader will return from
+-- this file.
 pub record OpensNext (d : Disk) (old new : BatchReader) : Type 0 where
   pub file : LogFile
   pub next : files_of old ≡ file ∷ files_of new

@@ -13,10 +13,11 @@ TellsInvalid words path (errors.InvalidArgument text) = string_bytes text ≡ to
 TellsInvalid words path errors.Memory = Unit {0}
 TellsInvalid words path _ = ⊥
 
--- The error of a call on a path that the file system failed with `kind`. `stopped`: the file system had stopped.
--- - If it had stopped, the error is `Io` with this kind.
--- - If it runs, the error is `Memory`, or, unless `kind` is `OutOfMemory`, an `InvalidArgument`. The text of this one
---   has these words and the path.
+-- The file system failed a call on a path with `kind`, and this is the error for the caller. `stopped` says whether the
+-- file system had stopped.
+-- - `Io`: the file system had stopped, and the error has this kind.
+-- - `Memory`: the file system runs.
+-- - `InvalidArgument`: the file system runs, and `kind` isn't `OutOfMemory`. The text has these words and the path.
 abbrev pub TellsAbsent : Bool → ErrorKind → List ℕ → List ℕ → Error → Type 0
 TellsAbsent stopped kind words path (errors.InvalidArgument text) =
     (stopped ≡ false) × (kind ≡ OutOfMemory → ⊥) × (string_bytes text ≡ told words path)

@@ -16,19 +16,18 @@ use Rattle.toml.specs.Data.Data.{string, integer, boolean}
 use Rattle.toml.specs.View.{view, members_view}
 use Rattle.toml.specs.declared.value.Value.{Value}
 use Rattle.toml.proofs.Views.{view-lookup}
-use Rattle.raft_log_record_base.specs.Size.{size_text}
 use Rattle.raft_log_record_base.specs.Files.{version_number}
 use Rattle.raft_log_record_base.specs.declared.size.ReadableSize.{ReadableSize}
 use Rattle.raft_log_record_base.specs.declared.pipe_log.Version.{Version}
 use Rattle.raft_log_record_base.specs.declared.pipe_log.Version.TheVariants.{V1, V2}
-use Rattle.raft_log_record_base.proofs.Sizes.{size_in-size_text}
+use Rattle.raft_log_record_base.proofs.Public.{size_in-size_text}
 use Rattle.raft_log_record_base.specs.declared.errors.Error.{Error}
 use Rattle.raft_log_record_base.specs.declared.errors.Error.TheVariants as errors
 use Rattle.raft_log_file_settings.specs.declared.recovery_mode.RecoveryMode.{RecoveryMode}
 use Rattle.raft_log_file_settings.specs.declared.recovery_mode.RecoveryMode.TheVariants.{AbsoluteConsistency, TolerateTailCorruption, TolerateAnyCorruption}
 use Rattle.raft_log_file_settings.specs.declared.printing.Entry.{Entry}
 use Rattle.raft_log_file_settings.specs.declared.printing.Entry.TheVariants as entries
-use Rattle.raft_log_file_settings.specs.Printing.{SizeFits, SizesFit, Row, word_of, size_data, data_of, row_of, rows_of, with_row, with_rows, HasRows, PutsRow, is_unsaid, first_unsaid, IsUnprintable, SaysTooLarge}
+use Rattle.raft_log_file_settings.specs.Printing.{SizeFits, SizesFit, Row, word_of, size_data, row_of, rows_of, with_row, with_rows, HasRows, PutsRow, is_unsaid, first_unsaid, IsUnprintable, SaysTooLarge}
 use Rattle.raft_log_file_settings.specs.Settings.{Settings, default_settings}
 use Rattle.raft_log_file_settings.specs.Reading.{at, at_value, ok_or, maybe, size_of, number_of, ratio_of, version_of, mode_of, recovery_in, files_in, purging_in, recycling_in, settings_in}
 use Rattle.raft_log_file_settings.proofs.Readings.{all_read}
@@ -49,19 +48,6 @@ pub flat_insert : (es : Pairs) (k : String Global) (v : Value) → depth (view v
     → members_depth (members_view (insert_entry string_cmp es k v)) ≡ 0
 flat_insert [] k v flat old = omega arith
 flat_insert (e ∷ es) k v flat old = deeper (string_cmp k e.0) k v e es (insert_entry string_cmp es k v) flat old (flat_insert es k v flat (omega arith))
-
-flat_size : (n : ℕ) → depth (size_data n) ≡ 0
-flat_size n =
-    elim (cases_Bool (nat_le (2 ^ 63) n)) [
-      | inl e ↦ rw e refl
-      | inr e ↦ rw e refl
-    ]
-
-pub flat_entry : (entry : Entry) → depth (data_of entry) ≡ 0
-flat_entry (entries.Text text) = refl
-flat_entry (entries.Size size) = flat_size size.0
-flat_entry (entries.Number n) = refl
-flat_entry (entries.Switch on) = refl
 
 -- What a table has at each key once a value is put.
 
@@ -174,15 +160,6 @@ pub small_size : (n : ℕ) → n < 2 ^ 63 → integer (pos n) ≡ size_data n
 small_size n lt = elim (cases_Bool (nat_le (2 ^ 63) n)) [
   | inl e ↦ absurd (omega (arith, leb-true (2 ^ 63) n e))
   | inr e ↦ rw e refl
-]
-
-pub large_size : (n : ℕ) → 2 ^ 63 ≤ n → string (size_text n) ≡ size_data n
-large_size n le = rw (le-leb (2 ^ 63) n le) refl
-
-pub not_past : (n : ℕ) → is_unsaid (Some (size_data n)) ≡ false
-not_past n = elim (cases_Bool (nat_le (2 ^ 63) n)) [
-  | inl e ↦ rw e refl
-  | inr e ↦ rw e e
 ]
 
 -- Reading what was put.

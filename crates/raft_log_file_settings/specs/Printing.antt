@@ -44,7 +44,7 @@ pub record SizesFit (s : Settings) : Type 0 where
   pub memory : SizeFits s.memory_limit
   pub prefill : SizeFits s.prefill_limit
 
--- the TOML value for an `Entry`; in the code, a row has its value as an `Entry`
+-- the TOML value for an `Entry`, the code's type for a value that is printed
 abbrev pub data_of : Entry → Data
 data_of (entries.Text text) = string text.now
 data_of (entries.Size size) = size_data size.0

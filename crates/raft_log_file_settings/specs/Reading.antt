@@ -100,7 +100,7 @@ abbrev pub maybe : {X : Type 0} → (Data → Option X) → Data → Option (Opt
 maybe read d = option_map (λ x. Some x) (read d)
 
 -- What a table sets for recycling: whether files are recycled, whether they are prefilled, and how many bytes are
--- prefilled. A key that it leaves out has its value in `usual`.
+-- prefilled. A key that the table leaves out keeps its value of `usual`.
 unfoldable pub recycling_in : Settings → Members → Result (Bool × Bool × Option ℕ) (List ℕ)
 recycling_in usual t = do
   enable_log_recycle ← at (codes "enable-log-recycle") as_bool usual.enable_log_recycle t
@@ -109,7 +109,7 @@ recycling_in usual t = do
   Ok (enable_log_recycle, prefill_for_recycle, prefill_limit)
 
 -- What a table sets for purges: the thresholds for the sizes of Append and of Rewrite, and the threshold for the share
--- of garbage. A key that it leaves out has its value in `usual`.
+-- of garbage. A key that the table leaves out keeps its value of `usual`.
 unfoldable pub purging_in : Settings → Members → Result (ℕ × Option ℕ × ℕ) (List ℕ)
 purging_in usual t = do
   threshold ← at (codes "purge-threshold") size_of usual.purge_threshold t
@@ -118,7 +118,7 @@ purging_in usual t = do
   Ok (threshold, rewrite, garbage_ratio)
 
 -- What a table sets for recovery: how it handles damage, how many bytes it reads at once, and its number of threads. A
--- key that it leaves out has its value in `usual`.
+-- key that the table leaves out keeps its value of `usual`.
 unfoldable pub recovery_in : Settings → Members → Result (RecoveryMode × ℕ × ℕ) (List ℕ)
 recovery_in usual t = do
   recovery_mode ← at (codes "recovery-mode") mode_of usual.recovery_mode t
@@ -126,8 +126,8 @@ recovery_in usual t = do
   recovery_threads ← at (codes "recovery-threads") number_of usual.recovery_threads t
   Ok (recovery_mode, block, recovery_threads)
 
--- What a table sets for new files: `bytes-per-sync`, which has no effect, their format, and the size at which they are
--- full. A key that it leaves out has its value in `usual`.
+-- What a table sets for new files: `bytes-per-sync` (which has no effect), their format, and the size at which they are
+-- full. A key that the table leaves out keeps its value of `usual`.
 unfoldable pub files_in : Settings → Members → Result (Option ℕ × Version × ℕ) (List ℕ)
 files_in usual t = do
   bytes_per_sync ← at (codes "bytes-per-sync") (maybe size_of) usual.bytes_per_sync t
@@ -135,8 +135,8 @@ files_in usual t = do
   target_file_size ← at (codes "target-file-size") size_of usual.target_file_size t
   Ok (bytes_per_sync, format_version, target_file_size)
 
--- The settings `usual`, except for the keys that a table sets. If some values are wrong, the error is the first of
--- their keys, in the order in which they are read here. Unknown keys are ignored.
+-- The settings `usual`, except for the keys that a table sets. If values are wrong, the error is the key of the first
+-- wrong one, in the order of the reads below. Unknown keys are ignored.
 unfoldable pub settings_over : Settings → Members → Result Settings (List ℕ)
 settings_over usual t = do
   dir ← at (codes "dir") as_str usual.dir t

@@ -12,7 +12,7 @@ use Rattle.raft_log_file_settings.specs.Settings.{Settings}
 use Rattle.raft_log_file_settings.specs.Text.{fault_text}
 use Rattle.raft_log_record_base.specs.Files.{is_signed}
 
--- the log's files may have this name: it is that of a queue's file, or a reserved name of a file kept for recycling
+-- a file of the log may have this name: that of a queue's file, or a reserved name of a file kept for recycling
 abbrev pub IsFileName : List ℕ → Type 0
 IsFileName name =
     (n : ℕ) × (((queue : LogQueue) × IsNamed (suffix_of queue) name n) ⊎ IsNamed reserved_suffix name n)
@@ -52,8 +52,8 @@ files_within limit target = min (limit / target * 3 / 2) (2 ^ 32 - 1)
 abbrev pub can_recycle : Settings → Bool
 can_recycle s = s.enable_log_recycle && is_signed s.format_version
 
--- A purge keeps files of Append for recycling as long as Append then has at most this many files, including those kept.
--- It is 0 if files can't be recycled, or if the target size is above the purge threshold.
+-- A purge keeps files of Append for recycling as long as Append, with the files kept, has at most this many files. The
+-- number is 0 if files can't be recycled, or if the target size is above the purge threshold.
 abbrev pub recycle_capacity : Settings → ℕ
 recycle_capacity s =
     if can_recycle s && nat_le s.target_file_size s.purge_threshold

@@ -1,6 +1,5 @@
 -- A reader at work, batch by batch.
-use Rattle.std.proofs.Common.{◌≡◌, ◌+◌, ◌<◌, ◌≤◌, ℕ, IsTrue, List, [], ◌∷◌, ◌++◌, refl, sym, ap, subst, ◌∙◌, arith}
-use Rattle.raft_log_record_base.specs.declared.pipe_log.FileBlockHandle.{FileBlockHandle}
+use Rattle.std.proofs.Common.{◌≡◌, ◌<◌, ℕ, IsTrue, List, [], ◌∷◌, ◌++◌, sym, ap, subst, ◌∙◌, arith}
 use Rattle.raft_log_record_base.specs.declared.pipe_log.FileId.{FileId}
 use Rattle.raft_log_record_items.specs.declared.item.LogItem.{LogItem}
 use Rattle.raft_log_fs.specs.Disk.{Disk}
@@ -8,10 +7,10 @@ use Rattle.raft_log_fs.specs.declared.handle.Handle.{Handle}
 use Rattle.raft_log_file_reader.specs.Source.{bytes_of}
 use Rattle.raft_log_file_reader.specs.Batches.{HasBatch}
 use Rattle.raft_log_file_reader.specs.Laws.{EndsBehind}
-use Rattle.raft_log_file_reader.specs.Reader.{IsReading, IsInsideFile, file_of, end_of, size_in, left_of, honest_of}
+use Rattle.raft_log_file_reader.specs.Reader.{IsReading, file_of, end_of, size_in, left_of, honest_of}
 use Rattle.raft_log_file_reader.specs.declared.open_file.OpenFile.{OpenFile}
 use Rattle.raft_log_file_reader.specs.declared.reader.LogItemBatchFileReader.{LogItemBatchFileReader}
-use Rattle.raft_log_file_reader.proofs.Readings.{batches_go_on_is}
+use Rattle.raft_log_file_reader.proofs.Public.{batches_go_on_is}
 use Rattle.raft_log_file_uses.specs.GoodEnd.{HasReadSoFar, HasReadTo, EndsItsBatches}
 
 -- one more batch
@@ -62,11 +61,3 @@ as_much id handle d old new work same = record {
   opened = same.file ∙ work.opened;
   read = subst (HasReadTo id handle d work.file) (sym same.end) work.read;
 }
-
--- and has as much behind it
-pub as_much_left : (d : Disk) (old new : LogItemBatchFileReader) → StandsAs d old new → left_of new ≡ left_of old
-as_much_left d old new same = rw (same.file, same.end) refl
-
--- what lies in front of the end lies in the file
-pub inside_end : (block : FileBlockHandle) (d : Disk) (reader : LogItemBatchFileReader) (end : ℕ) → IsReading d reader → end ≡ end_of reader → block.offset + block.len ≤ end → IsInsideFile block reader
-inside_end block d reader end reading is front = λ file opened. omega (arith, (reading file opened).within, is, front)

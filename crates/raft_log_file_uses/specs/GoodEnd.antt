@@ -22,8 +22,8 @@ pub record HasReadTo (id : FileId) (handle : Handle) (d : Disk) (file : OpenFile
   pub batches : List (List LogItem)
   pub has : HasBatches file (bytes_of file.source d) start batches end
 
--- The file's batches follow one another from the end of its header up to offset `end`. After that the file ends, or
--- its next record is broken.
+-- The file's batches follow one another from the end of its header up to offset `end`. From there on the file has
+-- nothing or only padding, or its next record is broken.
 pub record EndsItsBatches (id : FileId) (handle : Handle) (d : Disk) (end : ℕ) : Type 0 where
   pub file : OpenFile
   pub read : HasReadTo id handle d file end

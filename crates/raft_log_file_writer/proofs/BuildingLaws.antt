@@ -9,8 +9,7 @@ use Rattle.raft_log_fs.specs.Disk.{Disk}
 use Rattle.raft_log_fs.specs.Image.{IsSound}
 use Rattle.raft_log_fs.specs.Touching.{TouchesOnly, TouchesOnlyNames}
 use Rattle.raft_log_fs.specs.declared.handle.Handle.{Handle}
-use Rattle.raft_log_fs.proofs.NamesLaws.{creation_leaves}
-use Rattle.raft_log_fs.proofs.TouchingLaws.{names_then, names_file}
+use Rattle.raft_log_fs.proofs.Public.{creation_leaves, names_file, names_then}
 use Rattle.raft_log_file_writer.specs.declared.writer.LogFileWriter.{LogFileWriter}
 use Rattle.raft_log_file_writer.specs.Writer.{TakesUp, goes_on, begins, FailsToTakeUp}
 use Rattle.raft_log_file_writer.specs.Building.{Finds, is_made, was_there, Builds, FailsToBuild, not_taken_up}

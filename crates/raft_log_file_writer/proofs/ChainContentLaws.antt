@@ -4,7 +4,7 @@ use Rattle.std.proofs.lemmas.List.{append-nil, append_assoc, drop-append-le, dro
 use Rattle.raft_log_fs.specs.Disk.{grown, zeros, overwritten}
 use Rattle.raft_log_file_writer.specs.LawsChains.{Written, IsSelfDelimiting, spelled, BeginsWith}
 use Rattle.raft_log_file_writer.specs.KeepsSynced.{ChainGrows}
-use Rattle.raft_log_fs.proofs.ChangeLaws.{overwritten_some}
+use Rattle.raft_log_fs.proofs.Public.{overwritten_some}
 use Rattle.raft_log_file_writer.proofs.LawsChainLaws.{frame_filled, frames_append, spelled-append}
 
 module _ {R : Type 0} (IsFrame : List ℕ → R → Type 0) (free : IsSelfDelimiting IsFrame) (start : ℕ) where

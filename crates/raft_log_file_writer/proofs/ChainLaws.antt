@@ -17,7 +17,7 @@ use Rattle.raft_log_fs.specs.declared.handle.Permission.TheVariants.{ReadWrite}
 use Rattle.raft_log_file_writer.proofs.LawsChainLaws.{spelled-append, frames_front}
 use Rattle.raft_log_file_writer.proofs.KeepsSyncedLaws.{left_keeps_part, holds_grown, holds_written, holds_more, holds_read, holds_synced, holds_at_least, all_at_least, holds_used_again, holds_in_front}
 use Rattle.raft_log_file_writer.proofs.ShorteningLaws.{reads_whole, can_shorten_kept, kept_shortened, is_shortened, shortened_kept, shortened_synced}
-use Rattle.raft_log_fs.proofs.TouchingLaws.{same_file, has_done, has_changed, has_synced}
+use Rattle.raft_log_fs.proofs.Public.{has_changed, has_done, has_synced, same_file}
 use Rattle.raft_log_file_writer.specs.declared.writer.LogFileWriter.{LogFileWriter}
 use Rattle.raft_log_file_writer.specs.Writer.{MakesRoom, reach, FailsToWriteAt, WritesNext, FailsToWriteNext, CutsBehind, ends_there, is_cut, Closes, FailsToClose, not_cut, not_synced, TakesUp, goes_on, begins, FailsToTakeUp, not_measured, not_begun}
 use Rattle.raft_log_file_writer.specs.Chains.{DurableIsLeft, HasStaleFrom, IsAtEnd, IsReady, WriterKeepsChain, HoldsNothing, RestHoldsNothing, GetsHeader, WriterBeginsChain}

@@ -4,7 +4,7 @@ use Rattle.std.proofs.lemmas.List.{append-nil, append_assoc, nil_from_length, dr
 use Rattle.std.proofs.lemmas.Bool.{cases_lt}
 use Rattle.raft_log_fs.specs.Disk.{Change, Wrote}
 use Rattle.raft_log_fs.specs.Image.{IsLeft}
-use Rattle.raft_log_fs.proofs.ImageLaws.{only_at_rest}
+use Rattle.raft_log_fs.proofs.Public.{only_at_rest}
 use Rattle.raft_log_file_writer.specs.LawsChains.{Written, spelled, AreFrames, BeginsWith, LiesIn, Reads, Meets}
 use Rattle.raft_log_file_writer.specs.KeepsSynced.WasWritten.{handed_in, own_record, synced_there}
 use Rattle.raft_log_file_writer.specs.KeepsSynced.{NoChanceMatch, StandsBehind}
@@ -31,13 +31,6 @@ module _ {R : Type 0} (IsFrame : List ℕ → R → Type 0) where
   synced_file_has_no_chance free start file bytes none left own at w meets =
       let framed = frames_back IsFrame meets.before (w ∷ []) meets.begins.frames in
       synced_there (subst (Meets IsFrame start at w) (only_at_rest file bytes none left) meets) (none_stale at w.bytes (frame_filled IsFrame free w.bytes w.value framed.0))
-
-  synced_begins : (front : List ℕ) (durable : List (Written R)) → AreFrames IsFrame durable → BeginsWith IsFrame (length front) durable (front ++ spelled durable)
-  synced_begins front durable frames = record {
-    rest = [];
-    splits = drop_at front (spelled durable) (length front) refl ∙ sym (append-nil (spelled durable));
-    frames = frames;
-  }
 
   -- one of the durable records is one of all
   lies_among : (start at : ℕ) (durable before more next : List (Written R)) (w : Written R) → durable ≡ (before ++ w ∷ []) ++ more → at ≡ start + length (spelled before) → LiesIn start (spelled (durable ++ next)) at w.bytes

@@ -6,7 +6,7 @@ use Rattle.std.proofs.lemmas.List.Elements.{All-push}
 use Rattle.raft_log_fs.specs.Disk.{Change, Wrote, ShortenedTo, GrewTo, File, zeros, grown}
 use Rattle.raft_log_fs.specs.Image.{IsSoundFile, Spares}
 use Rattle.raft_log_fs.specs.Calls.{with_change, after_change, flushed, IsTorn, InPart}
-use Rattle.raft_log_fs.proofs.ChangeLaws.{part_may, overwritten_torn}
+use Rattle.raft_log_fs.proofs.Public.{overwritten_torn, part_may}
 use Rattle.raft_log_file_writer.proofs.KeepsSyncedLaws.{left_keeps_part}
 use Rattle.raft_log_file_writer.specs.Writer.{IsDurable}
 

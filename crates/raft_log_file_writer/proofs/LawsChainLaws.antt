@@ -122,17 +122,6 @@ module _ {R : Type 0} (IsFrame : List ℕ → R → Type 0) where
         let none = none_more more.0 g.rest h.rest (frames_back vs more.0 (subst (AreFrames IsFrame) more.1 h.frames)) g.ends more.2 in
         more.1 ∙ ap (λ (m : List (Written R)). vs ++ m) none ∙ append-nil vs
 
-    -- of the bytes up to the end of a chain, the chain is read
-    pub reads_to_end : (start : ℕ) (ws : List (Written R)) (bytes : List ℕ) → BeginsWith IsFrame start ws bytes → Reads IsFrame start ws (take (start + length (spelled ws)) bytes)
-    reads_to_end start ws bytes begins =
-        let n = length (spelled ws) in
-        record {
-          rest = [];
-          splits = drop-take start n bytes ∙ ap (λ (b : List ℕ). take n b) begins.splits ∙ take_at (spelled ws) begins.rest n refl ∙ sym (append-nil (spelled ws));
-          frames = begins.frames;
-          ends = nothing_refuses;
-        }
-
     next_from : (todo : List (Written R)) (w : Written R) (behind : List ℕ) → AreFrames IsFrame todo → IsFrame w.bytes w.value → spelled todo ≡ w.bytes ++ behind → (after : List (Written R)) × (todo ≡ w ∷ after)
     next_from [] w behind _ framed e = absurd (nothing_refuses w behind framed e)
     next_from (v ∷ vs) w behind h framed e = (vs, ap (λ (u : Written R). u ∷ vs) (same_head v w (spelled vs) behind h.0 framed e).0)

@@ -1,3 +1,4 @@
+pub mod Public
 pub mod BuildingLaws
 pub mod ChainContentLaws
 pub mod ChainLaws

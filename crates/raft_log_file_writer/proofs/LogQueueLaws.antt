@@ -8,12 +8,11 @@ use Rattle.raft_log_file_writer.specs.KeepsSynced.{kept_records, AreKept}
 use Rattle.raft_log_file_writer.specs.LogFormat.{Format, IsFormat, CanTellFormat, HasHeader, ReadsFile, NoChanceInFile}
 use Rattle.raft_log_file_writer.specs.LogQueue.{Past, LogFiles, recent, kept_to, HeaderStands, HoldsLast, IsPast, IsLeftover, HasNumbered, IsThere, IsAbsent, HasLogFiles, Found, ReadsNamed, ReadsFiles, past_from, NoChanceInLast, KeepsLast, KeepsQueue, EndsInOnePlace, QueueIsKept, QueueIsReadable, QueueRestarts, RotatedHoldsNothing, Anything}
 use Rattle.raft_log_fs.specs.Touching.{HasFile}
-use Rattle.raft_log_fs.proofs.ImageLaws.{left_at_rest, only_at_rest, image_is_sound, some_file}
+use Rattle.raft_log_fs.proofs.Public.{image_is_sound, left_at_rest, only_at_rest, same_file, some_file}
 use Rattle.raft_log_file_writer.proofs.LawsChainLaws.{reads_unique, reads_some}
 use Rattle.raft_log_file_writer.proofs.KeepsSyncedLaws.{left_of_image, left_keeps_part, at_least_keeps, holds_at_least, holds_used_again}
 use Rattle.raft_log_file_writer.proofs.CrashExampleLaws.{synced_file_has_no_chance}
 use Rattle.raft_log_file_writer.proofs.ShorteningLaws.{reads_whole}
-use Rattle.raft_log_fs.proofs.TouchingLaws.{same_file}
 
 front_nil : {X : Type 0} (xs ys : List X) → xs ++ ys ≡ [] → xs ≡ []
 front_nil [] ys e = refl
@@ -143,9 +142,6 @@ module _ {R : Type 0} (F : Format R) (lawful : IsFormat F) where
         let same = same_file image here.id here.file.file past.file here.file.is past.is in
         let content : here.file.file.content ≡ (q.older s).header ++ spelled (q.older s).records = ap (λ (f : File). f.content) (same ∙ past.has.is) in
         past_reads s (q.older s) ws past.has.header (record { is = refl; header = past.has.header; frames = past.has.frames }) (subst (ReadsFile F s ws) content here.file.has)
-
-    last_found : ℕ → List (Found R)
-    last_found count = record { number = q.last; records = kept_records q.durable q.pending count } ∷ []
 
     files_read : KeepsLast F q P → NoChanceInLast F q d image → (c s k : ℕ) (found : List (Found R)) → s + c ≡ q.last → ReadsFiles F image s k found
         → (count : ℕ) × (count ≤ length q.pending) × (found ≡ past_from q.older s c ++ (record { number = q.last; records = kept_records q.durable q.pending count } ∷ []))
@@ -304,16 +300,3 @@ rotated_holds_nothing F q header stale = record {
   chain = holds_at_least (F.IsFrame (suc q.last) header) (length header) stale [] [] (at_rest stale) (holds_used_again (F.IsFrame (suc q.last) header) (length header) stale);
   headed = inr refl;
 }
-
--- what is known of the last file may be weakened
-pub log_files_weaker : {R : Type 0} (F : Format R) (q : LogFiles R) (P Q : File → Type 0) (d : Disk) → ((file : File) → P file → Q file) → HasLogFiles F q P d → HasLogFiles F q Q d
-log_files_weaker F q P Q d weaker files =
-    let last = files.last in
-    let file = last.file.file in
-    record {
-      bound = files.bound;
-      last = record { path = last.path; at = last.at; file = record { id = last.file.id; named = last.file.named; file = record { file = file.file; is = file.is; has = weaker file.file file.has } } };
-      alone = files.alone;
-      none = files.none;
-      older = files.older;
-    }

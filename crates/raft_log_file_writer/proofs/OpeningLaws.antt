@@ -1,8 +1,7 @@
 -- What it leaves to take a file up, and to build a writer.
 use Rattle.std.specs.Prelude.{◌≡◌, ℕ, ◌+◌, ◌-◌, ◌<◌, ◌≤◌, ◌^◌, ◌++◌, ◌||◌, Bool, true, false, List, [], length, nat_lt}
 use Rattle.std.specs.declared.io.ErrorKind.{ErrorKind}
-use Rattle.std.proofs.Common.{refl, sym, ◌∙◌, ap, subst, arith}
-use Rattle.std.proofs.lemmas.List.{append-nil}
+use Rattle.std.proofs.Common.{refl, ◌∙◌, ap, subst, arith}
 use Rattle.std.proofs.lemmas.List.Elements.{All-weaker}
 use Rattle.raft_log_fs.specs.Disk.{File, Disk, file_limit}
 use Rattle.raft_log_fs.specs.Image.{IsSound, end_of}
@@ -10,7 +9,7 @@ use Rattle.raft_log_fs.specs.Causes.{Fails}
 use Rattle.raft_log_fs.specs.Reading.{IsSize}
 use Rattle.raft_log_fs.specs.declared.handle.Handle.{Handle}
 use Rattle.raft_log_fs.specs.declared.handle.Permission.TheVariants.{ReadWrite}
-use Rattle.raft_log_fs.proofs.TouchingLaws.{same_file}
+use Rattle.raft_log_fs.proofs.Public.{same_file}
 use Rattle.raft_log_file_writer.specs.declared.writer.LogFileWriter.{LogFileWriter}
 use Rattle.raft_log_file_writer.specs.Writer.{IsWritten, reach, WritesAtPlace, FailsToWriteAt, WritesNext, FailsToWriteNext, KeepsWritten, needs_header, TakesUp, goes_on, begins, FailsToTakeUp, not_begun, CanBeTakenUp, IsTakenUp}
 
@@ -42,21 +41,6 @@ module _ (handle : Handle) (header : List ℕ) (reset : Bool) (old : Disk) (size
   -- a file that needs no header
   pub gone_on : (writer : LogFileWriter) → (reset || nat_lt size (length header)) ≡ false → writer.handle ≡ handle → writer.written ≡ size → writer.capacity ≡ size → TakesUp handle header reset writer old old
   gone_on writer test same written capacity = goes_on is.file is.is (needs_as false test) refl (record { handle_is = same; written_is = written ∙ is.size; capacity_is = capacity ∙ is.size })
-
-  pub gone_on_written : (writer : LogFileWriter) → (reset || nat_lt size (length header)) ≡ false → writer.handle ≡ handle → writer.written ≡ size → writer.capacity ≡ size → IsTakenUp handle header reset writer old old
-  gone_on_written writer test same written capacity file permitted there =
-      let content : is.file.content ≡ file.content = ap (λ (f : File). f.content) (same_file old handle.file is.file file is.is there) in
-      let needs = subst (λ (b : List ℕ). needs_header header reset b ≡ false) content (needs_as false test) in
-      let size_is = is.size ∙ ap length content in
-      rw needs (record {
-        permitted = ap (λ (h : Handle). h.permission) same ∙ permitted;
-        offset = written ∙ size_is;
-        file = file;
-        is = ap (λ (h : Handle). old.files h.file) same ∙ there;
-        behind = [];
-        content = sym (append-nil file.content);
-        end = omega (arith, capacity, size_is);
-      })
 
   module _ (before after : LogFileWriter) (new : Disk) (test : (reset || nat_lt size (length header)) ≡ true) (same : before.handle ≡ handle) (written : before.written ≡ 0) (capacity : before.capacity ≡ size) where
     -- one that gets it

@@ -5,9 +5,9 @@ use Rattle.raft_log_fs.specs.Disk.{ShortenedTo, File, at_rest}
 use Rattle.raft_log_fs.specs.Calls.{with_change, after_change, flushed}
 use Rattle.raft_log_file_writer.specs.LawsChains.{Written, IsSelfDelimiting, spelled, AreFrames, Reads}
 use Rattle.raft_log_file_writer.specs.KeepsSynced.{HoldsChain, HoldsAtLeast, kept_records}
-use Rattle.raft_log_file_writer.specs.Shortening.{CanShorten, IsShortened, CanShortenRead, IsShortenedRead, KeepsDurable, ShortenedIsKept}
+use Rattle.raft_log_file_writer.specs.Shortening.{CanShorten, IsShortened, ShortenedIsKept}
 use Rattle.raft_log_file_writer.proofs.LawsChainLaws.{spelled-append, frames_back, frames_front, nothing_refuses}
-use Rattle.raft_log_file_writer.proofs.KeepsSyncedLaws.{holds_shortened, holds_more, holds_read, holds_at_least, all_at_least}
+use Rattle.raft_log_file_writer.proofs.KeepsSyncedLaws.{holds_shortened, holds_more, holds_read, holds_at_least}
 
 module _ {R : Type 0} (IsFrame : List ℕ → R → Type 0) (start : ℕ) (stale : List ℕ) where
   -- bytes that are just a chain behind the start are read so
@@ -29,15 +29,6 @@ module _ {R : Type 0} (IsFrame : List ℕ → R → Type 0) (start : ℕ) (stale
         splits = sym (take-append-drop count pending);
         holds = holds_more IsFrame start stale ws [] (drop count pending) (at_rest bytes) (frames_back IsFrame ws (drop count pending) framed) (holds_read IsFrame start free stale ws bytes reads);
       }
-
-  -- more may be counted on than is durable
-  pub at_least_fewer : (durable more rest : List (Written R)) (file : File) → HoldsAtLeast IsFrame start stale (durable ++ more) rest file → HoldsAtLeast IsFrame start stale durable (more ++ rest) file
-  at_least_fewer durable more rest file least = record {
-    more = more ++ least.more;
-    rest = least.rest;
-    splits = ap (λ (vs : List (Written R)). more ++ vs) least.splits ∙ sym (append_assoc more least.more least.rest);
-    holds = subst (λ (vs : List (Written R)). HoldsChain IsFrame start stale vs least.rest file) (append_assoc durable more least.more) least.holds;
-  }
 
   module _ (size count : ℕ) (durable pending : List (Written R)) where
     pub can_shorten_kept : (file : File) → CanShorten IsFrame start stale size count durable pending file → HoldsAtLeast IsFrame start stale durable pending file
@@ -62,34 +53,6 @@ module _ {R : Type 0} (IsFrame : List ℕ → R → Type 0) (start : ℕ) (stale
   pub shortened_synced : IsSelfDelimiting IsFrame → (count : ℕ) (durable pending : List (Written R)) (file : File) → IsShortened IsFrame start stale count durable pending file
       → HoldsAtLeast IsFrame start stale durable pending (flushed file)
   shortened_synced free count durable pending file is = settled_at_least free durable pending count file.content is.holds.frames is.all
-
-  -- Behind what is read.
-
-  module _ (size : ℕ) (durable pending ws : List (Written R)) where
-    pub can_shorten_read_keeps : (file : File) → CanShortenRead IsFrame start stale size durable pending ws file → KeepsDurable IsFrame start stale durable file
-    can_shorten_read_keeps file can = (pending, holds_at_least IsFrame start stale durable pending file can.holds)
-
-    read_still_holds : (file : File) (content : List ℕ) → CanShortenRead IsFrame start stale size durable pending ws file
-        → HoldsChain IsFrame start stale durable pending (with_change (ShortenedTo size) content file)
-    read_still_holds file content can = holds_shortened IsFrame start stale durable pending size content file
-        (omega (arith, can.end, ap length (ap spelled can.splits ∙ spelled-append durable can.more), length-append (spelled durable) (spelled can.more))) can.holds
-
-    pub read_shortened_keeps : (file : File) (content : List ℕ) → CanShortenRead IsFrame start stale size durable pending ws file
-        → KeepsDurable IsFrame start stale durable (with_change (ShortenedTo size) content file)
-    read_shortened_keeps file content can = (pending, holds_at_least IsFrame start stale durable pending (with_change (ShortenedTo size) content file) (read_still_holds file content can))
-
-    pub is_shortened_read : (file : File) → CanShortenRead IsFrame start stale size durable pending ws file
-        → IsShortenedRead IsFrame start stale durable pending ws (after_change (ShortenedTo size) file)
-    is_shortened_read file can = record { holds = read_still_holds file (take size file.content) can; more = can.more; splits = can.splits; frames = can.frames; all = can.front }
-
-  pub shortened_read_keeps : (durable pending ws : List (Written R)) (file : File) → IsShortenedRead IsFrame start stale durable pending ws file → KeepsDurable IsFrame start stale durable file
-  shortened_read_keeps durable pending ws file is = (pending, holds_at_least IsFrame start stale durable pending file is.holds)
-
-  pub shortened_read_synced : IsSelfDelimiting IsFrame → (durable pending ws : List (Written R)) (file : File) → IsShortenedRead IsFrame start stale durable pending ws file
-      → KeepsDurable IsFrame start stale durable (flushed file)
-  shortened_read_synced free durable pending ws file is =
-      let whole = holds_read IsFrame start free stale ws file.content (reads_whole free ws file.content is.frames is.all) in
-      (is.more, all_at_least IsFrame start stale durable is.more (at_rest file.content) (subst (λ (vs : List (Written R)). HoldsChain IsFrame start stale vs [] (at_rest file.content)) is.splits whole))
 
 pub shortened_is_kept : {R : Type 0} (IsFrame : List ℕ → R → Type 0) → ShortenedIsKept IsFrame
 shortened_is_kept IsFrame free start stale size count durable pending file can =

@@ -9,7 +9,7 @@ use Rattle.raft_log_file_writer.specs.LawsChains.{Written}
 use Rattle.raft_log_file_writer.specs.KeepsSynced.{HoldsChain, IsStale}
 use Rattle.raft_log_fs.specs.Touching.{HasFile}
 use Rattle.raft_log_fs.specs.declared.handle.Handle.{Handle}
-use Rattle.raft_log_fs.proofs.ChangeLaws.{overwritten_torn}
+use Rattle.raft_log_fs.proofs.Public.{overwritten_torn}
 use Rattle.raft_log_file_writer.proofs.KeepsSyncedLaws.{holds_grown}
 use Rattle.raft_log_file_writer.specs.Writer.{MakesRoom, allocated}
 use Rattle.raft_log_file_writer.specs.Chains.{HasStaleFrom}

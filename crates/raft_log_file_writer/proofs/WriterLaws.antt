@@ -4,7 +4,7 @@ use Rattle.std.specs.Result.{OnOk, OnErr, IfErr}
 use Rattle.std.specs.declared.io.ErrorKind.{ErrorKind}
 use Rattle.std.proofs.Common.{refl, sym, ◌∙◌, ap, subst, arith, inl, inr, min, length-append}
 use Rattle.std.proofs.lemmas.List.{append-nil, nil_from_length, get_or_push}
-use Rattle.raft_log_fs.proofs.Updates.{file_here}
+use Rattle.raft_log_fs.proofs.Public.{fails_after, fails_change, fails_whole, file_here, has_changed, has_done, has_synced, has_weaker, later_change, later_same, touches_change, touches_same, touches_then}
 use Rattle.std.proofs.lemmas.Bool.{lt-ltb, le-ltb}
 use Rattle.std.proofs.Math.Nat.{le-max_left}
 use Rattle.raft_log_fs.specs.Disk.{Change, Wrote, ShortenedTo, GrewTo, File, Disk, at_rest, file_limit}
@@ -16,10 +16,8 @@ use Rattle.raft_log_fs.specs.Exits.{Writes, FailsToWrite, FailsToSync, Syncs, Gr
 use Rattle.raft_log_fs.specs.Touching.{HasFile, TouchesOnly}
 use Rattle.raft_log_fs.specs.declared.handle.Handle.{Handle}
 use Rattle.raft_log_fs.specs.declared.handle.Permission.TheVariants.{ReadWrite}
-use Rattle.raft_log_fs.proofs.CauseLaws.{later_same, later_then, later_change, fails_after, fails_change, fails_whole}
-use Rattle.raft_log_fs.proofs.TouchingLaws.{has_done, has_changed, has_synced, has_weaker, touches_same, touches_then, touches_change}
 use Rattle.raft_log_file_writer.specs.declared.writer.LogFileWriter.{LogFileWriter}
-use Rattle.raft_log_file_writer.specs.Writer.{IsWritten, AreItsBytes, IsClosed, IsDurable, IsSynced, DurableStays, KeepsWritten, IsWriterAt, allocated, reach, MakesRoom, is_there, is_allocated, is_refused, WritesAtPlace, FailsToWriteAt, WritesNext, FailsToWriteNext, CutsBehind, ends_there, is_cut, FailsToCutBehind, Closes, FailsToClose, not_synced}
+use Rattle.raft_log_file_writer.specs.Writer.{IsWritten, AreItsBytes, IsClosed, IsDurable, IsSynced, DurableStays, KeepsWritten, IsWriterAt, allocated, reach, MakesRoom, is_there, is_allocated, is_refused, WritesAtPlace, FailsToWriteAt, WritesNext, FailsToWriteNext, CutsBehind, ends_there, is_cut, FailsToCutBehind, FailsToClose, not_synced}
 use Rattle.raft_log_file_writer.proofs.Fronts.{IsFront, front_later, front_grown, front_torn, front_written, cut_whole, front_whole, front_cut, durable_grown, durable_behind, durable_cut, durable_all, durable_flushed}
 
 -- Where the file ends at the latest.
@@ -166,20 +164,10 @@ module _ (handle : Handle) (at capacity : ℕ) (bytes : List ℕ) (target : ℕ)
         fails_after old calls.between new (room_later handle capacity end target old calls.between calls.room)
         (fails_change (right_writer handle (IsFront front (reach capacity end target)) calls.between permitted roomy) calls.fails)
 
-    pub later_refused : FailsToWriteAt handle at capacity bytes target error old new → IsLater old new
-    later_refused calls =
-        later_then old calls.between new (room_later handle capacity (at + length bytes) target old calls.between calls.room)
-        (later_change {T = Unit {0}} (WrongWriter handle calls.between) (Err error) handle.file (Wrote at bytes) tt calls.fails)
-
     pub touches_refused : FailsToWriteAt handle at capacity bytes target error old new → TouchesOnly handle.file old new
     touches_refused calls =
         touches_then handle.file old calls.between new (room_touches handle capacity (at + length bytes) target old calls.between calls.room)
         (touches_change {T = Unit {0}} (WrongWriter handle calls.between) (Err error) handle.file (Wrote at bytes) tt calls.fails)
-
-  pub later_next : WritesAtPlace handle at capacity bytes target old new → IsLater old new
-  later_next calls =
-      later_then old calls.between new (room_later handle capacity (at + length bytes) target old calls.between calls.room)
-      (later_change {T = Unit {0}} (WrongWriter handle calls.between) (Ok tt) handle.file (Wrote at bytes) calls.writes tt)
 
   pub touches_next : WritesAtPlace handle at capacity bytes target old new → TouchesOnly handle.file old new
   touches_next calls =
@@ -193,9 +181,6 @@ module _ (before after : LogFileWriter) (bytes : List ℕ) (target : ℕ) (old n
       let end = before.written + length bytes in
       front_at after before.handle end (reach before.capacity end target) (front ++ bytes) new next.moved is.permitted (omega (arith, is.offset, length-append front bytes))
       (front_next before.handle before.written before.capacity bytes target old new front is.offset next.calls (written_front before front old is))
-
-  pub next_durable : WritesNext before after bytes target old new → DurableStays before old new
-  next_durable next durable within has = durable_next before.handle before.written before.capacity bytes target old new durable within next.calls has
 
   module _ (error : ErrorKind) where
     pub refused_kept : FailsToWriteNext before after bytes target error old new → KeepsWritten before after old new
@@ -352,10 +337,6 @@ module _ (before middle : LogFileWriter) (old between new : Disk) (cuts : CutsBe
   pub not_closed : {T : Type 0} (result : Result T ErrorKind) → IfErr result (λ error. FailsToSync middle.handle error between new) → IfErr result (λ error. FailsToClose before middle error old new)
   not_closed (Ok v) fails = tt
   not_closed (Err error) fails = not_synced between cuts (subst (λ (h : Handle). FailsToSync h error between new) same_handle fails)
-
-  pub closes : {T : Type 0} (result : Result T ErrorKind) → OnOk result (Syncs middle.handle between new) → OnOk result (Closes before middle old new)
-  closes (Ok v) syncs = record { between = between; cuts = cuts; syncs = subst (λ (h : Handle). Syncs h between new) same_handle syncs }
-  closes (Err error) syncs = tt
 
   pub close_written : {T : Type 0} (result : Result T ErrorKind) → OnOk result (Syncs middle.handle between new) → OnOk result ((bytes : List ℕ) → IsWritten before bytes old → IsClosed middle bytes new)
   close_written (Ok v) syncs = λ bytes is.

@@ -15,7 +15,7 @@ use Rattle.raft_log_file_writer.specs.Reader.{IsOpenRefusal}
 use Rattle.raft_log_file_writer.specs.Writer.{IsWritten, TakesUp, FailsToTakeUp, taken_up}
 use Rattle.raft_log_file_writer.specs.declared.writer.LogFileWriter.{LogFileWriter}
 
--- The file at `path` was created if `create` is true, and otherwise opened. This handle may write it.
+-- The file at `path` was created if `create` is true, and otherwise opened. `handle` is open for it and may write it.
 pub data Finds (path : List ℕ) (create : Bool) (handle : Handle) (old new : Disk) : Type 0 where
   is_made : create ≡ true → handle.permission ≡ ReadWrite → Creates path handle.file old new
       → Finds path create handle old new
@@ -49,8 +49,8 @@ pub data FailsToBuild (path : List ℕ) (format : LogFileFormat) (create : Bool)
       → FailsToTakeUp handle (header_bytes format) create kind between new
       → FailsToBuild path format create error old new
 
--- If the writer's file existed on disk `old`, the bytes up to the writer's offset are its old content. If that was
--- shorter than `header`, they are `header` instead.
+-- If the writer's file existed on disk `old`, then on disk `new` it has its old content up to the writer's offset. If
+-- the old content was shorter than `header`, the file has `header` there instead.
 abbrev pub IsGoneOn : List ℕ → LogFileWriter → Disk → Disk → Type 0
 IsGoneOn header writer old new = (file : File) → old.files writer.handle.file ≡ Some file
     → IsWritten writer (taken_up header false file.content) new

@@ -12,13 +12,14 @@ use Rattle.raft_log_fs.specs.Touching.{HasFile}
 use Rattle.raft_log_file_writer.specs.declared.writer.LogFileWriter.{LogFileWriter}
 use Rattle.raft_log_file_writer.specs.Writer.{IsWritten, IsDurable, WritesNext, FailsToWriteNext, Closes, FailsToClose, TakesUp, FailsToTakeUp, needs_header}
 
--- durable bytes stay after any stop: what a stop leaves of their file begins with them
+-- if a file begins with durable `bytes`, what any stop leaves of the file begins with `bytes` too
 abbrev pub DurableIsLeft : Type 0
 DurableIsLeft = (bytes left : List ℕ) (file : File) → IsDurable bytes file → IsLeft file left
     → take (length bytes) left ≡ bytes
 
--- From `start` up to the writer's offset, the file has the records `durable` and `pending`. It holds the chain of these
--- records and of `more`, whose write failed. Any part of `more` may follow the offset.
+-- From `start` up to the writer's offset, the file has the records `durable` and `pending`. `more` are records whose
+-- writes failed. Any part of `more` may follow the offset. The file holds the chain (`HoldsChain`) of all these
+-- records.
 pub record IsAtEnd {R : Type 0} (IsFrame : List ℕ → R → Type 0) (start : ℕ) (stale : List ℕ)
     (durable pending more : List (Written R))
     (writer : LogFileWriter) (d : Disk) : Type 0 where
@@ -34,8 +35,8 @@ pub record HasStaleFrom (from : ℕ) (stale : List ℕ) (file : File) : Type 0 w
   pub stands : StandsBehind from stale file.content
   pub covers : length stale ≤ length file.content
 
--- From `start` up to the writer's offset, the file has the records `durable` and `pending`, and it holds this chain.
--- Only stale bytes follow the offset, and no part of a record whose write failed.
+-- From `start` up to the writer's offset, the file has the records `durable` and `pending`. It holds the chain of these
+-- records. Only stale bytes follow the offset: no record whose write failed left a part there.
 abbrev pub IsReady : {R : Type 0} → (List ℕ → R → Type 0) → ℕ → List ℕ → List (Written R) → List (Written R)
     → LogFileWriter → Disk → Type 0
 IsReady IsFrame start stale durable pending writer d = IsAtEnd IsFrame start stale durable pending [] writer d
@@ -102,7 +103,8 @@ pub record ChainBegins {R : Type 0} (IsFrame : List ℕ → R → Type 0) (handl
   pub refused : (error : ErrorKind) → FailsToTakeUp handle header reset error old new
       → HasFile handle.file (HoldsChain IsFrame (length header) stale [] []) new
 
--- opening a writer for the handle's file writes a header: the file is to be reset, or it is shorter than the header
+-- if the handle's file exists, opening a writer for it writes a header: the file is to be reset, or it is shorter than
+-- the header
 abbrev pub GetsHeader : Handle → List ℕ → Bool → Disk → Type 0
 GetsHeader handle header reset d = (file : File) → d.files handle.file ≡ Some file
     → needs_header header reset file.content ≡ true

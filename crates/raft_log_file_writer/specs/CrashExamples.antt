@@ -1,6 +1,6 @@
--- The premise "no CRC collision" is neither empty nor always true. A stop that loses an unsynced record satisfies it; a
--- stop that leaves another record in its place doesn't. A file in which another record is synced after the chain
--- doesn't hold the chain.
+-- The premise "no CRC collision" is sometimes true and sometimes false. A stop that loses an unsynced record satisfies
+-- it. A stop that leaves another record in the place of the unsynced one doesn't. A file in which another record is
+-- synced after the chain doesn't hold the chain.
 use Rattle.std.specs.Prelude.{◌≡◌, ℕ, ◌+◌, ◌<◌, ◌≤◌, List, [], ◌∷◌, ◌++◌, length, take, drop}
 use Rattle.raft_log_fs.specs.Disk.{Wrote, File, at_rest}
 use Rattle.raft_log_fs.specs.Image.{IsLeft}
@@ -12,8 +12,8 @@ abbrev pub one_unsynced : {R : Type 0} → List ℕ → Written R → File
 one_unsynced synced w =
     record { content = synced ++ w.bytes; synced = synced; changes = Wrote (length synced) w.bytes ∷ [] }
 
--- After the bytes `front`, the records `durable` are synced, and the last record, `w`, isn't. A stop leaves only its
--- first `landed` bytes. Then there is no CRC collision, and exactly the synced records are read.
+-- After the bytes `front`, the records `durable` are synced, and the last record, `w`, isn't. A stop may leave only the
+-- first `landed` bytes of `w`. Then there is no CRC collision, and exactly the synced records are read.
 abbrev pub TornRecordIsLost : {R : Type 0} → (List ℕ → R → Type 0) → Type 0
 TornRecordIsLost {R} IsFrame = IsSelfDelimiting IsFrame
     → (front stale : List ℕ) (durable : List (Written R)) (w : Written R) (landed : ℕ)
@@ -24,8 +24,8 @@ TornRecordIsLost {R} IsFrame = IsSelfDelimiting IsFrame
     IsLeft file bytes × NoChanceMatch IsFrame (length front) stale (spelled (durable ++ w ∷ [])) file bytes
     × Reads IsFrame (length front) durable bytes)
 
--- The last record of a file, `w`, isn't synced. In its place, a stop may leave a different record that isn't longer,
--- `foreign`. But that is a CRC collision.
+-- The last record of a file, `w`, isn't synced. In the place of `w`, a stop may leave a different record, `foreign`,
+-- that isn't longer. But that is a CRC collision.
 abbrev pub ForeignRecordIsChance : {R : Type 0} → (List ℕ → R → Type 0) → Type 0
 ForeignRecordIsChance {R} IsFrame = IsSelfDelimiting IsFrame
     → (front stale : List ℕ) (durable : List (Written R)) (w foreign : Written R)
@@ -37,8 +37,8 @@ ForeignRecordIsChance {R} IsFrame = IsSelfDelimiting IsFrame
     IsLeft file bytes
     × (NoChanceMatch IsFrame (length front) stale (spelled (durable ++ w ∷ [])) file bytes → ⊥))
 
--- If another record, `foreign`, is synced right after the durable ones, and it isn't stale, the file doesn't hold the
--- chain.
+-- If another record, `foreign`, is synced right after the durable ones, and the stale bytes don't have it at that
+-- offset, the file doesn't hold the chain.
 abbrev pub ForeignRecordBehindIsRefused : {R : Type 0} → (List ℕ → R → Type 0) → Type 0
 ForeignRecordBehindIsRefused {R} IsFrame = IsSelfDelimiting IsFrame
     → (front stale behind : List ℕ) (durable pending : List (Written R)) (foreign : Written R)
@@ -47,8 +47,8 @@ ForeignRecordBehindIsRefused {R} IsFrame = IsSelfDelimiting IsFrame
     → HoldsChain IsFrame (length front) stale durable pending
     (at_rest ((front ++ spelled durable) ++ (foreign.bytes ++ behind))) → ⊥
 
--- The new records of a recycled file are synced over its stale bytes, and no record begins right after them. Then the
--- file has no CRC collision, and exactly the new records are read.
+-- The new records of a recycled file are synced over its stale bytes. No record begins in the stale bytes right after
+-- the new records. Then the file has no CRC collision, and exactly the new records are read.
 abbrev pub RecycledFileMeetsIt : {R : Type 0} → (List ℕ → R → Type 0) → Type 0
 RecycledFileMeetsIt {R} IsFrame = (front stale : List ℕ) (durable : List (Written R))
     → IsSelfDelimiting IsFrame → AreFrames IsFrame durable

@@ -1,6 +1,6 @@
 -- Synced records are kept: what a stop may leave of a chain of records, if there is no CRC collision. The stale bytes
--- of a file are those that it held when it got its number. A new file has none; of a recycled file, all bytes are
--- stale.
+-- of a file are those that it held when it got its number, and the zeros that were allocated since. A recycled file has
+-- only stale bytes at first.
 use Rattle.std.specs.Prelude.{◌≡◌, ℕ, ◌+◌, ◌<◌, ◌≤◌, ◌⊎◌, List, [], ◌∷◌, ◌++◌, length, take, drop, slice_index, Contains}
 use Rattle.std.specs.List.{All}
 use Rattle.raft_log_fs.specs.Disk.{Change, Wrote, ShortenedTo, GrewTo, File, at_rest, overwritten}
@@ -8,8 +8,8 @@ use Rattle.raft_log_fs.specs.Image.{IsLeft, Spares}
 use Rattle.raft_log_fs.specs.Calls.{with_change}
 use Rattle.raft_log_file_writer.specs.LawsChains.{IsSelfDelimiting, Written, AreFrames, spelled, BeginsWith, Reads, Meets, LiesIn, HoldsNoFrame}
 
--- An unsynced write was asked to write `bytes` at the offset `at`, perhaps among other bytes. It may have written only
--- some of them.
+-- An unsynced write was asked to write `bytes` at the offset `at`, perhaps among other bytes. Only some of what it was
+-- asked to write may be on disk.
 pub record IsHandedIn (changes : List Change) (at : ℕ) (bytes : List ℕ) : Type 0 where
   pub from : ℕ
   pub all : List ℕ
@@ -20,10 +20,11 @@ pub record IsHandedIn (changes : List Change) (at : ℕ) (bytes : List ℕ) : Ty
 abbrev pub IsStale : List ℕ → ℕ → List ℕ → Type 0
 IsStale stale at bytes = take (length bytes) (drop at stale) ≡ bytes
 
--- Why a record `w` that is read at the offset `at` is no CRC collision:
--- - `own_record`: `own`, the bytes of the file's own records, which begin at `start`, contain it at this offset.
--- - `handed_in`: an unsynced write was asked to write all its bytes there.
--- - `synced_there`: reading the synced bytes finds it at this offset too, and it isn't stale.
+-- Why a record `w` that is read at the offset `at` is no CRC collision. `own` are the bytes of the file's own records,
+-- which begin at `start`.
+-- - `own_record`: `own` contains the record at this offset.
+-- - `handed_in`: an unsynced write was asked to write all bytes of the record at this offset.
+-- - `synced_there`: reading the synced bytes finds the record at this offset too, and the record isn't stale.
 pub data WasWritten {R : Type 0} (IsFrame : List ℕ → R → Type 0) (start : ℕ) (stale own : List ℕ) (file : File)
     (at : ℕ) (w : Written R) : Type 0 where
   own_record : LiesIn start own at w.bytes → WasWritten IsFrame start stale own file at w
@@ -43,8 +44,8 @@ NoChanceMatch {R} IsFrame start stale own file bytes = (at : ℕ) (w : Written R
 -- - `synced`, `others`: its synced bytes begin with the durable records; all other records that are read of these bytes
 -- are stale.
 -- - `spared`: no change since the last sync touches the durable records.
--- - `handed`: each write since the last sync ends before the chain, is a part of it at its offset, or contains no
--- record. The zeros of a prefilled file contain none.
+-- - `handed`: each write since the last sync ends at or before `start`, writes a part of the chain in its place, or
+-- contains no record. The zeros of a prefilled file contain none.
 -- A record whose write failed counts as the last pending one, until the file is truncated before that record and
 -- synced.
 pub record HoldsChain {R : Type 0} (IsFrame : List ℕ → R → Type 0)
@@ -108,7 +109,7 @@ abbrev pub StandsBehind : ℕ → List ℕ → List ℕ → Type 0
 StandsBehind from stale bytes = (place : ℕ) → from ≤ place → place < length bytes
     → (place < length stale) × (slice_index bytes place ≡ slice_index stale place)
 
--- Changes of a file through which it still holds its chain. `content` is what the file contains after the change; it
+-- After each of these changes, a file still holds its chain. `content` is what the file contains after the change. It
 -- may be anything.
 -- - `written`: a record was written after the chain, whatever part of it is on disk; it is now the last pending one.
 -- - `to_be_written`: nothing changed, and records that are still to be written already count as pending.
@@ -146,8 +147,8 @@ ChainGoesOn {R} IsFrame =
 -- - `read`: after a restart, a file whose bytes are all synced holds the records that are read of it. They are all
 -- durable, whatever bytes count as stale.
 -- - `synced`: a file whose bytes are all synced holds the records that it begins with, if only stale bytes follow them.
--- - `prefilled`: a file without a record in its synced bytes or in its writes, such as one filled with zeros, holds the
--- empty chain.
+-- - `prefilled`: a file holds the empty chain if neither its synced bytes nor its unsynced writes contain a record. An
+-- example is a file filled with zeros.
 pub record ChainAtRest {R : Type 0} (IsFrame : List ℕ → R → Type 0) (start : ℕ) : Type 0 where
   pub used_again : (bytes : List ℕ) → HoldsChain IsFrame start bytes [] [] (at_rest bytes)
   pub read : (stale : List ℕ) (ws : List (Written R)) (bytes : List ℕ) → Reads IsFrame start ws bytes

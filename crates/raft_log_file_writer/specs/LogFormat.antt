@@ -1,6 +1,6 @@
 -- The format of a log: numbered files, each with a header, and records after the header. How a record is encoded may
--- depend on its file's number and header. So a record that was written under an earlier number of the file can be none
--- under the new one. Also here: what it means that one file has no CRC collision.
+-- depend on its file's number and header. So bytes that were a record under a file's earlier number may be no record
+-- under its new number. Also here: what it means that one file has no CRC collision.
 use Rattle.std.specs.Prelude.{◌≡◌, ℕ, ◌<◌, ◌⊎◌, List, [], ◌++◌, length}
 use Rattle.raft_log_fs.specs.Disk.{File}
 use Rattle.raft_log_file_writer.specs.LawsChains.{Written, IsSelfDelimiting, CanTell, Reads}
@@ -10,8 +10,8 @@ use Rattle.raft_log_file_writer.specs.KeepsSynced.{NoChanceMatch}
 -- - `IsFrame`: which bytes encode which record, in the file with this number and header. The header gives the format
 -- version, and so whether records are signed.
 -- - `IsHeader`: which bytes are a header.
--- - `IsAligned`: which bytes a reader takes for a file with this number and an alignment. No file of the log is written
--- like that.
+-- - `IsAligned`: which bytes a reader takes, under this number, for a file in which each record begins at a multiple of
+-- an alignment. The log writes no such files.
 -- - `IsPath`: which paths a file with this number may have, one in each directory of the log.
 -- - `limit`: all numbers are below it.
 pub record Format (R : Type 0) : Type 1 where

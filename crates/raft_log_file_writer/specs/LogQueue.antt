@@ -156,8 +156,8 @@ KeepsQueue {R} F q d = (image : Disk) → IsImage d image → NoChanceInLast F q
     → (found : List (Found R)) → ReadsFrom F image s found → (count : ℕ) × (count ≤ length q.pending)
     × (found ≡ found_from s q count)
 
--- After any stop without a CRC collision in the last file, reading gives the same records of that file from whatever
--- number it begins. They are the durable records and the first `count` pending ones.
+-- After any stop without a CRC collision in the last file, reading from any number on gives the same records of the
+-- last file. They are the durable records and the first `count` pending ones.
 abbrev pub EndsInOnePlace : {R : Type 0} → Format R → LogFiles R → Disk → Type 0
 EndsInOnePlace {R} F q d = (image : Disk) → IsImage d image → NoChanceInLast F q d image
     → (count : ℕ) × (count ≤ length q.pending)
@@ -175,9 +175,9 @@ IsReadable {R} F q d = (image : Disk) → IsImage d image → (s : ℕ) → s �
 
 -- The theorem on what is read of a queue after a stop without a CRC collision.
 -- - `holding`, `left_over`: reading the last file gives its durable records and a prefix of the pending ones. This is
---   true of a file in use, and of one that a stop left.
+--   true of a file in use, and of one that an earlier stop left.
 -- - `kept`, `restarted`: reading the queue gives these records of the last file and all records of the earlier files.
--- - `ends`: on a sound disk, reading gives the same pending records from whatever number it begins.
+-- - `ends`: on a sound disk, reading from any number on gives the same pending records.
 pub record QueueIsKept {R : Type 0} (F : Format R) : Type 0 where
   pub holding : (q : LogFiles R) → F.IsHeader q.header → KeepsLast F q (HoldsLast F q)
   pub left_over : (q : LogFiles R) → KeepsLast F q (IsLeftover F q)
@@ -198,8 +198,8 @@ abbrev pub QueueIsReadable : {R : Type 0} → Format R → Type 0
 QueueIsReadable {R} F = CanTellFormat F → (q : LogFiles R) (d : Disk) → IsSound d
     → HasLogFiles F q Anything d → IsReadable F q d
 
--- A stop without a CRC collision leaves a queue again, whose records are those that were kept, all durable. After
--- another stop, this queue has no CRC collision. So crash, open and crash compose.
+-- What a stop without a CRC collision leaves is a queue again. It has the records that the stop kept, all durable. A
+-- second stop leaves no CRC collision in this queue. So crash, open and crash compose.
 abbrev pub QueueRestarts : {R : Type 0} → Format R → Type 0
 QueueRestarts {R} F = CanTellFormat F → (q : LogFiles R) (d image : Disk)
     → HasLogFiles F q (HoldsLast F q) d → F.IsHeader q.header

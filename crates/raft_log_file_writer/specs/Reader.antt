@@ -11,7 +11,7 @@ use Rattle.raft_log_fs.specs.Reading.{IsUnread, IsNotMeasured}
 use Rattle.raft_log_fs.specs.Touching.{HasFile}
 use Rattle.raft_log_fs.specs.declared.handle.Handle.{Handle}
 
--- Why the file at `path` wasn't opened: the file system has stopped. Or it runs, and either memory ran out or no file
+-- Why the file at `path` wasn't opened. Either the file system has stopped. Or it runs, and memory ran out or no file
 -- has the path.
 abbrev pub IsOpenRefusal : List ℕ → Disk → Error → Type 0
 IsOpenRefusal path d errors.Memory = d.stopped ≡ false

@@ -1,9 +1,9 @@
 -- Truncating a file after some of its records, and syncing it. What the file holds before, between and after these two
 -- calls. Each of them may fail, and a truncation that failed may have been done all the same.
-use Rattle.std.specs.Prelude.{◌≡◌, ℕ, ◌+◌, ◌≤◌, List, ◌++◌, length, take, drop}
+use Rattle.std.specs.Prelude.{◌≡◌, ℕ, ◌+◌, ◌≤◌, List, length, take, drop}
 use Rattle.raft_log_fs.specs.Disk.{ShortenedTo, File}
 use Rattle.raft_log_fs.specs.Calls.{after_change, with_change, flushed}
-use Rattle.raft_log_file_writer.specs.LawsChains.{Written, IsSelfDelimiting, AreFrames, spelled}
+use Rattle.raft_log_file_writer.specs.LawsChains.{Written, IsSelfDelimiting, spelled}
 use Rattle.raft_log_file_writer.specs.KeepsSynced.{HoldsChain, HoldsAtLeast, kept_records}
 
 -- The file holds the chain. Between `start` and the offset `size` it has exactly the durable records and the first
@@ -21,31 +21,6 @@ pub record IsShortened {R : Type 0} (IsFrame : List ℕ → R → Type 0) (start
     (durable pending : List (Written R)) (file : File) : Type 0 where
   pub holds : HoldsChain IsFrame start stale durable pending file
   pub all : drop start file.content ≡ spelled (kept_records durable pending count)
-
--- The file holds the chain. Between `start` and the offset `size` it has exactly the records `ws`, which begin with the
--- durable ones.
-pub record CanShortenRead {R : Type 0} (IsFrame : List ℕ → R → Type 0) (start : ℕ) (stale : List ℕ) (size : ℕ)
-    (durable pending ws : List (Written R)) (file : File) : Type 0 where
-  pub holds : HoldsChain IsFrame start stale durable pending file
-  pub more : List (Written R)
-  pub splits : ws ≡ durable ++ more
-  pub frames : AreFrames IsFrame ws
-  pub front : drop start (take size file.content) ≡ spelled ws
-  pub end : size ≡ start + length (spelled ws)
-
--- The file holds the chain. From `start` on it has exactly the records `ws`, which begin with the durable ones.
-pub record IsShortenedRead {R : Type 0} (IsFrame : List ℕ → R → Type 0) (start : ℕ) (stale : List ℕ)
-    (durable pending ws : List (Written R)) (file : File) : Type 0 where
-  pub holds : HoldsChain IsFrame start stale durable pending file
-  pub more : List (Written R)
-  pub splits : ws ≡ durable ++ more
-  pub frames : AreFrames IsFrame ws
-  pub all : drop start file.content ≡ spelled ws
-
--- the file holds a chain that begins with at least the durable records
-abbrev pub KeepsDurable : {R : Type 0} → (List ℕ → R → Type 0) → ℕ → List ℕ → List (Written R) → File → Type 0
-KeepsDurable {R} IsFrame start stale durable file =
-    (later : List (Written R)) × HoldsAtLeast IsFrame start stale durable later file
 
 -- What holds when a file is truncated at `size` and synced:
 -- - `before`: it holds the chain.

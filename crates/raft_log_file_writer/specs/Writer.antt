@@ -48,8 +48,8 @@ abbrev pub DurableStays : LogFileWriter → Disk → Disk → Type 0
 DurableStays writer old new = (bytes : List ℕ) → length bytes ≤ writer.written
     → HasFile writer.handle.file (IsDurable bytes) old → HasFile writer.handle.file (IsDurable bytes) new
 
--- After a failed call, the file still has the same bytes up to the writer's offset. The failure was counted, or the
--- file system has stopped.
+-- A call failed. If the file had `bytes` up to the writer's offset, it still has them, and the failure was counted or
+-- the file system has stopped.
 abbrev pub KeepsWritten : LogFileWriter → LogFileWriter → Disk → Disk → Type 0
 KeepsWritten before after old new =
     (bytes : List ℕ) → IsWritten before bytes old → IsWritten after bytes new × Fails old new
@@ -176,8 +176,8 @@ pub record CanBeTakenUp (handle : Handle) (d : Disk) : Type 0 where
   pub permitted : handle.permission ≡ ReadWrite
   pub there : d.files handle.file ≡ None → ⊥
 
--- A writer was opened, and its handle may write the file. If the header was written, the file has only the header up to
--- the writer's offset; otherwise it has all its old content there.
+-- If the handle's file existed on disk `old` and the handle may write it, it has these bytes up to the opened writer's
+-- offset: only the header if the header was written, and otherwise all its old content.
 abbrev pub IsTakenUp : Handle → List ℕ → Bool → LogFileWriter → Disk → Disk → Type 0
 IsTakenUp handle header reset writer old new = (file : File) → handle.permission ≡ ReadWrite
     → old.files handle.file ≡ Some file → IsWritten writer (taken_up header reset file.content) new

@@ -26,7 +26,7 @@ pub fn build_file_reader<F: FileSystem>(file_system: &F, path: &str) -> Result<L
     Ok(LogFileReader::open(handle))
 }
 
-/// Opens a file. Out of memory is a separate error from those of the file system, and a stop isn't reported as it.
+/// Opens a file. Fails with `Memory` for lack of memory, and otherwise with `Io` and the file system's kind.
 pub(crate) fn open_file<F: FileSystem>(
     file_system: &F,
     path: &str,

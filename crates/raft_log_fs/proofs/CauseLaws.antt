@@ -1,15 +1,14 @@
 -- Causes, chained along calls.
 use Rattle.std.specs.Prelude.{◌≡◌, ℕ, Bool, true, false, List, ◌∷◌, Result}
-use Rattle.std.specs.Result.{IfOk, IfErr, OnOk, OnErr}
+use Rattle.std.specs.Result.{IfErr, OnOk}
 use Rattle.std.specs.declared.io.ErrorKind.{ErrorKind}
 use Rattle.std.proofs.Common.{refl, sym, ◌∙◌, ap, arith}
 use Rattle.std.proofs.lemmas.Bool.{false≢true}
 use Rattle.raft_log_fs.specs.Disk.{Change, Disk}
 use Rattle.raft_log_fs.specs.Laws.{UndisturbedHasNoCause, OtherFilesAreNoCause, CountedRefusalTellsItsKind, CountedRefusalHasOneKind, StopIsNoWantOfMemory}
-use Rattle.raft_log_fs.specs.Exits.{LeavesAll}
-use Rattle.raft_log_fs.specs.Calls.{IsStopKind, IsRight, after_change, flushed, Changes, Creates, Deletes, Renames, MakesDirectory, Refused, after_stop, wrong_argument, failed, stops, SomeOf, none, some, RefusedChange, RefusedWhole}
-use Rattle.raft_log_fs.specs.Causes.{HasCause, stopped, counted_one, unreadable_place, Fails, has_stopped, has_failed, FailsTwice, has_stopped_since, has_failed_twice, IsLater}
-use Rattle.raft_log_fs.proofs.KeptLaws.{IsCalm, kept_change, kept_sync, kept_create, kept_delete, kept_rename, kept_directory, kept_arm}
+use Rattle.raft_log_fs.specs.Calls.{IsStopKind, IsRight, after_change, flushed, Changes, Renames, Refused, after_stop, wrong_argument, failed, stops, SomeOf, none, some, RefusedChange, RefusedWhole}
+use Rattle.raft_log_fs.specs.Causes.{stopped, counted_one, unreadable_place, Fails, has_stopped, has_failed, IsLater}
+use Rattle.raft_log_fs.proofs.KeptLaws.{IsCalm, kept_change, kept_sync, kept_rename}
 
 -- no cause stands behind a refusal on an undisturbed disk
 pub undisturbed_has_no_cause : (files : ℕ → Type 0) → UndisturbedHasNoCause files
@@ -22,11 +21,6 @@ pub other_files_are_no_cause : (files : ℕ → Type 0) → OtherFilesAreNoCause
 other_files_are_no_cause files old new readable (stopped is) = has_stopped is
 other_files_are_no_cause files old new readable (counted_one rises) = has_failed rises
 other_files_are_no_cause files old new readable (unreadable_place id place one is) = absurd (false≢true (sym (readable id place one) ∙ is))
-
--- a counted failure or a stop is a cause
-pub fails_has_cause : (files : ℕ → Type 0) (old new : Disk) → Fails old new → HasCause files old new
-fails_has_cause files old new (has_stopped is) = stopped is
-fails_has_cause files old new (has_failed rises) = counted_one rises
 
 -- a refused call whose arguments were right, on a disk that runs on, was counted, and tells the kind that is kept
 pub tells_its_kind : {part done : Disk → Type 0} {wrong : ErrorKind → Type 0} {error : ErrorKind} {old new : Disk} → ((left : Disk) → part left → left.kinds ≡ old.kinds) → IsRight wrong
@@ -94,12 +88,6 @@ pub fails_still : (a b c : Disk) → Fails a b → IsLater b c → Fails a c
 fails_still a b c (has_stopped is) next = has_stopped (next.stopped is)
 fails_still a b c (has_failed rises) next = has_failed (omega (arith, next.failures, rises))
 
--- a failure, and then one more
-pub fails_twice : (a b c : Disk) → Fails a b → Fails b c → IsLater b c → FailsTwice a c
-fails_twice a b c (has_stopped is) next later = has_stopped_since (later.stopped is)
-fails_twice a b c (has_failed rises) (has_stopped is) later = has_stopped_since is
-fails_twice a b c (has_failed rises) (has_failed again) later = has_failed_twice (omega (arith, rises, again))
-
 -- a refused call whose argument was right has failed
 pub fails : {part done : Disk → Type 0} {wrong : ErrorKind → Type 0} {error : ErrorKind} {old new : Disk} → IsRight wrong → ((left : Disk) → part left → left.failures ≡ old.failures)
     → Refused part done wrong error old new → Fails old new
@@ -137,25 +125,7 @@ pub later_sync : {T : Type 0} {old new : Disk} (wrong : ErrorKind → Type 0) (r
 later_sync {old = old} wrong result id ok err =
     kept_sync (IsLater old) wrong result id (later_calm old) (later_same old) (λ file is. record { failures = omega arith; stopped = λ is. is }) ok err
 
-pub later_create : {T : Type 0} {old new : Disk} (number : T → ℕ) (wrong : ErrorKind → Type 0) (result : Result T ErrorKind) (path : List ℕ)
-    → IfOk result (λ v. Creates path (number v) old new) → IfErr result (λ e. RefusedWhole (Creates path old.unused old) wrong e old new) → IsLater old new
-later_create {old = old} number wrong result path ok err =
-    kept_create (IsLater old) number wrong result path (later_calm old) (later_same old) (λ free apart home. record { failures = omega arith; stopped = λ is. is }) ok err
-
-pub later_delete : {T : Type 0} {old new : Disk} (wrong : ErrorKind → Type 0) (result : Result T ErrorKind) (path : List ℕ)
-    → OnOk result (Deletes path old new) → IfErr result (λ e. RefusedWhole (Deletes path old) wrong e old new) → IsLater old new
-later_delete {old = old} wrong result path ok err =
-    kept_delete (IsLater old) wrong result path (later_calm old) (later_same old) (λ id is. record { failures = omega arith; stopped = λ is. is }) ok err
-
 pub later_rename : {T : Type 0} {old new : Disk} (wrong : ErrorKind → Type 0) (result : Result T ErrorKind) (from to : List ℕ)
     → OnOk result (Renames from to old new) → IfErr result (λ e. RefusedWhole (Renames from to old) wrong e old new) → IsLater old new
 later_rename {old = old} wrong result from to ok err =
     kept_rename (IsLater old) wrong result from to (later_calm old) (later_same old) (λ id is apart home. record { failures = omega arith; stopped = λ is. is }) ok err
-
-pub later_directory : {T : Type 0} {old new : Disk} (wrong : ErrorKind → Type 0) (result : Result T ErrorKind) (path : List ℕ)
-    → OnOk result (MakesDirectory path old new) → IfErr result (λ e. RefusedWhole (MakesDirectory path old) wrong e old new) → IsLater old new
-later_directory {old = old} wrong result path ok err =
-    kept_directory (IsLater old) wrong result path (later_calm old) (later_same old) (λ free apart. record { failures = omega arith; stopped = λ is. is }) ok err
-
-pub later_arm : {T E : Type 0} {old new : Disk} (result : Result T E) → OnOk result (LeavesAll old new) → OnErr result (new ≡ old) → IsLater old new
-later_arm {old = old} result ok err = kept_arm (IsLater old) result (later_same old) ok err

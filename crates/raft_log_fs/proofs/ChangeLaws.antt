@@ -2,7 +2,7 @@
 use Rattle.std.specs.Prelude.{◌≡◌, ℕ, ◌+◌, ◌-◌, ◌<◌, ◌≤◌, List, [], ◌∷◌, ◌++◌, length, slice_index}
 use Rattle.std.specs.List.{All}
 use Rattle.std.proofs.Common.{refl, sym, ◌∙◌, ap, subst, arith, inl, inr, get_or, take, drop}
-use Rattle.std.proofs.lemmas.List.{take_at, drop_all, get_or_append_left, get_or-append_right, get_or-take, get_or-drop, get_or_push, ext_get_or, append-nil, length-append, length-take, length-take-le, length-drop, length-replicate}
+use Rattle.std.proofs.lemmas.List.{take_at, drop_all, get_or_append_left, get_or-append_right, get_or-take, get_or-drop, get_or_push, append-nil, length-append, length-take, length-take-le, length-drop, length-replicate}
 use Rattle.std.proofs.lemmas.Bool.{cases_lt}
 use Rattle.raft_log_fs.specs.Disk.{Change, Wrote, ShortenedTo, GrewTo, File, zeros, grown, spliced, overwritten, changed}
 use Rattle.raft_log_fs.specs.Image.{Spares, end_of, IsLeft}
@@ -75,16 +75,6 @@ spliced_torn at bytes old =
       longer = omega (arith, whole, size);
       within = λ most fits ends. omega (arith, whole, size);
     }
-
--- what stands in front of the place of a torn write stands
-pub torn_front : (at : ℕ) (bytes old new : List ℕ) → IsTorn at bytes old new → at ≤ length old → take at new ≡ take at old
-torn_front at bytes old new torn long =
-    let room : at ≤ length new = omega (arith, torn.longer, long) in
-    let one = length-take-le at new room in
-    let other = length-take-le at old long in
-    ext_get_or 0 (take at new) (take at old) (one ∙ sym other) (λ i less.
-    (let inside : i < at = omega (arith, one, less) in
-    get_or-take at new i 0 inside ∙ torn.outside i (omega (arith, inside, long)) (inl inside) ∙ sym (get_or-take at old i 0 inside)))
 
 -- a write that was done whole is one that was done in part
 pub overwritten_torn : (at : ℕ) (bytes old : List ℕ) → IsTorn at bytes old (overwritten at bytes old)

@@ -1,11 +1,10 @@
 -- What each call, answered or refused, keeps of a predicate on the disk: a client's proof is one line for each call.
 use Rattle.std.specs.Prelude.{◌≡◌, ℕ, ◌⊎◌, false, Some, None, List, Result, Ok, Err}
-use Rattle.std.specs.Result.{IfOk, IfErr, OnOk, OnErr}
+use Rattle.std.specs.Result.{IfOk, IfErr, OnOk}
 use Rattle.std.specs.declared.io.ErrorKind.{ErrorKind}
 use Rattle.std.proofs.Common.{sym, subst, inl, inr}
 use Rattle.raft_log_fs.specs.Disk.{Change, File, Disk, with_file, HasDirectory}
 use Rattle.raft_log_fs.specs.Calls.{with_change, after_change, flushed, created, deleted, renamed, with_directory, counted, at_stop, InPart, Changes, Creates, Deletes, Renames, MakesDirectory, Refused, after_stop, wrong_argument, failed, stops, SomeOf, none, some, RefusedChange, RefusedWhole}
-use Rattle.raft_log_fs.specs.Exits.{LeavesAll}
 use Rattle.raft_log_fs.proofs.ChangeLaws.{changed_in_part}
 
 -- neither a counted failure nor a stop touches it
@@ -76,11 +75,6 @@ pub kept_directory : {T : Type 0} {old new : Disk} (Q : Disk → Type 0) (wrong 
 kept_directory Q wrong (Ok v) path calm before step ok err = subst Q (sym ok.done) (step ok.free ok.apart)
 kept_directory Q wrong (Err e) path calm before step ok err =
     kept_refused Q calm before (λ left same. subst Q (sym same) before) (λ left is. subst Q (sym is.done) (step is.free is.apart)) err
-
--- the arming of a fault
-pub kept_arm : {T E : Type 0} {old new : Disk} (Q : Disk → Type 0) (result : Result T E) → Q old → OnOk result (LeavesAll old new) → OnErr result (new ≡ old) → Q new
-kept_arm Q (Ok v) before ok err = subst Q (sym ok.same) before
-kept_arm Q (Err e) before ok err = subst Q (sym err) before
 
 -- either of two calm ones is calm
 pub calm_either : {P Q : Disk → Type 0} → IsCalm P → IsCalm Q → IsCalm (λ d. P d ⊎ Q d)

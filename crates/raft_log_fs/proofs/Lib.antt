@@ -1,3 +1,4 @@
+pub mod Public
 pub mod Updates
 pub mod PathLaws
 pub mod ImageLaws
@@ -9,4 +10,3 @@ pub mod Props
 pub mod NamesLaws
 pub mod TouchingLaws
 pub mod Sharing
-pub mod ReceiptLaws

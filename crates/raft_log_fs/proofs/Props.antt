@@ -1,14 +1,7 @@
 -- A disk is sound in one way only, so that a type may keep the fact beside its fields.
-use Rattle.std.specs.Prelude.{ℕ, List}
 use Rattle.std.proofs.Props.{props}
 use Rattle.raft_log_fs.specs.Disk.{Change, File, Disk}
-use Rattle.raft_log_fs.specs.Image.{IsLeft, IsSoundFile, IsSound}
-
-pub IsLeft-prop : (file : File) (bytes : List ℕ) → IsProp (IsLeft file bytes)
-IsLeft-prop file bytes = hlevel props
-
-pub IsSoundFile-prop : (file : File) → IsProp (IsSoundFile file)
-IsSoundFile-prop file = hlevel props
+use Rattle.raft_log_fs.specs.Image.{IsSound}
 
 pub Change-set : IsSet Change
 Change-set = hlevel props

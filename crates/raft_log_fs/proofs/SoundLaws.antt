@@ -9,7 +9,7 @@ use Rattle.std.proofs.lemmas.Bool.{cases_eq, cases_Bool}
 use Rattle.std.proofs.lemmas.Slice.Eq.{bytes_eq-Decides}
 use Rattle.raft_log_fs.specs.Disk.{Change, File, Disk, HasDirectory, IsPathIn, at_rest, with_file, file_limit}
 use Rattle.raft_log_fs.specs.Image.{end_of, IsSoundFile, IsSound}
-use Rattle.raft_log_fs.specs.Calls.{with_change, after_change, flushed, created, deleted, without, renamed, with_directory, with_marks, counted, at_stop, InPart}
+use Rattle.raft_log_fs.specs.Calls.{with_change, after_change, flushed, created, deleted, without, renamed, with_directory, counted, at_stop, InPart}
 use Rattle.raft_log_fs.proofs.ImageLaws.{left_at_rest, rest_sound}
 use Rattle.raft_log_fs.proofs.ChangeLaws.{part_may, left_changed, changed_in_part}
 use Rattle.raft_log_fs.proofs.PathLaws.{home_there}
@@ -55,9 +55,6 @@ sound_counted error d sound = record { named = sound.named; one_name = sound.one
 
 pub sound_at_stop : (d : Disk) → IsSound d → IsSound (at_stop d)
 sound_at_stop d sound = record { named = sound.named; one_name = sound.one_name; apart = sound.apart; home = sound.home; fresh = sound.fresh; files = sound.files }
-
-pub sound_with_marks : (marks : ℕ → ℕ → Bool) (d : Disk) → IsSound d → IsSound (with_marks marks d)
-sound_with_marks marks d sound = record { named = sound.named; one_name = sound.one_name; apart = sound.apart; home = sound.home; fresh = sound.fresh; files = sound.files }
 
 -- with a new file
 pub sound_created : (d : Disk) (path : List ℕ) → IsSound d → d.names path ≡ None → d.directories path ≡ false → HasDirectory path d → IsSound (created path d)

@@ -5,12 +5,12 @@ use Rattle.std.specs.declared.io.ErrorKind.{ErrorKind}
 use Rattle.std.proofs.Common.{refl, sym, ◌∙◌, ap, subst, arith}
 use Rattle.raft_log_fs.specs.Disk.{Change, File, Disk, with_file}
 use Rattle.raft_log_fs.specs.Image.{IsSound}
-use Rattle.raft_log_fs.specs.Calls.{with_change, after_change, flushed, InPart, Changes, Creates, Deletes, Renames, RefusedChange, RefusedWhole}
+use Rattle.raft_log_fs.specs.Calls.{with_change, after_change, flushed, InPart, Changes, Creates, Renames, RefusedChange, RefusedWhole}
 use Rattle.raft_log_fs.specs.Touching.{HasFile, TouchesOnly, TouchesOnlyNames, OtherNamesStay}
 use Rattle.raft_log_fs.proofs.Updates.{file_here, file_apart}
 use Rattle.raft_log_fs.proofs.ImageLaws.{named_is_used}
-use Rattle.raft_log_fs.proofs.NamesLaws.{creation_leaves, deletion_leaves, renaming_leaves}
-use Rattle.raft_log_fs.proofs.KeptLaws.{IsCalm, kept_change, kept_sync, kept_create, kept_delete, kept_rename}
+use Rattle.raft_log_fs.proofs.NamesLaws.{creation_leaves, renaming_leaves}
+use Rattle.raft_log_fs.proofs.KeptLaws.{IsCalm, kept_change, kept_sync, kept_create, kept_rename}
 
 -- one file has a number
 pub same_file : (d : Disk) (id : ℕ) (a b : File) → d.files id ≡ Some a → d.files id ≡ Some b → a ≡ b
@@ -121,17 +121,6 @@ module _ (own : List ℕ → Type 0) where
         files = λ q j other there.
             let below = named_is_used old q j sound there in
             file_apart old.files old.unused _ j (λ same. omega (arith, below, same));
-      })) ok err
-
-  pub names_delete : {T : Type 0} {old new : Disk} (wrong : ErrorKind → Type 0) (result : Result T ErrorKind) (path : List ℕ) → IsSound old → own path
-      → OnOk result (Deletes path old new) → IfErr result (λ e. RefusedWhole (Deletes path old) wrong e old new) → TouchesOnlyNames own old new
-  names_delete {old = old} wrong result path sound mine ok err =
-      kept_delete (TouchesOnlyNames own old) wrong result path (names_calm old) (names_same old) (λ id is.
-      (let leaves = deletion_leaves old path id in
-      record {
-        directories = refl;
-        names = λ q other. leaves.names q (λ same. other (subst own (sym same) mine));
-        files = λ q j other there. leaves.files j (λ same. other (subst own (sound.one_name path q j (is ∙ ap Some (sym same)) there) mine));
       })) ok err
 
   pub names_rename : {T : Type 0} {old new : Disk} (wrong : ErrorKind → Type 0) (result : Result T ErrorKind) (from to : List ℕ) → IsSound old → own from → own to

@@ -113,7 +113,7 @@ pub record Deletes (path : List ℕ) (old new : Disk) : Type 0 where
   pub is : old.names path ≡ Some id
   pub done : new ≡ deleted path id old
 
--- The file at `from` was renamed to `to`. No directory has the path `to`, and the directory that it is in exists.
+-- The file at `from` was renamed to `to`. No directory has the path `to`, and the parent directory of `to` exists.
 pub record Renames (from to : List ℕ) (old new : Disk) : Type 0 where
   pub runs : old.stopped ≡ false
   pub id : ℕ
@@ -138,13 +138,14 @@ IsRight wrong = (error : ErrorKind) → wrong error → ⊥
 abbrev pub IsStopKind : ErrorKind → Type 0
 IsStopKind error = error ≡ OutOfMemory → ⊥
 
--- The file system stops at a call that was to fail with `kind`, and the call fails with `error`. This is `kind`, but
--- `ResourceBusy` instead of `OutOfMemory`.
+-- The file system stops at a call that was to fail with `kind`, and the call fails with `error`. `error` is `kind`,
+-- with one exception: it is `ResourceBusy` if `kind` is `OutOfMemory`.
 pub record IsToldAtStop (kind error : ErrorKind) : Type 0 where
   pub stops : IsStopKind error
   pub told : (error ≡ kind) ⊎ ((kind ≡ OutOfMemory) × (error ≡ ResourceBusy))
 
--- A call failed. `part` holds of what a failed call may leave, and `done` of the disk after a call that succeeds:
+-- A call failed. `part` is true of the disks that a failed call may leave, and `done` of the disk after success.
+-- `wrong` is true of the errors for wrong arguments.
 -- - `after_stop`: the file system had stopped before. Nothing changes, and the error is `Other`.
 -- - `wrong_argument`: the error says which argument is wrong. Nothing changes, and no failure is counted.
 -- - `failed`: no argument is wrong. A failure with this error is counted, and the call may be done in part.
@@ -159,8 +160,7 @@ pub data Refused (part done : Disk → Type 0) (wrong : ErrorKind
       → new ≡ at_stop left
       → Refused part done wrong error old new
 
--- The disk that a failed call leaves if such a call is done in full or not at all: the same disk. Syncs and renames are
--- such calls.
+-- The failed call left the disk unchanged. A sync or a rename, for example, is done in full or not at all.
 abbrev pub Nothing : Disk → Disk → Type 0
 Nothing old left = left ≡ old
 

@@ -1,5 +1,5 @@
 -- Why a call failed: what must have happened to the file system.
-use Rattle.std.specs.Prelude.{◌≡◌, ℕ, ◌+◌, ◌<◌, ◌≤◌, true, false}
+use Rattle.std.specs.Prelude.{◌≡◌, ℕ, ◌<◌, ◌≤◌, true, false}
 use Rattle.raft_log_fs.specs.Disk.{Disk}
 
 -- Why a call on these files failed. The file system has stopped, a failure was counted during the call, or one of the
@@ -9,7 +9,7 @@ pub data HasCause (files : ℕ → Type 0) (old new : Disk) : Type 0 where
   counted_one : old.failures < new.failures → HasCause files old new
   unreadable_place : (id place : ℕ) → files id → new.unreadable id place ≡ true → HasCause files old new
 
--- a changing call failed: the file system has stopped, or a failure was counted during the call
+-- why a changing call failed: the file system has stopped, or a failure was counted during the call
 pub data Fails (old new : Disk) : Type 0 where
   has_stopped : new.stopped ≡ true → Fails old new
   has_failed : old.failures < new.failures → Fails old new
@@ -23,9 +23,3 @@ pub record IsLater (old new : Disk) : Type 0 where
 pub record IsUndisturbed (d : Disk) : Type 0 where
   pub runs : d.stopped ≡ false
   pub readable : (id place : ℕ) → d.unreadable id place ≡ false
-
--- Two calls failed, the second of which was to repair the first. The file system has stopped, or two failures were
--- counted.
-pub data FailsTwice (old new : Disk) : Type 0 where
-  has_stopped_since : new.stopped ≡ true → FailsTwice old new
-  has_failed_twice : old.failures + 2 ≤ new.failures → FailsTwice old new

@@ -59,7 +59,7 @@ changed (Wrote at bytes) old = overwritten at bytes old
 changed (ShortenedTo size) old = take size old
 changed (GrewTo size) old = grown size old
 
--- the limit for the size of a file, which must be below it
+-- the limit for a file's size: each file must have fewer than 2 ^ 63 bytes
 abbrev pub file_limit : ℕ
 file_limit = 2 ^ 63
 

@@ -100,8 +100,8 @@ abbrev pub denied_by : Fault → Disk → Disk
 denied_by (DenyRead name place) d = denied (string_bytes name) place d
 denied_by fault d = d
 
--- Arming a fault changed the disk at most by marking the offset that it makes unreadable. Which other calls will fail
--- isn't part of the disk. A file system that ignores faults marks nothing.
+-- Arming a fault changed the disk at most by marking the offset that the fault makes unreadable. Which later calls will
+-- fail isn't part of the disk. A file system that ignores faults marks nothing.
 pub record Arms (fault : Fault) (old new : Disk) : Type 0 where
   pub runs : old.stopped ≡ false
   pub marks : (new ≡ old) ⊎ (new ≡ denied_by fault old)

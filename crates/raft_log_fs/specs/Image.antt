@@ -22,9 +22,9 @@ end_of (Wrote at bytes) = at + length bytes
 end_of (ShortenedTo size) = 0
 end_of (GrewTo size) = size
 
--- A crash may leave `bytes` of the file. A synced byte that no unsynced change touches is kept. All other bytes may
--- have any value, or be missing at the end. `bytes` is at most as long as the synced content, or as the latest end of a
--- change, whichever is larger.
+-- A crash may leave `bytes` as the content of the file. A synced byte that no unsynced change touches is kept. All
+-- other bytes may have any value, or be missing at the end. `bytes` is at most as long as the synced content, or as the
+-- largest end of an unsynced change, whichever is larger.
 pub record IsLeft (file : File) (bytes : List ℕ) : Type 0 where
   pub kept : (place : ℕ) → place < length file.synced → All (Spares place) file.changes
       → (place < length bytes) × (slice_index bytes place ≡ slice_index file.synced place)

@@ -15,8 +15,8 @@ pub record IsOpened (path : List ℕ) (permission : Permission) (handle : Handle
   pub is : d.names path ≡ Some handle.file
   pub permitted : handle.permission ≡ permission
 
--- A read filled its buffer with the bytes of the file from offset `at` on, up to the file's end. It read `count`
--- bytes. The rest of the buffer is unchanged.
+-- A read put the bytes of the file from offset `at` on into its buffer, until the buffer was full or the file ended. It
+-- read `count` bytes. The rest of the buffer is unchanged.
 pub record FillsRoom (id at : ℕ) (d : Disk) (before after : List ℕ) (count : ℕ) : Type 0 where
   pub runs : d.stopped ≡ false
   pub file : File

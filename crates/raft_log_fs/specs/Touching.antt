@@ -2,7 +2,7 @@
 use Rattle.std.specs.Prelude.{◌≡◌, ℕ, Some, List}
 use Rattle.raft_log_fs.specs.Disk.{File, Disk}
 
--- the file number `id` exists, and `P` is true of it
+-- file number `id` exists, and `P` is true of this file
 pub record HasFile (id : ℕ) (P : File → Type 0) (d : Disk) : Type 0 where
   pub file : File
   pub is : d.files id ≡ Some file
@@ -27,8 +27,8 @@ pub record TouchesOnlyNames (own : List ℕ → Type 0) (old new : Disk) : Type 
   pub files : (path : List ℕ) (id : ℕ) → (own path → ⊥) → old.names path ≡ Some id
       → new.files id ≡ old.files id
 
--- If a call changes only paths in `own`, and `P` is true of a file at another path, then `P` stays true of it. So calls
--- on one queue's files don't affect those of the other queue.
+-- Suppose a call changes only paths in `own`, and `P` is true of a file at another path. Then `P` is still true of the
+-- file at that path. So calls on one queue's files don't affect those of the other queue.
 abbrev pub OtherNamesStay : (List ℕ → Type 0) → (File → Type 0) → Type 0
 OtherNamesStay own P = (old new : Disk) (path : List ℕ) → TouchesOnlyNames own old new → (own path → ⊥)
     → HasNamed path P old → HasNamed path P new

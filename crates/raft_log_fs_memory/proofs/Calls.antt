@@ -8,7 +8,7 @@ use Rattle.std.proofs.Common.{refl, sym, ◌∙◌, ap, subst, inl, inr, take, d
 use Rattle.std.proofs.lemmas.Bool.{false≢true}
 use Rattle.raft_log_fs.specs.Disk.{Change, Wrote, File, Disk, overwritten, with_file, HasDirectory}
 use Rattle.raft_log_fs.specs.Calls.{IsStopKind, IsRight, with_change, after_change, counted, at_stop, Changes, failed, stops, none, some, SomeOf, RefusedChange, RefusedWhole}
-use Rattle.raft_log_fs.proofs.ImageLaws.{some_file}
+use Rattle.raft_log_fs.proofs.Public.{some_file}
 use Rattle.raft_log_fs.specs.declared.handle.Handle.{Handle}
 use Rattle.raft_log_fs.specs.declared.handle.Permission.TheVariants.{ReadWrite}
 use Rattle.raft_log_fs_memory.specs.declared.memory.MemoryFileSystem.{MemoryFileSystem}
@@ -21,7 +21,7 @@ use Rattle.raft_log_fs_state.specs.Steps.{IsSame, Makes}
 use Rattle.raft_log_fs_memory.specs.Memory.{disk_of, failed_once, IsToldOnce}
 use Rattle.raft_log_fs_memory.specs.Answers.{LacksWriter}
 use Rattle.raft_log_fs_memory.specs.Turns.{IsRefusedChange, uncounted, IsChangeEnded, IsCallEnded, at_the_stop, not_made}
-use Rattle.raft_log_fs_state.proofs.Fronts.{after_whole, front_change, front_torn}
+use Rattle.raft_log_fs_state.proofs.Public.{after_whole, front_change, front_torn}
 use Rattle.raft_log_fs_memory.proofs.Turns.{over, IsFrontOnDisk, counted_or_stop, other_stops, told_once}
 
 -- a change after a stop, or by a wrong handle, doesn't count

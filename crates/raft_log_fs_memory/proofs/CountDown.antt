@@ -5,7 +5,7 @@ use Rattle.std.proofs.lemmas.Bool.{eq-eqb}
 use Rattle.std.proofs.Math.ListN.{set}
 use Rattle.std.proofs.Math.Seq.{drop-cons, set-append_seam, get_or-append_seam}
 use Rattle.raft_log_fs_memory.specs.Turns.{front_of}
-use Rattle.raft_log_fs_state.proofs.RisingLaws.{miss}
+use Rattle.raft_log_fs_state.proofs.Public.{miss}
 use Rattle.std.proofs.lemmas.List.{take_more, take_all, drop_all, append-nil, map-append, length-take-le, length-map}
 
 inner_get : {X : Type 0} (d : X) (front old : List X) (i : ℕ) → length front ≡ i → i < length old → get_or (front ++ drop i old) i d ≡ get_or old i d

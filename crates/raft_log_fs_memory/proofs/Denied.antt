@@ -7,7 +7,7 @@ use Rattle.std.proofs.lemmas.List.{drop_all}
 use std.Path.{fun_ext}
 use Rattle.raft_log_fs.specs.Calls.{marked}
 use Rattle.raft_log_fs_memory.specs.Memory.{is_denied}
-use Rattle.raft_log_fs_state.proofs.RisingLaws.{miss}
+use Rattle.raft_log_fs_state.proofs.Public.{miss}
 
 swap : (a b m n x : Bool) → cond m (cond n true (cond a (cond b true x) x)) (cond a (cond b true x) x) ≡ cond a (cond b true (cond m (cond n true x) x)) (cond m (cond n true x) x)
 swap false b m n x = refl

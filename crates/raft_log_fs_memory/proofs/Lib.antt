@@ -1,3 +1,4 @@
+pub mod Public
 pub mod Calls
 pub mod Turns
 pub mod CountDown

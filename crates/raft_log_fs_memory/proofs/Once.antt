@@ -4,7 +4,7 @@ use Rattle.std.specs.List.{Contains}
 use Rattle.std.proofs.Common.{refl, sym, ◌∙◌, ap, subst, arith, inl, inr, get_or}
 use Rattle.std.proofs.lemmas.List.Sums.{sum_by-cons}
 use Rattle.raft_log_fs.specs.Disk.{Disk, IsPathIn}
-use Rattle.raft_log_fs.proofs.PathLaws.{path_directory}
+use Rattle.raft_log_fs.proofs.Public.{path_directory}
 use Rattle.raft_log_fs_memory.specs.Space.{size_at, HasUsed, unlimited, IsLeftFree, IsFree, MayGrowBy}
 
 -- a name is one of these, by recursion

@@ -13,8 +13,7 @@ use Rattle.raft_log_fs_state.specs.declared.storage.Storage.{Storage}
 use Rattle.raft_log_fs_state.specs.Storage.{contents_of, file_named}
 use Rattle.raft_log_fs_state.specs.Steps.{GrowsPast, IsRoomFault}
 use Rattle.raft_log_fs_state.specs.Listing.{IsChild, ListsNames}
-use Rattle.raft_log_fs_state.proofs.Names.{names_more, names_skip}
-use Rattle.raft_log_fs_state.proofs.Listings.{Stands, stands_pushed, found_stands, file_node, listing}
+use Rattle.raft_log_fs_state.proofs.Public.{file_node, found_stands, listing, names_more, names_skip, stands_pushed, Stands}
 use Rattle.raft_log_fs_memory.specs.declared.memory.MemoryFileSystem.{MemoryFileSystem}
 use Rattle.raft_log_fs_memory.specs.Memory.{disk_of}
 use Rattle.raft_log_fs_memory.specs.Space.{size_at, ListsFiles, HasUsed, LiesIn, MayGrowBy}
@@ -26,9 +25,6 @@ pub record LeavesSoFar (directory : List ℕ) (d : Disk) (space : ℕ) (entries 
   pub names : List (List ℕ)
   pub listed : ListsNames directory entries names
   pub is : left ≡ space - sum_by (λ name. size_at d (directory ++ 47 ∷ name)) names
-
-pub so_far_none : (directory : List ℕ) (d : Disk) (space : ℕ) → LeavesSoFar directory d space [] space
-so_far_none directory d space = record { names = []; listed = refl; is = omega arith }
 
 pub so_far_skip : (directory : List ℕ) (d : Disk) (space : ℕ) (es : List (String Global × Node)) (e : String Global × Node) (left : ℕ) → LeavesSoFar directory d space es left
     → ((name : List ℕ) → IsChild directory (string_bytes e.0) e.1 name → ⊥) → LeavesSoFar directory d space (es ++ e ∷ []) left

@@ -18,8 +18,8 @@ use Rattle.raft_log_fs_memory.specs.Turns.{ArmedRefusalFell, ArmedPartFell, Arme
 -- Why a call failed.
 
 -- `result` is returned by a call that is done whole or not at all. If it is an error, the call failed as
--- `IsRefusedWhole` says. `wrong` gives the errors of wrong arguments. If the call was done in spite of the error, it
--- changed the disk by `done`, and the unsynced changes are then those of `order`.
+-- `IsRefusedWhole` says. `wrong` gives the errors of wrong arguments. A call at which the file system stops may be done
+-- and return an error. Then it changed the disk by `done`, and the unsynced changes are those of `order`.
 abbrev pub RefusesWhole : {A : Type 0} → (Disk → ErrorKind → Type 0) → (Disk → Disk → Type 0)
     → (Kept → List (ℕ × Change)) → Result A ErrorKind → MemoryFileSystem → MemoryFileSystem → Type 0
 RefusesWhole wrong done order result old new =
@@ -37,8 +37,8 @@ RefusesChange handle change result old new =
 abbrev pub FindsSpace : Handle → Change → MemoryFileSystem → Type 0
 FindsSpace handle change old = HasSpaceFor handle.file change old
 
--- an armed failure, full or partial, was due at this call; nothing was done, and the failure was counted or became a
--- stop
+-- An armed failure, full or partial, was due at this call, and nothing was done. The failure was counted, or the file
+-- system stopped if the count was full.
 abbrev pub HasRefused : ErrorKind → MemoryFileSystem → MemoryFileSystem → Type 0
 HasRefused error old new = ArmedRefusalFell error old new ⊎ ArmedPartFell error old new
 
@@ -114,6 +114,6 @@ RunsWithWriter handle d =
 abbrev pub LacksWriter : Handle → Disk → ErrorKind → Type 0
 LacksWriter handle d error = IsAfterStop d error ⊎ ((d.stopped ≡ false) × WrongWriter handle d error)
 
--- `after` has the disk that a crash of `system` leaves, as `what` chooses
+-- `after` has the disk that a crash leaves of `system`; `what` chooses which unsynced changes are left
 abbrev pub IsLeftOf : Remainder → MemoryFileSystem → MemoryFileSystem → Type 0
 IsLeftOf what system after = disk_of after ≡ left_disk what (unsynced system) (disk_of system)

@@ -70,8 +70,8 @@ abbrev pub without_named : Option ℕ → List (ℕ × Change) → List (ℕ × 
 without_named None changes = changes
 without_named (Some id) changes = without_file id changes
 
--- The unsynced changes after the file `id` was renamed to the path of the file `replaced`. If this is another file, its
--- changes are gone. If there is no file to rename, nothing changes.
+-- The unsynced changes after file `id` was renamed. `replaced` is the file that had the new path, if there was one. If
+-- it is another file than `id`, its changes are gone. If there is no file to rename, nothing changes.
 abbrev pub with_moved : Option ℕ → Option ℕ → List (ℕ × Change) → List (ℕ × Change)
 with_moved None replaced changes = changes
 with_moved (Some id) replaced changes = without_replaced id replaced changes

@@ -51,8 +51,8 @@ pub record LiesIn (id : ℕ) (directory : List ℕ) (d : Disk) : Type 0 where
   pub named : d.names path ≡ Some id
   pub inside : IsPathIn directory path
 
--- `free` is the number of bytes by which file `id` may still grow: the free space of a directory that it has a name in.
--- It is `unlimited` if no space is set for any directory that it has a name in.
+-- `free` is the number of bytes by which file `id` may still grow: the free space of a directory that the file has a
+-- name in. If no space is set for any such directory, `free` is `unlimited`.
 abbrev pub MayGrowBy : (List ℕ → Option ℕ) → ℕ → Disk → ℕ → Type 0
 MayGrowBy spaces id d free = ((directory : List ℕ) × LiesIn id directory d × IsFree spaces directory d free)
     ⊎ (((directory : List ℕ) → LiesIn id directory d → spaces directory ≡ None) × (free ≡ unlimited))
@@ -65,8 +65,9 @@ LacksSpace spaces id change d = (free : ℕ) × MayGrowBy spaces id d free × Gr
 abbrev pub HasSpace : (List ℕ → Option ℕ) → ℕ → Change → Disk → Type 0
 HasSpace spaces id change d = LacksSpace spaces id change d → ⊥
 
--- why there is no room for `change`: `OutOfMemory`, or `StorageFull` if the change ends at offset 2^63 or after, or if
--- too few bytes are free
+-- Why there is no room for `change`:
+-- - `OutOfMemory`: memory ran out.
+-- - `StorageFull`: the change ends at offset 2^63 or after, or too few bytes are free.
 abbrev pub HasNoRoom : (List ℕ → Option ℕ) → ℕ → Change → Disk → ErrorKind → Type 0
 HasNoRoom spaces id change d error = (error ≡ OutOfMemory)
     ⊎ ((error ≡ StorageFull) × ((file_limit ≤ end_of change) ⊎ LacksSpace spaces id change d))

@@ -1,6 +1,6 @@
 -- Failures that a test arms in a file system in memory, and how they make a changing call fail. A changing call is one
--- that changes names or files, or syncs. A failure is armed for one of the coming changing calls; their numbers start
--- at 1. `old` is what there was before a call, `new` what there is after it, and `left` what a failed call leaves.
+-- that changes names or files, or syncs. A failure is armed for a changing call to come: 1 is the next one. `old` is
+-- the state before a call, and `new` the state after it. `left` is the state that a failed call leaves.
 use Rattle.std.specs.Prelude.{◌≡◌, ℕ, ◌-◌, ◌⊎◌, Bool, true, false, cond, Option, Some, None, List, [], ◌∷◌, ◌++◌, Result}
 use Rattle.std.specs.Result.{MatchResult}
 use Rattle.std.specs.String.{string_bytes}
@@ -194,9 +194,9 @@ pub record IsChangeMade (id : ℕ) (change : Change) (old left : Kept) : Type 0 
   pub disk : Changes id (after_change change) old.disk left.disk
   pub order : left.unsynced ≡ old.unsynced ++ (id, change) ∷ []
 
--- What a stop, before or after the call, leaves of a write, truncation or growth. If there was room, the change was
--- made but not synced, and the call returned `Other`. Otherwise nothing was done, and the error is the reason, but
--- `ResourceBusy` if memory ran out.
+-- What a stop, before or after the call, leaves of a write, truncation or growth. There are two cases:
+-- - There was room. The change was made but not synced, and the call returned `Other`.
+-- - There was no room, and nothing was done. The error says why, but if memory ran out, it is `ResourceBusy`.
 abbrev pub MadeUnlessShort : Type 0 → (ErrorKind → Type 0) → ℕ → Change → Kept → ErrorKind → Kept → Type 0
 MadeUnlessShort space no_room id change old error left =
     ((error ≡ Other) × space × IsChangeMade id change old left)
@@ -246,7 +246,7 @@ IsRefusedChange id change wrong error old new =
     (LeftInPart (HasSpaceFor id change old) (NoRoomFor id change old) id change (kept old)) wrong
     (NoRoomFor id change old) error old new
 
--- How a call that didn't succeed ended; `done` is the result of its work, and `kind_of` the kind of an error:
+-- How a call that didn't succeed ended. `done` is the result of the call's work. `kind_of` gives the kind of an error.
 -- - `at_the_stop`: the file system stops at this call. The error is `Other` if the work was done, else the one of
 --   `IsToldAtStop`.
 -- - `not_made`: the file system doesn't stop. The work wasn't done, and a failure is counted as in `failed_once`.

@@ -10,17 +10,13 @@ use std.Path.{fun_ext}
 use Rattle.raft_log_fs.specs.Disk.{Disk, at_rest, with_file, file_limit}
 use Rattle.raft_log_fs.specs.Image.{IsSound}
 use Rattle.raft_log_fs.specs.Calls.{created}
-use Rattle.raft_log_fs.proofs.ImageLaws.{disk_ext, left_at_rest}
-use Rattle.raft_log_fs.proofs.SoundLaws.{sound_with_file}
-use Rattle.raft_log_fs.proofs.Updates.{file_here, file_apart}
+use Rattle.raft_log_fs.proofs.Public.{disk_ext, file_apart, file_here, left_at_rest, sound_with_file}
 use Rattle.raft_log_fs_state.specs.declared.files.Stored.{Stored}
 use Rattle.raft_log_fs_state.specs.declared.storage.Storage.{Storage}
 use Rattle.raft_log_fs_state.specs.Held.{Held, held, held_of, resting, file_of}
 use Rattle.raft_log_fs_state.specs.Order.{with_stamp, Rises, AreStamped}
 use Rattle.raft_log_fs_state.specs.Storage.{contents_of, IsStorageSound}
-use Rattle.raft_log_fs_state.proofs.OrderLaws.{still_stamped}
-use Rattle.raft_log_fs_state.proofs.StorageLaws.{updated}
-use Rattle.raft_log_fs_state.proofs.Whole.{some_file_held}
+use Rattle.raft_log_fs_state.proofs.Public.{some_file_held, still_stamped, updated}
 use Rattle.raft_log_fs_os.specs.Loading.{FillsFile}
 
 -- a file that is there has a node number below the next one

@@ -1,3 +1,4 @@
+pub mod Public
 pub mod Sharing
 pub mod Filling
 pub mod Resting

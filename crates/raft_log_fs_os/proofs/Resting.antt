@@ -4,7 +4,7 @@ use Rattle.std.proofs.Common.{refl, sym, ◌∙◌, ap, subst, inl, inr}
 use Rattle.std.proofs.lemmas.Bool.{cases_eq}
 use Rattle.raft_log_fs.specs.Disk.{Disk, File, at_rest, with_file}
 use Rattle.raft_log_fs.specs.Calls.{created, with_directory}
-use Rattle.raft_log_fs.proofs.Updates.{file_here, file_apart}
+use Rattle.raft_log_fs.proofs.Public.{file_apart, file_here}
 use Rattle.raft_log_fs_state.specs.declared.storage.Storage.{Storage}
 use Rattle.raft_log_fs_state.specs.Steps.{AddsName, IsSame}
 use Rattle.raft_log_fs_state.specs.Storage.{contents_of}

@@ -4,7 +4,7 @@ use denote.RattleType.{RattleType}
 use denote.Param.Send.{IsSend, IsSync, owning_send, part_keyless, sendable}
 use Rattle.std.proofs.Crossing.{crosses}
 use Rattle.std.proofs.MapsCrossing.{crosses as maps_cross}
-pub use Rattle.raft_log_fs.proofs.Sharing.{kinds_sync}
+pub use Rattle.raft_log_fs.proofs.Public.{kinds_sync}
 use Rattle.raft_log_fs_os.specs.contracts.file_device.FileDevice as FileDevice
 use Rattle.raft_log_fs_os.specs.contracts.record.Record as Record
 

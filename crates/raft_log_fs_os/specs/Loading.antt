@@ -1,7 +1,7 @@
 -- A file system over directories of the operating system, right after it was opened.
 use Rattle.std.specs.Prelude.{◌≡◌, ℕ, false, Some, List, []}
 use Rattle.std.proofs.Props.{props}
-use Rattle.raft_log_fs.proofs.Props.{File-set}
+use Rattle.raft_log_fs.proofs.Public.{File-set}
 use Rattle.raft_log_fs.specs.Disk.{File, Disk, at_rest, with_file}
 use Rattle.raft_log_fs_state.specs.declared.storage.Storage.{Storage}
 use Rattle.raft_log_fs_state.specs.Storage.{contents_of}
@@ -28,12 +28,13 @@ AllRest storage = (id : ℕ) → RestsAt id (contents_of storage)
 pub AllRest-prop : (storage : Storage) → IsProp (AllRest storage)
 AllRest-prop storage = hlevel (File-set, props)
 
--- The calls in `trace` changed nothing: calls see the disk that was loaded at the opening, and a crash leaves it too.
+-- The calls in `trace` changed nothing: calls see the disk that was loaded at the opening, and a crash leaves that
+-- disk.
 abbrev pub StandsAsFound : Trace → Type 0
 StandsAsFound trace = held_by trace ≡ settled trace.found
 
--- From the trace `old` to `new`, the file at `path` in `d`, if there is one, was written back whole and then synced. No
--- other call was made.
+-- If a file has `path` in `d`, the calls from the trace `old` to `new` wrote the whole file back and then synced it.
+-- They did nothing else.
 abbrev pub IsWrittenBack : List ℕ → Disk → Trace → Trace → Type 0
 IsWrittenBack path d old new =
     (file : ℕ) → d.names path ≡ Some file → WritesBack file (size_of (d.files file)) old new

@@ -21,8 +21,8 @@ pub(crate) struct LockedDirectory {
 }
 
 impl LockedDirectory {
-    /// Locks an open directory, but not its file `LOCK`, and fills no reserve. Fails with `WouldBlock` if another open of
-    /// it has the lock.
+    /// Locks an open directory, but not its file `LOCK`, and fills no reserve. Fails with `WouldBlock` if another open
+    /// of the directory has the lock.
     pub fn lock(
         alloc: Global,
         directory: File,

@@ -25,27 +25,6 @@ behind_zeros count bytes within none = (
       ]),
 )
 
--- none behind all of them
-pub all_before : (count : ℕ) (bytes : List ℕ) → count ≡ length bytes → HasZerosBehind count bytes
-all_before count bytes is = behind_zeros count bytes (omega (arith, is)) (λ i from. get_or_past bytes i 0 (omega (arith, is, from)))
-
--- more zeros
-pub grown_behind : (count size : ℕ) (bytes : List ℕ) → HasZerosBehind count bytes → HasZerosBehind count (grown size bytes)
-grown_behind count size bytes has =
-    let within = has.0 in
-    behind_zeros count (grown size bytes) (omega (arith, within, length-grown size bytes)) (λ i from.
-    get_or-grown size bytes i ∙ zero_behind count bytes i has from)
-
--- a cut
-pub cut_behind : (count size : ℕ) (bytes : List ℕ) → HasZerosBehind count bytes → HasZerosBehind (min count size) (take size bytes)
-cut_behind count size bytes has =
-    let within = has.0 in
-    let long = length-take size bytes in
-    behind_zeros (min count size) (take size bytes) (omega (arith, within, long)) (λ i from. elim (cases_lt i size) [
-      | inl before ↦ get_or-take size bytes i 0 before ∙ zero_behind count bytes i has (omega (arith, from, before))
-      | inr past ↦ get_or_past (take size bytes) i 0 (omega (arith, long, past))
-    ])
-
 -- a write: the bytes before the zeros reach up to its end
 pub written_behind : (count at : ℕ) (over bytes : List ℕ) (size : ℕ) → size ≡ length (overwritten at over bytes) → length bytes ≤ size → HasZerosBehind count bytes
     → HasZerosBehind (max count (min (at + length over) size)) (overwritten at over bytes)

@@ -7,8 +7,7 @@ use Rattle.raft_log_fs.specs.Disk.{Change, Wrote, ShortenedTo, GrewTo, File, cha
 use Rattle.raft_log_fs.specs.Image.{Spares, end_of, IsSoundFile}
 use Rattle.raft_log_fs.specs.Disk.{file_limit}
 use Rattle.raft_log_fs.specs.Calls.{with_change, InPart, after_change}
-use Rattle.raft_log_fs.proofs.ChangeLaws.{MayBecome, changed_in_part}
-use Rattle.raft_log_fs.proofs.SoundLaws.{sound_with_change}
+use Rattle.raft_log_fs.proofs.Public.{changed_in_part, sound_with_change, MayBecome}
 use Rattle.raft_log_fs_state.specs.Changes.{Made, with_rest, IsLanded}
 use Rattle.raft_log_fs_state.specs.Held.{changes_in, landed_in}
 use Rattle.raft_log_fs_state.specs.Steps.{after_part}

@@ -11,7 +11,7 @@ use Rattle.std.proofs.lemmas.Bool.{cases_eq, cases_order, cases_Bool, eq-eqb, lt
 use Rattle.raft_log_fs.specs.Disk.{Wrote, ShortenedTo, GrewTo, File, Disk, overwritten, changed, at_rest}
 use Rattle.raft_log_fs.specs.Disk as disk
 use Rattle.raft_log_fs.specs.Image.{IsLeft}
-use Rattle.raft_log_fs.proofs.ChangeLaws.{MayBecome, part_may, changed_in_part, unchanged_in_part, left_changed}
+use Rattle.raft_log_fs.proofs.Public.{changed_in_part, left_changed, part_may, unchanged_in_part, MayBecome}
 use Rattle.raft_log_fs_state.specs.declared.remainder.Remainder.{Remainder}
 use Rattle.raft_log_fs_state.specs.declared.remainder.Remainder.TheVariants.{LastSync, AllWritten, First, Pieces}
 use Rattle.raft_log_fs_state.specs.declared.remainder.Piece.{Piece}

@@ -1,3 +1,4 @@
+pub mod Public
 pub mod Items
 pub mod Restoring
 pub mod Keeping

@@ -4,7 +4,7 @@ use Rattle.std.proofs.Common.{refl, sym, ◌∙◌, ap, arith, inl, inr, take, d
 use Rattle.std.proofs.lemmas.List.{take-append-drop, drop_more, get_or-drop, get_or-append_right, length-append, length-drop, take_at}
 use Rattle.std.proofs.lemmas.Bool.{cases_order}
 use Rattle.raft_log_fs.specs.Disk.{IsPathIn, IsPlain}
-use Rattle.raft_log_fs.proofs.PathLaws.{slash_in}
+use Rattle.raft_log_fs.proofs.Public.{slash_in}
 
 pub own_parts : (path : List ℕ) (at : ℕ) → at < length path → get_or path at 0 ≡ 47 → ((i : ℕ) → at < i → i < length path → get_or path i 0 ≡ 47 → ⊥)
     → (path ≡ take at path ++ 47 ∷ drop (at + 1) path) × IsPlain (drop (at + 1) path)

@@ -14,7 +14,7 @@ use Rattle.std.proofs.lemmas.List.{get_or_past}
 use std.Path.{fun_ext}
 use Rattle.raft_log_fs.specs.Disk.{at_rest, file_limit}
 use Rattle.raft_log_fs.specs.Image.{end_of, IsLeft, IsFileImage, IsImage}
-use Rattle.raft_log_fs.proofs.ImageLaws.{disk_ext}
+use Rattle.raft_log_fs.proofs.Public.{disk_ext}
 use Rattle.raft_log_fs_state.specs.declared.files.Stored.{Stored}
 use Rattle.raft_log_fs_state.specs.declared.remainder.Remainder.{Remainder}
 use Rattle.raft_log_fs_state.specs.declared.storage.Node.{Node}

@@ -4,7 +4,7 @@ use Rattle.std.proofs.Common.{refl, sym, ◌∙◌, ap, arith, inl, inr, get_or,
 use Rattle.std.proofs.lemmas.List.{ext_get_or, get_or_append_left, get_or-take, get_or-drop, take_all, take-append-drop, length-append, length-take, length-take-le, length-drop}
 use Rattle.std.proofs.lemmas.Bool.{cases_lt}
 use Rattle.raft_log_fs.specs.Disk.{Change, Wrote, ShortenedTo, GrewTo, zeros, grown, overwritten, changed}
-use Rattle.raft_log_fs.proofs.ChangeLaws.{overwritten_torn, overwritten_at_end}
+use Rattle.raft_log_fs.proofs.Public.{overwritten_at_end, overwritten_torn}
 use Rattle.raft_log_fs_state.specs.declared.former.Former.{Former}
 use Rattle.raft_log_fs_state.specs.Former.{replaced, Keeps, Restores}
 use Rattle.raft_log_fs_state.proofs.Growing.{length-grown}

@@ -8,7 +8,7 @@ use Rattle.std.proofs.lemmas.List.{get_or_append_left, get_or_push, get_or_past,
 use Rattle.std.proofs.lemmas.Slice.Eq.{bytes_eq-Decides}
 use Rattle.std.proofs.lemmas.Bool.{cases_eq, cases_lt, cases_Bool}
 use Rattle.raft_log_fs.specs.Disk.{Change, File, changed}
-use Rattle.raft_log_fs.proofs.Updates.{file_here, file_apart}
+use Rattle.raft_log_fs.proofs.Public.{file_apart, file_here}
 use Rattle.raft_log_fs_state.specs.declared.files.Stored.{Stored}
 use Rattle.raft_log_fs_state.specs.declared.storage.Node.{Node}
 use Rattle.raft_log_fs_state.specs.Changes.{Made}

@@ -4,7 +4,7 @@ use Rattle.std.specs.Option.{option_map}
 use Rattle.std.specs.Map.{update}
 use Rattle.std.specs.Str.{bytes_eq}
 use Rattle.std.proofs.Common.{refl, sym, ◌∙◌, ap, subst, arith, inl, inr, nat_eq}
-use Rattle.std.proofs.lemmas.Bool.{cases_eq, cases_lt, cases_Bool, eq-eqb}
+use Rattle.std.proofs.lemmas.Bool.{cases_eq, cases_lt, cases_Bool}
 use Rattle.std.proofs.lemmas.List.{get_or_past}
 use Rattle.std.proofs.lemmas.Slice.Eq.{bytes_eq-Decides}
 use Rattle.std.proofs.lemmas.Map.{update_same, update_other}
@@ -12,9 +12,7 @@ use std.Path.{fun_ext}
 use Rattle.raft_log_fs.specs.Disk.{Change, GrewTo, File, zeros, HasDirectory, with_file, file_limit}
 use Rattle.raft_log_fs.specs.Image.{end_of, IsSound}
 use Rattle.raft_log_fs.specs.Calls.{with_change, flushed, created, deleted, without, renamed, with_directory}
-use Rattle.raft_log_fs.proofs.ImageLaws.{disk_ext}
-use Rattle.raft_log_fs.proofs.SoundLaws.{sound_with_file, sound_flushed, sound_created, sound_deleted, sound_renamed, sound_with_directory}
-use Rattle.raft_log_fs.proofs.Updates.{name_apart, file_here, file_apart}
+use Rattle.raft_log_fs.proofs.Public.{disk_ext, file_apart, file_here, name_apart, sound_created, sound_deleted, sound_flushed, sound_renamed, sound_with_directory, sound_with_file}
 use Rattle.raft_log_fs_state.specs.declared.storage.Storage.{Storage}
 use Rattle.raft_log_fs_state.specs.declared.storage.Node.{Node}
 use Rattle.raft_log_fs_state.specs.declared.storage.Node.TheVariants as node
@@ -373,34 +371,6 @@ moves_over old new from to id gone whole apart is over nodes files made len =
   where
     directory_file : Some node.Directory ≡ Some (node.File gone) → ⊥
     directory_file e = cc
-
--- to its own name
-pub stays_there : (old : Storage) (from to : List ℕ) (id : ℕ) → from ≡ to → node_at old from ≡ Some (node.File id) → MovesName from to id old old
-stays_there old from to id same is = record {
-  contents = subst (λ (p : List ℕ). contents_of old ≡ renamed from p id (contents_of old)) same
-      (disk_ext (contents_of old) (renamed from from id (contents_of old)) refl
-      (fun_ext (λ q. sym (back q)))
-      (fun_ext (λ q. sym (own q)))
-      refl refl refl refl refl);
-  order = sym (ap (λ (o : Option ℕ). without_replaced id o (unsynced_of old)) (ap (λ (p : List ℕ). file_named (node_at old p)) (sym same) ∙ ap file_named is)
-      ∙ ap (λ (b : Bool). cond b (unsynced_of old) (without_file id (unsynced_of old))) (eq-eqb id id refl));
-}
-  where
-    back : (q : List ℕ) → update bytes_eq (update bytes_eq (contents_of old).names from None) from (Some id) q ≡ (contents_of old).names q
-    back q = elim (cases_Bool (bytes_eq from q)) [
-      | inl hit ↦ update_same bytes_eq (update bytes_eq (contents_of old).names from None) from (Some id) q hit
-          ∙ (sym (ap file_named is) ∙ ap (contents_of old).names ((bytes_eq-Decides from q).0 hit))
-      | inr lost ↦ update_other bytes_eq (update bytes_eq (contents_of old).names from None) from (Some id) q lost ∙ update_other bytes_eq (contents_of old).names from None q lost
-    ]
-
-    own : (q : ℕ) → update nat_eq (without ((contents_of old).names from) (contents_of old).files) id ((contents_of old).files id) q ≡ (contents_of old).files q
-    own q =
-        ap (λ (o : Option ℕ). update nat_eq (without o (contents_of old).files) id ((contents_of old).files id) q) (ap file_named is)
-        ∙ (elim (cases_eq q id) [
-          | inl same_id ↦ subst (λ (i : ℕ). update nat_eq (update nat_eq (contents_of old).files id None) id ((contents_of old).files id) i ≡ (contents_of old).files i) (sym same_id)
-              (file_here (update nat_eq (contents_of old).files id None) id ((contents_of old).files id))
-          | inr apart ↦ file_apart (update nat_eq (contents_of old).files id None) id ((contents_of old).files id) q apart ∙ file_apart (contents_of old).files id None q apart
-        ])
 
 pub whole_moves : (old new : Storage) (from to : List ℕ) (id : ℕ) → IsStorageSound old → node_at old from ≡ Some (node.File id) → (node_at old to ≡ Some node.Directory → ⊥)
     → HasDirectory to (contents_of old) → MovesName from to id old new → AreStamped new.made (held_of new.files.items) → IsStorageSound new

@@ -2,11 +2,11 @@
 use Rattle.std.specs.Prelude.{◌≡◌, ℕ, ◌+◌, ◌-◌, ◌<◌, ◌≤◌, ◌⊎◌, min, max, List, [], ◌∷◌, ◌++◌, length}
 use Rattle.std.specs.List.{All}
 use Rattle.std.proofs.Common.{refl, sym, ◌∙◌, ap, arith, inl, inr, get_or, take, drop}
-use Rattle.std.proofs.lemmas.List.{ext_get_or, get_or_append_left, get_or-append_right, get_or-take, get_or-drop, get_or-replicate, get_or_past, take_all, take_at, drop_at, append-nil, append_assoc, length-append, length-take, length-take-le, length-drop, length-replicate}
+use Rattle.std.proofs.lemmas.List.{ext_get_or, get_or_append_left, get_or-append_right, get_or-take, get_or-drop, get_or-replicate, get_or_past, take_all, take_at, drop_at, append_assoc, length-append, length-take, length-take-le, length-drop, length-replicate}
 use Rattle.std.proofs.lemmas.List.Elements.{All-get_or}
 use Rattle.std.proofs.lemmas.Bool.{cases_lt}
 use Rattle.raft_log_fs.specs.Disk.{Change, Wrote, ShortenedTo, GrewTo, zeros, grown, spliced, overwritten, changed}
-use Rattle.raft_log_fs.proofs.ChangeLaws.{overwritten_torn}
+use Rattle.raft_log_fs.proofs.Public.{overwritten_torn}
 use Rattle.raft_log_fs_state.proofs.Growing.{length-grown, length-written}
 
 pub get_or-grown : (size : ℕ) (old : List ℕ) (i : ℕ) → get_or (grown size old) i 0 ≡ get_or old i 0
@@ -20,12 +20,6 @@ get_or-grown size old i =
         | inr behind ↦ get_or_past (grown size old) i 0 (omega (arith, length-grown size old, past, behind)) ∙ sym (get_or_past old i 0 past)
       ]
     ]
-
--- no zeros are needed up to a size that is reached
-pub grown_enough : (size : ℕ) (old : List ℕ) → size ≤ length old → grown size old ≡ old
-grown_enough size old enough =
-    let none : size - length old ≡ 0 = omega (arith, enough) in
-    ap (λ (n : ℕ). old ++ zeros n) none ∙ append-nil old
 
 pub grown_more : (more size : ℕ) (front : List ℕ) → size ≤ more → grown more front ≡ grown more (grown size front)
 grown_more more size front less =
@@ -138,14 +132,6 @@ take-grown n size old within =
     ext_get_or 0 (take n (grown size old)) (take n old) (whole ∙ sym (length-take-le n old within)) (λ i less.
     (let inside : i < n = omega (arith, whole, less) in
     get_or-take n (grown size old) i 0 inside ∙ (get_or-grown size old i ∙ sym (get_or-take n old i 0 inside))))
-
-pub cut_front : (n size : ℕ) (front : List ℕ) → length front ≤ size → grown (min size n) (take n front) ≡ take n (grown size front)
-cut_front n size front within =
-    let left : List ℕ = grown (min size n) (take n front) in
-    let count : length left ≡ min size n = omega (arith, length-grown (min size n) (take n front), length-take n front, within) in
-    ext_get_or 0 left (take n (grown size front)) (omega (arith, count, length-take n (grown size front), length-grown size front, within)) (λ i less.
-    (let inside : i < n = omega (arith, count, less) in
-    get_or-grown (min size n) (take n front) i ∙ (get_or-take n front i 0 inside ∙ sym (get_or-take n (grown size front) i 0 inside ∙ get_or-grown size front i))))
 
 take_twice : (n m : ℕ) (xs : List ℕ) → take n (take m xs) ≡ take (min n m) xs
 take_twice n m xs = elim (cases_lt m n) [

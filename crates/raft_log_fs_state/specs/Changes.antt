@@ -40,8 +40,8 @@ bytes_in (Write offset rest) count after = take count (drop offset after)
 bytes_in (Shortening size) count after = []
 bytes_in (Growth size rest) count after = []
 
--- A change that was made. `rest` are the bytes or zeros that a failed write or growth was also asked for. `stamp` is
--- the number of changes, of any file, that were made before it.
+-- A change that was made. `rest` are the bytes or zeros that a failed write or growth was asked for, but didn't add.
+-- `stamp` is the number of changes, of any file, that were made before this one.
 pub record Made : Type 0 where
   pub stamp : ℕ
   pub change : disk.Change

@@ -18,8 +18,8 @@ pub record Keeps (count : ℕ) (bytes : List ℕ) (start end : ℕ) (former : Fo
   pub place : former.place ≡ start
   pub kept : former.bytes.items ≡ take (end - start) (drop start bytes)
 
--- The range of offsets whose bytes a change replaces; its end is excluded. `size` is the size of the content, or its
--- size without zeros at its end. Offsets from `size` on aren't in the range.
+-- The range of offsets whose bytes a change replaces; its end is excluded. `size` is the size of the content, or the
+-- offset at which the zeros at the content's end begin. Offsets from `size` on aren't in the range.
 abbrev pub replaced : disk.Change → ℕ → ℕ × ℕ
 replaced (Wrote at bytes) size = (min size at, min size (at + length bytes))
 replaced (ShortenedTo left) size = (min size left, size)

@@ -81,7 +81,7 @@ ChangesHeld id becomes old new = PutsHeld id (option_map becomes (held_of old id
 abbrev pub AllBecome : (Held → Held) → List (Option Stored) → List (Option Stored) → Type 0
 AllBecome becomes old new = (q : ℕ) → held_of new q ≡ option_map becomes (held_of old q)
 
--- the file after one more change; `rest` are the bytes or zeros that a failed write or growth was also asked for
+-- the file after one more change; `rest` are the bytes or zeros that a failed write or growth didn't add
 abbrev pub with_made : ℕ → Change → List ℕ → Held → Held
 with_made stamp change rest file = record {
   content = changed change file.content;

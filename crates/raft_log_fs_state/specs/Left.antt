@@ -16,8 +16,8 @@ left_front count (Wrote at bytes) old = overwritten at (take count bytes) old
 left_front count (ShortenedTo size) old = old
 left_front count (GrewTo size) old = old
 
--- `old` with what a crash left of a change: the bytes `other` instead of a write's own, but at most as many; all of a
--- truncation or growth
+-- `old` with what a crash left of a change. A write left the bytes `other` instead of its own, but at most as many. A
+-- truncation or growth was left whole.
 abbrev pub left_as : List ℕ → disk.Change → List ℕ → List ℕ
 left_as other (Wrote at bytes) old = overwritten at (take (length bytes) other) old
 left_as other (ShortenedTo size) old = changed (ShortenedTo size) old

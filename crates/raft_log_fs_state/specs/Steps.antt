@@ -17,21 +17,21 @@ pub record IsSame (old new : Storage) : Type 0 where
   pub contents : contents_of new ≡ contents_of old
   pub order : unsynced_of new ≡ unsynced_of old
 
--- The file after `change` was made. A failed write or growth may have been asked for `rest` too: the file's list of
--- changes includes these bytes, its content doesn't.
+-- The file after `change` was made. `rest` are the bytes or zeros that a failed write or growth was asked for, but
+-- didn't add. The file's list of changes includes `rest`, its content doesn't.
 abbrev pub after_part : Change → List ℕ → File → File
 after_part change rest file = with_change (with_rest change rest) (changed change file.content) file
 
--- File `id`, if it exists, got `change`, and this is the last unsynced change of all files. A failed write or growth
--- may have been asked for `rest` too.
+-- File `id`, if it exists, got `change`, and this is the last unsynced change of all files. `rest` are the bytes or
+-- zeros that a failed write or growth was asked for, but didn't add.
 pub record Makes (id : ℕ) (change : Change) (rest : List ℕ) (old new : Storage) : Type 0 where
   pub contents : (file : File) → (contents_of old).files id ≡ Some file
       → contents_of new ≡ with_file id (Some (after_part change rest file)) (contents_of old)
   pub order : unsynced_of new ≡ unsynced_of old ++ (id, change) ∷ []
 
 -- A growth of file `id` to `size` bytes failed and added no zero. If the file exists, its content is the same, and its
--- unsynced changes end with the growth that was asked for. The list of all files' changes ends with a growth that adds
--- nothing.
+-- unsynced changes end with the growth that was asked for. The list of all files' changes then ends with a growth that
+-- adds nothing.
 pub record NotesGrowth (id size : ℕ) (old new : Storage) : Type 0 where
   pub contents : (file : File) → (contents_of old).files id ≡ Some file
       → contents_of new ≡ with_file id (Some (with_change (GrewTo size) file.content file)) (contents_of old)

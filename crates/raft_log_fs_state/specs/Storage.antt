@@ -6,7 +6,7 @@ use Rattle.std.specs.BTreeMap.{get_by_text}
 use Rattle.std.specs.Map.{update}
 use Rattle.std.specs.Str.{bytes_eq}
 use Rattle.std.proofs.Props.{props}
-use Rattle.raft_log_fs.proofs.Props.{Change-set, IsSound-prop}
+use Rattle.raft_log_fs.proofs.Public.{Change-set, IsSound-prop}
 use Rattle.raft_log_fs.specs.Disk.{Change, File, Disk}
 use Rattle.raft_log_fs.specs.Image.{IsSound}
 use Rattle.raft_log_fs_state.specs.declared.storage.Node.{Node}
@@ -62,8 +62,9 @@ pub record IsStorageSound (storage : Storage) : Type 0 where
   pub sound : IsSound (contents_of storage)
   pub stamped : AreStamped storage.made (held_of storage.files.items)
 
--- For each existing file, the list of all files' unsynced changes has exactly that file's changes, in their order. If a
--- failed write wrote only a prefix, the list has this prefix, and the file has all bytes that were passed in.
+-- In the list of all files' unsynced changes, the changes of an existing file are that file's own changes, in the same
+-- order. If a failed write wrote only a prefix, the list has this prefix, and the file has all bytes that were passed
+-- in.
 abbrev pub OrderIsTheFiles : Type 0
 OrderIsTheFiles = (storage : Storage) (id : ℕ) (file : File) → IsStorageSound storage
     → (contents_of storage).files id ≡ Some file

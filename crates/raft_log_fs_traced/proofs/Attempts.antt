@@ -9,15 +9,12 @@ use Rattle.std.proofs.lemmas.Bool.{false≢true}
 use Rattle.raft_log_fs.specs.Disk.{Change, Wrote, GrewTo, File, Disk, changed, with_file, file_limit}
 use Rattle.raft_log_fs.specs.Image.{end_of, IsSound}
 use Rattle.raft_log_fs.specs.Calls.{IsStopKind, IsRight, after_change, Changes, Refused, stops, SomeOf, some}
-use Rattle.raft_log_fs.proofs.ImageLaws.{some_file}
-use Rattle.raft_log_fs.proofs.ChangeLaws.{changed_in_part, unchanged_in_part}
-use Rattle.raft_log_fs.proofs.SoundLaws.{sound_with_file, sound_with_change}
+use Rattle.raft_log_fs.proofs.Public.{changed_in_part, some_file, sound_with_change, sound_with_file, unchanged_in_part}
 use Rattle.raft_log_fs_state.specs.declared.storage.Storage.{Storage}
 use Rattle.raft_log_fs_state.specs.Storage.{contents_of}
 use Rattle.raft_log_fs_state.specs.Held.{held_of, file_of}
 use Rattle.raft_log_fs_state.specs.Steps.{Makes, NotesGrowth}
-use Rattle.raft_log_fs_state.proofs.Exits.{ok_then}
-use Rattle.raft_log_fs_state.proofs.Fronts.{after_whole, front_change}
+use Rattle.raft_log_fs_state.proofs.Public.{after_whole, front_change, ok_then}
 use Rattle.raft_log_fs_traced.specs.declared.device.Attempt.{Attempt}
 use Rattle.raft_log_fs_traced.specs.declared.device.Attempt.TheVariants as attempt
 use Rattle.raft_log_fs_traced.specs.Device.{Changed, Undone, Trace, Held, held_by, settled, undone_change, with_next, changed_by, with_bytes, attempted, noted, MayBeMade}

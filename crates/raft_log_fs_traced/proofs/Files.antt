@@ -5,11 +5,11 @@ use Rattle.std.specs.declared.io.ErrorKind.{ErrorKind}
 use Rattle.std.proofs.Common.{refl, ap, ◌∙◌}
 use Rattle.raft_log_fs.specs.Disk.{Change, File, with_file}
 use Rattle.raft_log_fs.specs.Calls.{Changes, after_change, flushed}
-use Rattle.raft_log_fs.proofs.ImageLaws.{some_file}
+use Rattle.raft_log_fs.proofs.Public.{some_file}
 use Rattle.raft_log_fs_state.specs.declared.storage.Storage.{Storage}
 use Rattle.raft_log_fs_state.specs.Storage.{contents_of}
 use Rattle.raft_log_fs_state.specs.Steps.{Makes, SyncsFile}
-use Rattle.raft_log_fs_state.proofs.Fronts.{after_whole}
+use Rattle.raft_log_fs_state.proofs.Public.{after_whole}
 use Rattle.raft_log_fs_traced.specs.Device.{Changed, Synced, Trace, noted, MayBeMade}
 use Rattle.raft_log_fs_traced.specs.Following.{Follows}
 use Rattle.raft_log_fs_traced.specs.Directory.{with_failures}

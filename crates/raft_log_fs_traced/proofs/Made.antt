@@ -27,9 +27,6 @@ abbrev over : Bool → ℕ → List ErrorKind → Disk → Disk
 over stopped failures kinds d = record d { unreadable = λ id place. false; stopped = stopped; failures = failures; kinds = kinds }
 
 module _ (call : DeviceCall) (old new : Storage) (trace later : Trace) where
-  kept_ok : Made call old new trace later (Ok tt) false → held_by later ≡ settled (contents_of new)
-  kept_ok m = m.ok (contents_of old) m.follows ∙ ap settled (sym m.did)
-
   kept_err : {e : ErrorKind} {s : Bool} → Made call old new trace later (Err e) s → ((held_by later).kept ≡ contents_of old) ⊎ ((held_by later).kept ≡ contents_of new)
   kept_err m = elim (m.err (contents_of old) m.follows) [ inl is ↦ inl is | inr is ↦ inr (is ∙ sym m.did) ]
 

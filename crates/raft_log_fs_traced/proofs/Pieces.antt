@@ -9,7 +9,7 @@ use Rattle.raft_log_fs_state.specs.declared.storage.Storage.{Storage}
 use Rattle.raft_log_fs_state.specs.Held.{Held, held_of, file_of, ReadsNumber, ReadsFront}
 use Rattle.raft_log_fs_state.specs.Steps.{size_of}
 use Rattle.raft_log_fs_state.specs.Storage.{contents_of}
-use Rattle.raft_log_fs_state.proofs.Whole.{some_file_held}
+use Rattle.raft_log_fs_state.proofs.Public.{some_file_held}
 use Rattle.raft_log_fs_traced.specs.Device.{HasBytes, Trace, WroteBack, held_by, noted}
 use Rattle.raft_log_fs_traced.specs.WritingBack.{WroteBackTo, WrotePieces, piece}
 

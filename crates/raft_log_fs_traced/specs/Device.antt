@@ -1,5 +1,5 @@
--- A device: the calls made on it, the disk that further calls see after them, and the disk that a crash leaves. A crash
--- "leaves" a disk in these comments if it leaves one of its images (`IsImage`): unsynced bytes may be lost.
+-- A device: the calls made on it, the disk that further calls see after them, and the disk that a crash leaves. In
+-- these comments, a crash "leaves" a disk if it leaves an image of that disk (`IsImage`): unsynced bytes may be lost.
 use Rattle.std.specs.Prelude.{◌≡◌, ℕ, ◌+◌, ◌≤◌, ◌⊎◌, not, suc, Option, Some, None, List, [], ◌∷◌, ◌++◌, length, take, drop, unwrap_or}
 use Rattle.std.specs.List.{filter}
 use Rattle.std.specs.Map.{update}
@@ -140,12 +140,12 @@ abbrev pub attempted : ℕ → Change → Attempt → DeviceCall
 attempted file change attempt.Made = Changed file change
 attempted file change (attempt.Undone kind) = Undone file change
 
--- A call failed, and either it was made on the device or no call was. `old` and `new` are the traces before and after.
+-- `call` failed. The device made the call nevertheless, or made none. `old` and `new` are the traces before and after.
 abbrev pub MayBeMade : DeviceCall → Trace → Trace → Type 0
 MayBeMade call old new = (new ≡ old) ⊎ (new ≡ noted call old)
 
--- Successful calls that change the disk by `next`. If no directory had to be synced before them, none has to be after.
--- Then later calls see the changed disk, and a crash leaves it.
+-- Successful calls that change the disk by `next`. Suppose that no directory had to be synced before these calls. Then
+-- none has to be synced after them, later calls see the changed disk, and a crash leaves it.
 abbrev pub Does : (Disk → Disk) → Trace → Trace → Type 0
 Does next old new = (d : Disk) → held_by old ≡ settled d → held_by new ≡ settled (next d)
 

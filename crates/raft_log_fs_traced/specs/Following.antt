@@ -2,7 +2,7 @@
 use Rattle.std.specs.Prelude.{◌≡◌, ℕ, Bool, false, List}
 use Rattle.std.specs.declared.io.ErrorKind.{ErrorKind}
 use Rattle.std.proofs.Props.{props}
-use Rattle.raft_log_fs.proofs.Props.{Change-set, File-set}
+use Rattle.raft_log_fs.proofs.Public.{Change-set, File-set}
 use Rattle.raft_log_fs.specs.Disk.{Disk}
 use Rattle.raft_log_fs_state.specs.declared.storage.Storage.{Storage}
 use Rattle.raft_log_fs_state.specs.Storage.{contents_of}

@@ -16,8 +16,9 @@ module _ {D : Type 0} (g : device.Ghosts D) where
   abbrev pub full_of : DirectoryFileSystem D g → List ℕ → Option ℕ
   full_of system = get_by_text system.full
 
-  -- `free` is the free space of `directory`, the lower of two numbers of bytes. `set` is what its files leave of the
-  -- space that is set for it. `found` is what they leave of the bytes that they had when one of them found no space.
+  -- `free` is the free space of `directory`: the lower of `set` and `found`. `set` is what the directory's files leave
+  -- of the space that is set for the directory. `found` is what these files leave of the bytes that they had when one
+  -- of them found no space.
   pub record TellsFree (system : DirectoryFileSystem D g) (directory : List ℕ) (free : ℕ) : Type 0 where
     pub set : ℕ
     pub found : ℕ

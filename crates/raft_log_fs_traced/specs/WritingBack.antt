@@ -20,7 +20,8 @@ abbrev pub WritesBack : ℕ → ℕ → Trace → Trace → Type 0
 WritesBack file size old new =
     (between : Trace) × WrotePieces file size old between × (new ≡ noted (Synced file) between)
 
--- Both traces begin with the same disk. After the calls of either trace, later calls and a crash find the same.
+-- Both traces begin with the same disk. After the calls of either trace, later calls see the same disk, a crash leaves
+-- the same disk, and the same directories have to be synced.
 abbrev pub LeavesBytes : Trace → Trace → Type 0
 LeavesBytes old new = (new.found ≡ old.found) × (held_by new ≡ held_by old)
 

@@ -4,7 +4,7 @@ mod checks;
 mod lengthening;
 mod space;
 
-ghost use Rattle.raft_log_fs.proofs.Props.{IsSound-prop};
+ghost use Rattle.raft_log_fs.proofs.Public.{IsSound-prop};
 ghost use Rattle.raft_log_fs.specs.Image.{IsSound};
 ghost use Rattle.raft_log_fs_state.specs.Storage.{IsStorageSound, IsWhole-prop};
 ghost use Rattle.raft_log_fs_traced.specs.Device.{held_by};

@@ -9,7 +9,7 @@ use Rattle.raft_log_fs.specs.Disk.{Disk}
 use Rattle.raft_log_replay.specs.Machines.{Batch}
 use Rattle.raft_log_replay.specs.Segments.{all_batches}
 use Rattle.raft_log_recovery_scan.specs.declared.scanning.found.FoundFile.{FoundFile}
-use Rattle.raft_log_recovery_scan.proofs.Steps.{zip_push}
+use Rattle.raft_log_recovery_scan.proofs.Public.{zip_push}
 use Rattle.raft_log_recovery_read.specs.Batches.{TakesBatches}
 use Rattle.raft_log_inspection.specs.Intact.{IsIntactFile}
 use Rattle.raft_log_inspection.specs.Steps.{HandsFile, HandsFiles}

@@ -39,7 +39,7 @@ IsUndamaged last content end fault =
     (fault ≡ None) ⊎ ((last ≡ true) × AreZeros (drop (unwrap_or end 0) content))
 
 -- The file is intact: it reads as a header and then these batches, each in a whole record with its entry block, and is
--- undamaged (`IsUndamaged`). `newest` is the number of the queue's last file, which may have no header.
+-- undamaged (`IsUndamaged`). `newest` is the number of the queue's last file. In that file, the header may be missing.
 pub record IsIntactFile (queue : LogQueue) (directories : List (List ℕ)) (d : Disk) (newest : ℕ) (file : FoundFile)
     (batches : List Batch) : Type 0 where
   pub node : ℕ
@@ -68,8 +68,8 @@ pub record IsIntactQueue (queue : LogQueue) (directories : List (List ℕ)) (d :
 abbrev pub IsClean : QueueInspection → Type 0
 IsClean inspection = (inspection.gaps.items ≡ []) × (inspection.damages.items ≡ [])
 
--- The records of a queue's files were passed to a replay machine, which was `old` before and is `new` after. If the
--- inspection found nothing wrong, the queue is intact, and these were its records.
+-- A queue was inspected. A replay machine took `batches`: it was `old` before and is `new` after. If the inspection
+-- found nothing wrong, the queue is intact, and `batches` are all its records.
 pub record InspectsQueue {M : Type 0} (reads : List Batch → M → Type 0) (queue : LogQueue)
     (directories : List (List ℕ)) (d : Disk) (old new : M) (inspection : QueueInspection) : Type 0 where
   pub batches : List Batch

@@ -119,12 +119,6 @@ any_opened m (batch ∷ pending) (x ∷ front) rest next splits is =
     let whole_is : taken m (x ∷ front) ≡ taken (taken m (batch ∷ [])) front = sym (taken_twice m (x ∷ []) front) ∙ ap (λ (b : BatchRecord). taken (taken m (b ∷ [])) front) same in
     inr (any_opened (taken m (batch ∷ [])) pending front rest next later (is ∙ ap (λ (k : Contents). seen Running k k) whole_is))
 
--- the kept contents of a view
-kept_is : (standing : Standing) (now kept : Contents) → (seen standing now kept).kept ≡ kept
-kept_is Closed now kept = refl
-kept_is Running now kept = refl
-kept_is Broken now kept = refl
-
 -- Outcomes.
 
 module _ {B C : Type 0} (says : B → BatchRecord) (m : Contents) (pending : List BatchRecord) (event : Event B C) (answer : Answer) where

@@ -1,7 +1,7 @@
 -- What a candidate comes to by an event, as the judge steps.
 use Rattle.std.proofs.Common.{◌≡◌, ◌↔◌, Bool, true, false, List, [], ◌∷◌, ◌++◌, ◌==◌, length, map, not, inl, arith, ap, refl, sym, subst, ◌∙◌}
 use Rattle.raft_log_model_laws.specs.Groups.{taken}
-use Rattle.raft_log_model_laws.proofs.Cases.{eq_false}
+use Rattle.raft_log_model_laws.proofs.Public.{eq_false}
 use Rattle.raft_log_world.specs.declared.event.Answer.{Answer}
 use Rattle.raft_log_world.specs.declared.event.Event.{Event}
 use Rattle.raft_log_world.specs.Model.{BatchRecord, ModelLog}

@@ -11,8 +11,7 @@ use Rattle.raft_log_model_laws.specs.Groups.{of_group, taken}
 use Rattle.raft_log_model_laws.specs.Meaning.{Content, Slot, after, write}
 use Rattle.raft_log_model_laws.specs.Meaning.Slot.{Index, Key}
 use Rattle.raft_log_model_laws.specs.Meaning.Content.{Entry, Value}
-use Rattle.raft_log_model_laws.proofs.Cases.{eq_false, from_eq_true, from_le_true, from_lt_false, from_lt_true, if_false, if_true, le_false, le_true}
-use Rattle.raft_log_model_laws.proofs.Words.{after_append}
+use Rattle.raft_log_model_laws.proofs.Public.{after_append, eq_false, from_eq_true, from_le_true, from_lt_false, from_lt_true, if_false, if_true, le_false, le_true}
 use Rattle.raft_log_world.specs.Reads.{Contents, HasNone, all_bytes}
 use Rattle.raft_log_judge.specs.declared.change.Change.{Change}
 use Rattle.raft_log_judge.specs.Changes.{says_of, tagged}

@@ -7,7 +7,7 @@ use Rattle.raft_log_model_laws.specs.Item.Record.{Plain, Part}
 use Rattle.raft_log_model_laws.specs.Groups.{of_group, taken}
 use Rattle.raft_log_model_laws.specs.Meaning.{Slot, after, write}
 use Rattle.raft_log_model_laws.specs.Meaning.Slot.{Index, Key}
-use Rattle.raft_log_model_laws.proofs.Steps.{taken_append}
+use Rattle.raft_log_model_laws.proofs.Public.{taken_append}
 use Rattle.raft_log_world.specs.declared.event.Answer.{Answer}
 use Rattle.raft_log_world.specs.declared.event.Answer.TheVariants.{Done, Found, At, Entries, Keys, Refused, Failed, Idle}
 use Rattle.raft_log_world.specs.declared.event.Call.{Call}
@@ -132,10 +132,6 @@ to_count m pending kept r = (
 
 pub sees : (standing : Standing) (m : Contents) (pending : List BatchRecord) (kept : Contents) → Reaches m pending kept → Sees standing m pending (seen standing (taken m pending) kept)
 sees standing m pending kept r = record { kept = kept; reaches = r; is = refl }
-
--- a view that is equal
-seen_as : (standing : Standing) (m : Contents) (pending : List BatchRecord) (view other : View) → view ≡ other → Sees standing m pending other → Sees standing m pending view
-seen_as standing m pending view other same s = record { kept = s.kept; reaches = s.reaches; is = same ∙ s.is }
 
 -- a view of the log is one by another list with the same contents after it
 by_contents : (standing : Standing) (m n : Contents) (pending rest : List BatchRecord) (view : View) → taken n rest ≡ taken m pending → ((kept : Contents) → Reaches n rest kept → Reaches m pending kept) → Sees standing n rest view → Sees standing m pending view

@@ -48,13 +48,14 @@ abbrev pub opened_logs : Contents → List BatchRecord → List ModelLog
 opened_logs m [] = running m [] ∷ []
 opened_logs m (batch ∷ pending) = running m [] ∷ opened_logs (taken m (batch ∷ [])) pending
 
--- the candidates for these logs are added at the end of the list
+-- the candidates for these logs were added at the end of the list
 pub record AddsLogs (logs : List ModelLog) (old new : List Candidate) : Type 0 where
   pub more : List Candidate
   pub adds : new ≡ old ++ more
   pub are : map log_of more ≡ logs
 
--- candidates are added to the list `old` for what `log` may be after this event with this answer
+-- candidates were added at the end of the list `old`: those for the logs that `log` may become by this event with this
+-- answer
 pub record AddsNexts {C : Type 0} (log : ModelLog) (event : Event (List Change) C) (answer : Answer)
     (old new : List Candidate) : Type 0 where
   pub more : List Candidate

@@ -27,7 +27,8 @@ IsBefore (Some end) index = index < end
 abbrev pub NoneIn : Contents → ℕ → ℕ → Option ℕ → Type 0
 NoneIn m group begin end = (index : ℕ) → begin ≤ index → IsBefore end index → m group (Index index) ≡ None
 
--- in the contents `m`, the group has no entry at the indexes of this item from `begin` on, below `end` if there is one
+-- If the item is a run, take those of its indexes that are at least `begin`, and below `end` if there is one. In the
+-- contents `m`, the group has no entry at any of them.
 abbrev pub IsGone : Contents → ℕ → ℕ → Option ℕ → Item (List ℕ) (List ℕ) → Type 0
 IsGone m group begin end (Run first entries) = (index : ℕ) → begin ≤ index → IsBefore end index → first ≤ index
     → index < first + length entries → m group (Index index) ≡ None
@@ -38,8 +39,8 @@ abbrev pub AllGone : Contents → ℕ → ℕ → Option ℕ → List (Tagged (L
 AllGone m group begin end [] = Unit {0}
 AllGone m group begin end (x ∷ xs) = (x.group ≡ group → IsGone m group begin end x.item) × AllGone m group begin end xs
 
--- If key `k` is at least `start` and below `end`, it has no value in the contents `m`, or one of `pairs` has this key.
--- Either bound may be missing.
+-- Suppose key `k` is at least `start` and below `end`; either bound may be missing. Then `k` has no value in the
+-- contents `m`, or one of `pairs` has this key.
 abbrev pub IsListed : Contents → ℕ → Option (List ℕ) → Option (List ℕ) → List (List ℕ × List ℕ) → List ℕ → Type 0
 IsListed m group start end pairs k = is_from start k && is_below end k ≡ true
     → (m group (Key k) ≡ None) ⊎ (is_some (lookup (bytes_eq k) pairs) ≡ true)

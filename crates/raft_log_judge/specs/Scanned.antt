@@ -12,8 +12,8 @@ use Rattle.raft_log_world.specs.Reads.{Contents, is_below, is_from}
 abbrev pub AreBelow : List ℕ → List (List ℕ) → Type 0
 AreBelow k ks = AllByRecursion (λ y. slice_cmp nat_cmp k y ≡ Less) ks
 
--- the pair's key is at least `start` and below `end`, if there are such bounds, and in the contents `m` it has the
--- pair's value
+-- The pair's key is at least `start` and below `end`; either bound may be missing. In the contents `m`, the key has the
+-- pair's value.
 abbrev pub IsRight : Contents → ℕ → Option (List ℕ) → Option (List ℕ) → List ℕ × List ℕ → Type 0
 IsRight m group start end pair = (is_from start pair.0 && is_below end pair.0 ≡ true)
     × (m group (Key pair.0) ≡ Some (Value pair.1))

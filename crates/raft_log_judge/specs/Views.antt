@@ -60,9 +60,9 @@ abbrev pub AnyFits : List ModelLog → View → Type 0
 AnyFits [] view = ⊥
 AnyFits (log ∷ logs) view = Fits log view ⊎ AnyFits logs view
 
--- What a call with this answer does to the log of a running engine. `Adds` adds the call's batch, `Turns` only changes
--- the standing; their flag says whether all batches are durable then. `Reads` changes nothing. An impossible answer
--- gives `Never`.
+-- What a call with this answer does to the log of a running engine. `Adds` adds the call's batch, and `Turns` adds
+-- none. Both give the log's standing afterwards, and a flag: whether all batches are durable then. `Reads` changes
+-- nothing. An impossible answer gives `Never`.
 abbrev pub call_outcome : {B : Type 0} → Call B → Answer → Outcome
 call_outcome (Write batch sync) Done = Adds Running sync
 call_outcome (Write batch sync) Refused = Turns Running false
@@ -129,8 +129,9 @@ IsRead m (Serve (Scan group start end)) (Keys pairs) =
     Scans m group (bytes_of start) (bytes_of end) (pairs_of pairs.items)
 IsRead m event answer = ⊥
 
--- How `view` becomes `next` by an outcome. `read` says that a read's answer is right for the view. After a batch is
--- added without a sync, a crash may leave all batches with this one, or what a crash could leave before it.
+-- How `view` becomes `next` by an outcome. `read` says that a read's answer is right for the view. If a batch is added
+-- without a sync, a crash afterwards leaves one of two: all batches with this one, or what a crash before the batch
+-- could leave.
 abbrev pub Turned : Outcome → BatchRecord → Type 0 → View → View → Type 0
 Turned Never batch read view next = ⊥
 Turned Reads batch read view next = read × (next ≡ view)
@@ -148,14 +149,14 @@ abbrev pub Moves : {B C : Type 0} → (B → BatchRecord) → View → Event B C
 Moves says view event answer next =
     Turned (outcome view.standing event answer) (batch_of says event) (IsRead view.now event answer) view next
 
--- from `view` on, `answers` are possible as the answers to `events`, one for each
+-- starting at `view`, `answers` are possible as the answers to `events`, one for each
 abbrev pub Goes : {B C : Type 0} → (B → BatchRecord) → View → List (Event B C) → List Answer → Type 0
 Goes says view [] [] = Unit {0}
 Goes says view (event ∷ events) (answer ∷ answers) =
     (next : View) × Moves says view event answer next × Goes says next events answers
 Goes says view events answers = ⊥
 
--- from a view of one of the logs on, `answers` are possible as the answers to `events`
+-- starting at a view of one of the logs, `answers` are possible as the answers to `events`
 abbrev pub AnyGoes : {B C : Type 0} → (B → BatchRecord) → List ModelLog → List (Event B C) → List Answer → Type 0
 AnyGoes says logs events answers = (view : View) × AnyFits logs view × Goes says view events answers
 

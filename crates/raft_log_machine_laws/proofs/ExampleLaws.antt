@@ -9,9 +9,7 @@ use Rattle.raft_log_model_laws.specs.Meaning.{Slot, Content, says, holds}
 use Rattle.raft_log_model_laws.specs.Meaning.Slot.{Index, Key}
 use Rattle.raft_log_model_laws.specs.Meaning.Content.{Entry, Value}
 use Rattle.raft_log_model_laws.specs.Groups.{of_group, appended, Map, taken}
-use Rattle.raft_log_model_laws.proofs.Cases.{at_bool, if_false, from_eq_true}
-use Rattle.raft_log_model_laws.proofs.Tests.{run_sets}
-use Rattle.raft_log_model_laws.proofs.Windows.{Spans, one_run_fits}
+use Rattle.raft_log_model_laws.proofs.Public.{at_bool, from_eq_true, if_false, one_run_fits, run_sets, Spans}
 use Rattle.raft_log_machine_laws.specs.Queue.{takes, synced, raised, reread, with_append, with_rewrite}
 use Rattle.raft_log_machine_laws.specs.Whereabouts.{Whereabouts, top, with_key, GrowsBy, CarriesAll, OwesNothing, HasAppended}
 use Rattle.raft_log_machine_laws.specs.Recovery.{IsRecovered}

@@ -8,8 +8,7 @@ use Rattle.raft_log_model_laws.specs.Item.Mark.{Begin, Middle, End}
 use Rattle.raft_log_model_laws.specs.Meaning.{Content, write, says}
 use Rattle.raft_log_model_laws.specs.Meaning.Slot.{Index}
 use Rattle.raft_log_model_laws.specs.Groups.{of_group, settle, settled, none_open, set_open, onto, Open, rewritten}
-use Rattle.raft_log_model_laws.proofs.Cases.{at_bool, at_option}
-use Rattle.raft_log_model_laws.proofs.Tests.{run_truncates}
+use Rattle.raft_log_model_laws.proofs.Public.{at_bool, at_option, run_truncates}
 use Rattle.raft_log_machine_laws.specs.Whereabouts.{top}
 use Rattle.raft_log_machine_laws.specs.Machine.{Fits, AllFit, RecordsFit}
 use Rattle.raft_log_machine_laws.proofs.TruthRaises.{no_word}

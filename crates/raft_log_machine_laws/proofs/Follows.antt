@@ -3,7 +3,7 @@ use Rattle.std.proofs.Common.{◌≡◌, ℕ, ◌+◌, List, [], ◌∷◌, ◌+
 use Rattle.std.proofs.Math.Path.{fun_ext}
 use Rattle.raft_log_model_laws.specs.Item.{Record}
 use Rattle.raft_log_model_laws.specs.Groups.{Map, taken}
-use Rattle.raft_log_model_laws.proofs.Steps.{taken_append}
+use Rattle.raft_log_model_laws.proofs.Public.{taken_append}
 use Rattle.raft_log_machine_laws.specs.Files.{LogFile, FileQueue, FileEvent, FileStep, numbered_from}
 use Rattle.raft_log_machine_laws.specs.Files.FileEvent.{Grow, Sync, Rotate, Raise, Lose, Read}
 use Rattle.raft_log_machine_laws.specs.Model.{Files, running, IsModelSound, with_append, with_rewrite}

@@ -7,8 +7,7 @@ use Rattle.raft_log_model_laws.specs.Item.Item.{Run, Clean, Compact, Put, Del}
 use Rattle.raft_log_model_laws.specs.Meaning.{Slot, Content, write, says, after}
 use Rattle.raft_log_model_laws.specs.Meaning.Slot.{Index, Key}
 use Rattle.raft_log_model_laws.specs.Meaning.Content.{Value}
-use Rattle.raft_log_model_laws.proofs.Tests.{run_sets, run_leaves}
-use Rattle.raft_log_model_laws.proofs.Words.{unwrap_or_option_or}
+use Rattle.raft_log_model_laws.proofs.Public.{run_leaves, run_sets, unwrap_or_option_or}
 use Rattle.raft_log_machine_laws.specs.Survival.{IsSpoken}
 use Rattle.raft_log_machine_laws.specs.Whereabouts.{Whereabouts, AppendTakes, GrowsBy, Carries, CarriesAll}
 use Rattle.raft_log_machine_laws.proofs.Starts.{spoken_newer}

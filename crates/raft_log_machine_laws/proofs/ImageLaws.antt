@@ -5,7 +5,7 @@ use Rattle.raft_log_model_laws.specs.Meaning.{Slot, Content, says, holds, direct
 use Rattle.raft_log_model_laws.specs.Meaning.Slot.{Index}
 use Rattle.raft_log_model_laws.specs.Groups.{appended, rewritten, taken}
 use Rattle.raft_log_model_laws.specs.Holes.{directory_by_intervals, IsSolid}
-use Rattle.raft_log_model_laws.proofs.Intervals.{by_intervals_solid}
+use Rattle.raft_log_model_laws.proofs.Public.{by_intervals_solid}
 use Rattle.raft_log_machine_laws.specs.Queue.{reread}
 use Rattle.raft_log_machine_laws.specs.Whereabouts.{Whereabouts}
 use Rattle.raft_log_machine_laws.specs.Recovery.{IsRecovered}

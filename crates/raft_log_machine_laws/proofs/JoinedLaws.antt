@@ -9,9 +9,7 @@ use Rattle.raft_log_model_laws.specs.Meaning.{Slot, write, says}
 use Rattle.raft_log_model_laws.specs.Meaning.Slot.{Index, Key}
 use Rattle.raft_log_model_laws.specs.Meaning.Content.{Entry}
 use Rattle.raft_log_model_laws.specs.Holes.{Window, next_window, window, NoHole}
-use Rattle.raft_log_model_laws.proofs.Tests.{run_sets, run_leaves}
-use Rattle.raft_log_model_laws.proofs.TableSteps.{get_front, get_back}
-use Rattle.raft_log_model_laws.proofs.Holes.{no_hole_front, no_hole_end, no_hole_append}
+use Rattle.raft_log_model_laws.proofs.Public.{get_back, get_front, no_hole_append, no_hole_end, no_hole_front, run_leaves, run_sets}
 use Rattle.raft_log_machine_laws.specs.Machine.{IsJoined}
 use Rattle.raft_log_machine_laws.proofs.Words.{option_or_assoc, says_append}
 

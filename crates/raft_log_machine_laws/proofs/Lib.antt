@@ -1,3 +1,4 @@
+pub mod Public
 pub mod AppendNotes
 pub mod CallLaws
 pub mod DirectoryLaws

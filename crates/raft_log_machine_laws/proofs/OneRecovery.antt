@@ -4,7 +4,7 @@ use Rattle.std.proofs.lemmas.Bool.{cases_lt}
 use Rattle.raft_log_model_laws.specs.Item.{Item}
 use Rattle.raft_log_model_laws.specs.Meaning.{Slot, Content, says}
 use Rattle.raft_log_model_laws.specs.Meaning.Slot.{Index, Key}
-use Rattle.raft_log_model_laws.proofs.Cases.{at_bool}
+use Rattle.raft_log_model_laws.proofs.Public.{at_bool}
 use Rattle.raft_log_machine_laws.specs.Whereabouts.{Whereabouts}
 use Rattle.raft_log_machine_laws.specs.Recovery.{IsRecovered, StandAlike}
 use Rattle.raft_log_machine_laws.proofs.TruthRaises.{no_word}

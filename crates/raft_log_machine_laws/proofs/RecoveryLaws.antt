@@ -9,12 +9,7 @@ use Rattle.raft_log_model_laws.specs.Meaning.Content.{Entry, Value}
 use Rattle.raft_log_model_laws.specs.Holes.{Window, Spans, nothing, window, NoHole, has_clean, IsSolid}
 use Rattle.raft_log_model_laws.specs.Table.{Table, content, span_of, IsTableOf}
 use Rattle.raft_log_model_laws.specs.Summary.{Summary, directory_table, IsSummary}
-use Rattle.raft_log_model_laws.proofs.Cases.{at_option, if_true, if_false, lt_true, lt_false}
-use Rattle.raft_log_model_laws.proofs.Windows.{one_run_fits, same_spans}
-use Rattle.raft_log_model_laws.proofs.TableSteps.{content_below, content_above}
-use Rattle.raft_log_model_laws.proofs.Summaries.{content_word}
-use Rattle.raft_log_model_laws.proofs.Joins.{stands_in}
-use Rattle.raft_log_model_laws.proofs.AnySummary.{directory_of_any}
+use Rattle.raft_log_model_laws.proofs.Public.{at_option, content_above, content_below, content_word, directory_of_any, if_false, if_true, lt_false, lt_true, one_run_fits, same_spans, stands_in}
 use Rattle.raft_log_machine_laws.specs.Whereabouts.{Whereabouts, top}
 use Rattle.raft_log_machine_laws.specs.Truth.{SaysOfSlot, AreCorrect}
 use Rattle.raft_log_machine_laws.specs.Recovery.{has_compact, has_del, IsRecovered, HasMarks, IsReadOff}

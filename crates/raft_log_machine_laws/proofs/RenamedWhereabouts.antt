@@ -10,7 +10,7 @@ use Rattle.raft_log_model_laws.specs.Meaning.Content.{Entry}
 use Rattle.raft_log_model_laws.specs.Groups.{Map}
 use Rattle.raft_log_model_laws.specs.Holes.{has_clean}
 use Rattle.raft_log_model_laws.specs.Renamed.{renamed, renamed_content, renamed_word, renamed_map}
-use Rattle.raft_log_model_laws.proofs.RenamedLaws.{says_renamed}
+use Rattle.raft_log_model_laws.proofs.Public.{says_renamed}
 use Rattle.raft_log_machine_laws.specs.Whereabouts.{Whereabouts, top, Alone, GoesOn, AppendTakes, GrowsBy, RunStands, NothingRewritten, Carries, CarriesAll, HasAppended, HasRewritten}
 use Rattle.raft_log_machine_laws.specs.Recovery.{has_compact, has_del, IsRecovered}
 use Rattle.raft_log_machine_laws.specs.Images.{IsOneRun}

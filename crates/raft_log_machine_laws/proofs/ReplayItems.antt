@@ -9,8 +9,7 @@ use Rattle.raft_log_model_laws.specs.Meaning.{Slot, Content, write, says, holds}
 use Rattle.raft_log_model_laws.specs.Meaning.Slot.{Index}
 use Rattle.raft_log_model_laws.specs.Meaning.Content.{Entry}
 use Rattle.raft_log_model_laws.specs.Holes.{Window, nothing, next_window, window, FitsOn, NoHole}
-use Rattle.raft_log_model_laws.proofs.Holes.{no_hole_append, window_append}
-use Rattle.raft_log_model_laws.proofs.Windows.{Spans, one_run_fits}
+use Rattle.raft_log_model_laws.proofs.Public.{no_hole_append, one_run_fits, window_append, Spans}
 use Rattle.raft_log_machine_laws.specs.Whereabouts.{Whereabouts, top, AppendTakes, GrowsBy, Carries, CarriesAll}
 use Rattle.raft_log_machine_laws.specs.Truth.{SaysOfSlot, AreCorrect}
 use Rattle.raft_log_machine_laws.proofs.RecoveryLaws.{ends_alike, run_told}
@@ -80,9 +79,6 @@ not_past_within wf we f h = grind (arith, nat_tests)
 
 module _ {E V : Type 0} (said : SaysOfSlot E V) (m : Slot → Option (Content E V)) (t : Whereabouts) (b : AreCorrect said m t) (whole : List (Item E V))
     (all : (s : Slot) → said.lowest s ≡ says s whole) (no_hole : NoHole nothing whole) where
-  run : Window
-  run = window nothing whole
-
   spans : Spans (window nothing whole).first (window nothing whole).end (λ i. holds (Index i) whole)
   spans = one_run_fits whole no_hole
 

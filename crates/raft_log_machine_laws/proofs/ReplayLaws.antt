@@ -6,7 +6,7 @@ use Rattle.raft_log_model_laws.specs.Item.Mark.{Begin, Middle, End}
 use Rattle.raft_log_model_laws.specs.Meaning.{Slot, Content, says}
 use Rattle.raft_log_model_laws.specs.Groups.{of_group, counts, settle, settled, opened, none_open, onto, appended, rewritten, taken}
 use Rattle.raft_log_model_laws.specs.Holes.{Window, nothing, window, NoHole}
-use Rattle.raft_log_model_laws.proofs.Holes.{no_hole_front, no_hole_end, no_hole_append, window_append, no_hole_later, tail_no_hole, IsTail}
+use Rattle.raft_log_model_laws.proofs.Public.{no_hole_append, no_hole_end, no_hole_front, no_hole_later, tail_no_hole, window_append, IsTail}
 use Rattle.raft_log_machine_laws.specs.Unbroken.{IsUnbroken, begun, joined}
 use Rattle.raft_log_machine_laws.specs.Queue.{Queue, Store, all_records, takes, left, reread, with_append, with_rewrite}
 use Rattle.raft_log_machine_laws.specs.Whereabouts.{Whereabouts, GrowsBy, CarriesAll}

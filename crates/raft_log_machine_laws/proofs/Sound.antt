@@ -41,9 +41,6 @@ sound_step e d n step k r a = record {
 }
 
 module _ {E V : Type 0} (f : Files E V) (m : Map E V) (ws : ℕ → Whereabouts) (k : IsModelSound (running f m ws)) where
-  w : Machine E V
-  w = machine_of (running f m ws)
-
   -- the machine with another Append, and with another Rewrite
   abbrev append_is : Map E V → (ℕ → Whereabouts) → Queue E V → Machine E V
   append_is map whereabouts q = record { store = store_with_append (machine_of (running f m ws)).store q; map = map; whereabouts = whereabouts; failed = false }

@@ -115,10 +115,6 @@ module _ {E V : Type 0} where
   AllFrom-append n [] gs h k = k
   AllFrom-append n (f ∷ fs) gs h k = (h.0, AllFrom-append n fs gs h.1 k)
 
-  pub AllFrom-front : (n : ℕ) (fs gs : List (LogFile E V)) → AllFrom n (fs ++ gs) → AllFrom n fs
-  AllFrom-front n [] gs h = tt
-  AllFrom-front n (f ∷ fs) gs h = (h.0, AllFrom-front n fs gs h.1)
-
   pub AllFrom-back : (n : ℕ) (fs gs : List (LogFile E V)) → AllFrom n (fs ++ gs) → AllFrom n gs
   AllFrom-back n [] gs h = h
   AllFrom-back n (f ∷ fs) gs h = AllFrom-back n fs gs h.1
@@ -126,11 +122,6 @@ module _ {E V : Type 0} where
   pub AllFrom-lower : (n k : ℕ) (fs : List (LogFile E V)) → k ≤ n → AllFrom n fs → AllFrom k fs
   AllFrom-lower n k [] le h = tt
   AllFrom-lower n k (f ∷ fs) le h = (let at : n ≤ f.number = h.0 in omega arith, AllFrom-lower n k fs le h.1)
-
-  -- the same of files that lie behind
-  pub AllBelow-front : (n : ℕ) (fs gs : List (LogFile E V)) → AllBelow n (fs ++ gs) → AllBelow n fs
-  AllBelow-front n [] gs h = tt
-  AllBelow-front n (f ∷ fs) gs h = (h.0, AllBelow-front n fs gs h.1)
 
   pub AllBelow-back : (n : ℕ) (fs gs : List (LogFile E V)) → AllBelow n (fs ++ gs) → AllBelow n gs
   AllBelow-back n [] gs h = h

@@ -5,7 +5,7 @@ use Rattle.raft_log_model_laws.specs.Item.Record.{Plain, Part}
 use Rattle.raft_log_model_laws.specs.Item.Mark.{Begin, Middle, End}
 use Rattle.raft_log_model_laws.specs.Groups.{Open, none_open, counts, opens}
 use Rattle.raft_log_model_laws.specs.Tidy.{Apart, Undisturbed, Tidy}
-use Rattle.raft_log_model_laws.proofs.Cases.{at_bool, from_eq_true, from_eq_false}
+use Rattle.raft_log_model_laws.proofs.Public.{at_bool, from_eq_false, from_eq_true}
 use Rattle.raft_log_machine_laws.specs.Unbroken.{UnbrokenFrom, IsUnbroken}
 
 other : (k n : ℕ) → (k == n) ≡ false → ◌≡◌ {A = Option ℕ} (Some k) (Some n) → ⊥

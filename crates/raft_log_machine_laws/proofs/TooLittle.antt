@@ -6,7 +6,7 @@ use Rattle.raft_log_model_laws.specs.Item.Item.{Run}
 use Rattle.raft_log_model_laws.specs.Meaning.Content.{Entry}
 use Rattle.raft_log_model_laws.specs.Groups.{appended, directory_meaning}
 use Rattle.raft_log_model_laws.specs.Holes.{nothing, NoHole}
-use Rattle.raft_log_model_laws.proofs.Cases.{at_bool}
+use Rattle.raft_log_model_laws.proofs.Public.{at_bool}
 use Rattle.raft_log_machine_laws.specs.Whereabouts.{Whereabouts, top}
 use Rattle.raft_log_machine_laws.specs.Recovery.{IsRecovered}
 use Rattle.raft_log_machine_laws.specs.Replay.{IsReplayable}
@@ -16,9 +16,6 @@ use Rattle.raft_log_machine_laws.specs.WrongRules.{failed_on, entry_1, entry_3}
 use Rattle.raft_log_machine_laws.proofs.TruthCarries.{differ}
 use Rattle.raft_log_machine_laws.proofs.TruthRaises.{no_word}
 use Rattle.raft_log_machine_laws.proofs.WrongRuleLaws.{lone_holds}
-
-abbrev gap : Machine ℕ ℕ
-gap = failed_on (entry_1 ∷ []) (entry_3 ∷ [])
 
 low_fits : 2 ≤ top
 unfolding top

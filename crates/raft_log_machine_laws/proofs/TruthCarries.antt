@@ -8,8 +8,7 @@ use Rattle.raft_log_model_laws.specs.Item.Item.{Run, Clean, Compact, Put, Del}
 use Rattle.raft_log_model_laws.specs.Meaning.{Slot, Content, write, says}
 use Rattle.raft_log_model_laws.specs.Meaning.Slot.{Index, Key}
 use Rattle.raft_log_model_laws.specs.Meaning.Content.{Value}
-use Rattle.raft_log_model_laws.proofs.Cases.{at_bool}
-use Rattle.raft_log_model_laws.proofs.Tests.{run_sets, run_truncates, run_leaves, compact_removes, compact_leaves, from_same_key}
+use Rattle.raft_log_model_laws.proofs.Public.{at_bool, compact_leaves, compact_removes, from_same_key, run_leaves, run_sets, run_truncates}
 use Rattle.raft_log_machine_laws.specs.Survival.{IsSpoken, IsHarmless}
 use Rattle.raft_log_machine_laws.specs.Whereabouts.{Whereabouts, top, with_key, RunStands, Carries, CarriesAll, NothingRewritten}
 use Rattle.raft_log_machine_laws.specs.Truth.{SaysOfSlot, AreCorrect, IsRightInRewrite, IsSettledKey}

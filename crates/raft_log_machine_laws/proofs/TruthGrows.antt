@@ -8,9 +8,7 @@ use Rattle.raft_log_model_laws.specs.Item.Item.{Run, Clean, Compact, Put, Del}
 use Rattle.raft_log_model_laws.specs.Meaning.{Slot, Content, write, says, after}
 use Rattle.raft_log_model_laws.specs.Meaning.Slot.{Index, Key}
 use Rattle.raft_log_model_laws.specs.Meaning.Content.{Entry, Value}
-use Rattle.raft_log_model_laws.proofs.Cases.{at_bool}
-use Rattle.raft_log_model_laws.proofs.Windows.{inside}
-use Rattle.raft_log_model_laws.proofs.Tests.{run_sets, run_truncates, run_leaves, compact_removes, compact_leaves}
+use Rattle.raft_log_model_laws.proofs.Public.{at_bool, compact_leaves, compact_removes, inside, run_leaves, run_sets, run_truncates}
 use Rattle.raft_log_machine_laws.specs.Survival.{IsSpoken}
 use Rattle.raft_log_machine_laws.specs.Whereabouts.{Whereabouts, top, with_key, Alone, GoesOn, compacted_first, AppendTakes, GrowsBy}
 use Rattle.raft_log_machine_laws.proofs.Words.{option_or_assoc, unwrap_or_option_or}

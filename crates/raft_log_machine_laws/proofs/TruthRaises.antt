@@ -7,8 +7,7 @@ use Rattle.raft_log_model_laws.specs.Item.Item.{Run, Clean, Compact, Put, Del}
 use Rattle.raft_log_model_laws.specs.Meaning.{Slot, Content, write, says}
 use Rattle.raft_log_model_laws.specs.Meaning.Slot.{Index, Key}
 use Rattle.raft_log_model_laws.specs.Meaning.Content.{Entry}
-use Rattle.raft_log_model_laws.proofs.Cases.{at_bool, at_option}
-use Rattle.raft_log_model_laws.proofs.Tests.{run_sets, run_leaves}
+use Rattle.raft_log_model_laws.proofs.Public.{at_bool, at_option, run_leaves, run_sets}
 use Rattle.raft_log_machine_laws.specs.Survival.{IsSpoken}
 use Rattle.raft_log_machine_laws.specs.Whereabouts.{Whereabouts, top, OwesNothing, HasAppended, HasRewritten}
 use Rattle.raft_log_machine_laws.specs.Truth.{SaysOfSlot, AreCorrect, IsRightInRewrite, IsSettledKey}

@@ -8,8 +8,7 @@ use Rattle.raft_log_model_laws.specs.Meaning.{Slot, Content, write, says}
 use Rattle.raft_log_model_laws.specs.Meaning.Slot.{Index, Key}
 use Rattle.raft_log_model_laws.specs.Meaning.Content.{Entry, Value}
 use Rattle.raft_log_model_laws.specs.Holes.{has_clean}
-use Rattle.raft_log_model_laws.proofs.Cases.{at_bool, at_option}
-use Rattle.raft_log_model_laws.proofs.Tests.{run_sets, run_leaves, compact_removes, compact_leaves}
+use Rattle.raft_log_model_laws.proofs.Public.{at_bool, at_option, compact_leaves, compact_removes, run_leaves, run_sets}
 use Rattle.raft_log_machine_laws.specs.Survival.{IsSpoken}
 use Rattle.raft_log_machine_laws.specs.Whereabouts.{Whereabouts}
 use Rattle.raft_log_machine_laws.specs.Truth.{SaysOfSlot, AreCorrect, IsRightInRewrite, IsSettledIndex, IsSettledKey}

@@ -4,8 +4,7 @@ use Rattle.std.specs.Option.{option_or}
 use Rattle.raft_log_model_laws.specs.Item.{Record}
 use Rattle.raft_log_model_laws.specs.Meaning.{Slot, says, holds}
 use Rattle.raft_log_model_laws.specs.Groups.{of_group, settled, opened, counts, none_open, appended, rewritten, directory_meaning}
-pub use Rattle.raft_log_model_laws.proofs.Words.{option_or_none, option_or_assoc, says_append, unwrap_or_option_or}
-pub use Rattle.raft_log_model_laws.proofs.Records.{of_group_append, contents_append, settle_append, opened_append, appended_append}
+pub use Rattle.raft_log_model_laws.proofs.Public.{appended_append, contents_append, of_group_append, opened_append, option_or_assoc, option_or_none, says_append, settle_append, unwrap_or_option_or}
 
 module _ {E V : Type 0} where
   -- what later records of Append say, else what earlier ones say

@@ -1,6 +1,8 @@
--- What a call of a pipe does to the numbered files of its queue; `s` is the pipe's state before the call, and `t` after
--- it. `ties s f`: a running pipe in state `s` may have the files `f`. `allows s f`: `f` allow each image that a crash
--- may leave. Quiet events are syncs, rotations, and losses of files below the live range.
+-- What a call of a pipe does to the numbered files of its queue. The pipe is in state `s` before the call, and in state
+-- `t` after it.
+-- - `ties s f`: a running pipe in state `s` may have the files `f`. Each definition is about all such files.
+-- - `allows s f`: if the pipe is in state `s`, a crash can leave only images of the files `f`.
+-- Quiet events are syncs, rotations, and losses of files below the live range.
 use Rattle.std.specs.Prelude.{◌≡◌, ℕ, ◌⊎◌, List, [], ◌++◌}
 use Rattle.raft_log_model_laws.specs.Item.{Record, Tagged}
 use Rattle.raft_log_model_laws.specs.Groups.{Map, appended, directory_meaning}
@@ -27,7 +29,7 @@ abbrev pub from_at : {E V : Type 0} → Which → Files E V → ℕ
 from_at InAppend f = f.append_from
 from_at InRewrite f = f.rewrite_from
 
--- files `f`, but with `q` as this queue's files; `from` is the number of the first one after the last gap
+-- files `f`, but with `q` as this queue's files; the first of `q` after the last gap has the number `from`
 abbrev pub put : {E V : Type 0} → Which → Files E V → ℕ → FileQueue E V → Files E V
 put InAppend f from q = with_append f from q
 put InRewrite f from q = with_rewrite f from q
@@ -53,8 +55,8 @@ abbrev pub LeavesOut : {S E V : Type 0} → (S → Files E V → Type 0) → Whi
 LeavesOut {S} {E} {V} ties which s t =
     (f : Files E V) → ties s f → (a : MovedIn which f) × ties t (put which f a.from a.queue)
 
--- The pipe fails, after some quiet events. Then the files with the record, or those without it, allow each image that a
--- crash may leave.
+-- The pipe fails, after some quiet events. After that, a crash can leave only images of the files without the record,
+-- or only images of the files with it.
 abbrev pub MayAppend : {S E V : Type 0} → (S → Files E V → Type 0) → (S → Files E V → Type 0) → Which
     → Record E V → S → S → Type 0
 MayAppend {S} {E} {V} ties allows which y s t =
@@ -73,7 +75,7 @@ Settles {S} {E} {V} ties which s t =
     (f : Files E V) → ties s f
     → (a : MovedIn which f) × (a.queue.pending ≡ []) × ties t (put which f a.from a.queue)
 
--- the pipe fails; after that, the files that it had before still allow each image that a crash may leave
+-- the pipe fails; after that, a crash can leave only images of the files that the pipe had before
 abbrev pub FailsWhole : {S E V : Type 0} → (S → Files E V → Type 0) → (S → Files E V → Type 0) → S → S
     → Type 0
 FailsWhole {S} {E} {V} ties allows s t = (f : Files E V) → ties s f → allows t f
@@ -116,8 +118,9 @@ pub record IsMadeOf {E V : Type 0} (v : View E V) (rewrite append : List (Record
   pub noted : AreNoted v.whereabouts v.noted f.append
   pub noted_in_rewrite : AreNotedInRewrite v.map v.whereabouts v.noted_in_rewrite f.rewrite
 
--- For any files that may have been there, an open reads some image of them, and syncs what it reads. If the records
--- that it read give each raft group one run of entries, the view is built from them.
+-- Suppose that before the open, a crash could leave only images of the files `f`. The open then reads some image of
+-- them, and syncs what it reads. If the records that it read give each raft group one run of entries, view `v` is built
+-- from these records.
 abbrev pub Replays : {S E V : Type 0} → (S → Files E V → Type 0) → (S → Files E V → Type 0) → View E V → S → S
     → Type 0
 Replays {S} {E} {V} allows ties v s t =
@@ -132,9 +135,9 @@ Replays {S} {E} {V} allows ties v s t =
 abbrev pub IsExactly : {E V : Type 0} → Files E V → Files E V → Type 0
 IsExactly s f = f ≡ s
 
--- The view is true of some files that `may_be` allows, with map `m` and these batches pending. Rewrite ends with atomic
--- group `n`, which has no end yet, and whose records are in files from number `from` on. Its begin has the items
--- `first`, and its middles have `more`.
+-- The view is true of some files that `may_be` allows, with map `m` and these batches pending. Rewrite ends with the
+-- records of atomic group `n`, which has no end yet. These records are in files from number `from` on. The group's
+-- begin has the items `first`, and its middles have the items `more`.
 pub record IsInGroup {E V : Type 0} (may_be : Files E V → Type 0) (v : View E V) (m : Map E V)
     (pending : List (Record E V)) (from n : ℕ) (first : List (Tagged E V)) (more : List (List (Tagged E V)))
     : Type 0 where

@@ -10,8 +10,8 @@ use Rattle.raft_log_machine_laws.specs.Fresh.{fresh_machine}
 use Rattle.raft_log_machine_laws.specs.Files.{LogFile, FileQueue, FileEvent, FileStep, IsRead, records_of, span, numbered_from, store_of, fresh_files}
 use Rattle.raft_log_machine_laws.specs.Files.FileEvent.{Read}
 
--- A machine, and the files of both queues. The numbers of Rewrite's files after the last gap start at `rewrite_from`,
--- those of Append's at `append_from`.
+-- A machine, and the files of both queues. After the last gap, the numbers of Rewrite's files start at `rewrite_from`,
+-- and those of Append's files at `append_from`.
 pub record Directory (E V : Type 0) : Type 0 where
   pub machine : Machine E V
   pub rewrite : FileQueue E V
@@ -25,8 +25,8 @@ pub record DirectoryEvent (E V : Type 0) : Type 0 where
   pub rewrite : FileEvent E V
   pub append : FileEvent E V
 
--- The event changes the machine, and the files of both queues change with it. Afterwards the files have exactly the
--- machine's records.
+-- The event changes directory `d` into `n`: it changes the machine, and the files of both queues with it. In `n`, the
+-- files have exactly the machine's records.
 pub record DirectoryStep {E V : Type 0} (e : DirectoryEvent E V) (d n : Directory E V) : Type 0 where
   pub step : Step e.event d.machine n.machine
   pub rewrite : FileStep e.rewrite d.rewrite n.rewrite
@@ -59,8 +59,9 @@ IsRising (f ∷ []) = Unit {0}
 IsRising (f ∷ g ∷ fs) = (f.number < g.number) × IsRising (g ∷ fs)
 
 -- A recovery can read both queues from every file at which it may start, whatever prefix of the pending records a crash
--- kept. File numbers rise, no run leaves a hole, and no record comes between those of an atomic group of Rewrite. The
--- files after the last gap are numbered from `n` on in Rewrite's files `r`, and from `k` on in Append's `a`.
+-- kept. In what it reads, file numbers rise, no run leaves a hole, and no other record comes between those of an atomic
+-- group of Rewrite. After the last gap, Rewrite's files `r` are numbered from `n` on, and Append's files `a` from `k`
+-- on.
 pub record ReplaysInFiles {E V : Type 0} (n : ℕ) (r : FileQueue E V) (k : ℕ) (a : FileQueue E V)
     : Type 0 where
   pub append : (kept lost : List (Record E V)) → kept ++ lost ≡ a.pending
@@ -71,8 +72,8 @@ pub record ReplaysInFiles {E V : Type 0} (n : ℕ) (r : FileQueue E V) (k : ℕ)
       → IsRising files × IsUnbroken (records_of files)
       × ((g : ℕ) → NoHole nothing (rewritten g (records_of files)))
 
--- The event of a crash and an open. The crash kept these records of the pending ones. The open reads the files
--- `r_again` and `a_again` below the live ranges again, but not `r_below` and `a_below`.
+-- The event of a crash and an open. Of the pending records, the crash kept `r_kept` and `a_kept`. Of the files below
+-- the live ranges, the open reads `r_again` and `a_again`, but not `r_below` and `a_below`.
 abbrev pub opening : {E V : Type 0} → (r_kept r_lost a_kept a_lost : List (Record E V))
     → (r_below r_again a_below a_again : List (LogFile E V)) → DirectoryEvent E V
 opening r_kept r_lost a_kept a_lost r_below r_again a_below a_again = record {

@@ -7,16 +7,16 @@ use Rattle.raft_log_model_laws.specs.Groups.{Map, directory_meaning}
 use Rattle.raft_log_machine_laws.specs.Files.{LogFile, IsRead, records_of}
 use Rattle.raft_log_machine_laws.specs.Model.{Files}
 
--- How the file systems `D` are read:
+-- What may be read of file systems, whose type is `D`:
 -- - `leaves`: a crash of the first file system may leave the second one as its image, without CRC collisions;
--- - `rewrite`, `append`: a recovery may read these files of the queue, from the file with this number on.
+-- - `rewrite`, `append`: from this file system, a recovery that starts at this file number may read these files.
 pub record Readings (D E V : Type 0) : Type 1 where
   pub leaves : D → D → Type 0
   pub rewrite : D → ℕ → List (LogFile E V) → Type 0
   pub append : D → ℕ → List (LogFile E V) → Type 0
 
--- Files `f` allow the image. It kept a prefix of each queue's pending records. Whatever files a recovery may read from
--- the image, it may read from `f` with these records.
+-- `image` is an image of files `f`. Of each queue's pending records in `f`, it kept a prefix. Take `f` with only these
+-- prefixes of its pending records: whatever files a recovery may read from the image, it may also read from that.
 pub record IsAllowed {D E V : Type 0} (r : Readings D E V) (f : Files E V) (image : D) : Type 0 where
   pub rewrite_kept : List (Record E V)
   pub rewrite_lost : List (Record E V)
@@ -29,7 +29,7 @@ pub record IsAllowed {D E V : Type 0} (r : Readings D E V) (f : Files E V) (imag
   pub append_read : (s : ℕ) (files : List (LogFile E V)) → r.append image s files
       → IsRead f.append_from f.append append_kept s files
 
--- files `f` allow each image that a crash of file system `d` may leave
+-- each image that a crash of file system `d` may leave is an image of files `f`, as `IsAllowed` says
 abbrev pub Allows : {D E V : Type 0} → Readings D E V → D → Files E V → Type 0
 Allows {D} r d f = (image : D) → r.leaves d image → IsAllowed r f image
 
@@ -40,7 +40,8 @@ Means {D} {E} {V} r image m =
     (s t : ℕ) (rewrite append : List (LogFile E V)) → r.rewrite image s rewrite → r.append image t append
     → (g : ℕ) (slot : Slot) → directory_meaning (records_of rewrite) (records_of append) g slot ≡ m g slot
 
--- for each image that a crash of `new` may leave, there is one of `old` from which a recovery gets the same map
+-- For each image that a crash of `new` may leave, a crash of `old` may leave one such that: if a recovery gets map `m`
+-- from the image of `old`, it also gets `m` from the image of `new`.
 abbrev pub MeansNoMore : {D E V : Type 0} → Readings D E V → D → D → Type 0
 MeansNoMore {D} {E} {V} r old new =
     (image : D) → r.leaves new image
@@ -55,8 +56,8 @@ pub record ReadsAsPartOf {D E V : Type 0} (r : Readings D E V) (image other : D)
   pub rewrite : (s : ℕ) (files : List (LogFile E V)) → r.rewrite image s files → r.rewrite other s files
   pub append : (s : ℕ) (files : List (LogFile E V)) → r.append image s files → r.append other s files
 
--- for each image that a crash of `new` may leave, there is one of `old` from which a recovery may read all the same
--- files
+-- for each image that a crash of `new` may leave, a crash of `old` may leave one from which a recovery may read
+-- whatever it may read from the image of `new`
 abbrev pub ShowsNoMore : {D E V : Type 0} → Readings D E V → D → D → Type 0
 ShowsNoMore {D} r old new =
     (image : D) → r.leaves new image → (before : D) × r.leaves old before × ReadsAsPartOf r image before

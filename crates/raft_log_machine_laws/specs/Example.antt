@@ -23,9 +23,9 @@ compaction = Plain (tagged 1 (Compact 3 ∷ Put (5 ∷ []) 50 ∷ []))
 abbrev pub only : Whereabouts → ℕ → Whereabouts
 only t g = if 1 == g then t else nowhere
 
--- The events. The first purge copies the entries to Rewrite, and their file leaves Append's live range. The second one
--- writes a tombstone and copies the key, and the next file leaves. After a crash, an open reads both recycled files
--- again.
+-- The events. The first purge copies the entries to Rewrite, and their file leaves Append's live range. The second
+-- purge writes a tombstone and copies the key, and Append's next file leaves the live range. After a crash, an open
+-- reads both recycled files again.
 abbrev pub two_purges : List (Event ℕ ℕ)
 two_purges =
     Take entries ∷ SyncAppend

@@ -53,8 +53,8 @@ IsNumbered n q = NumberedFrom n (q.gone ++ span q []) × AllBehind n q.behind
 abbrev pub first_file : {E V : Type 0} → ℕ → FileQueue E V → ℕ
 first_file n q = n + length q.gone
 
--- A recovery may read `files`, which are some of the files `there`, from number `s` on. They are a suffix that isn't
--- empty, with consecutive numbers. It begins no later than `first`, the number of the live range's first file.
+-- A recovery may read `files`. They are a suffix of the files `there` that isn't empty, and have consecutive numbers
+-- from `s` on. `s` is at most `first`, the number of the live range's first file.
 pub record IsReadOf {E V : Type 0} (first : ℕ) (there : List (LogFile E V)) (s : ℕ)
     (files : List (LogFile E V)) : Type 0 where
   pub low : s ≤ first
@@ -76,10 +76,10 @@ queue_of q = record { gone = records_of q.gone; live = records_of q.full ++ q.sy
 abbrev pub store_of : {E V : Type 0} → FileQueue E V → FileQueue E V → Store E V
 store_of r a = record { rewrite = queue_of r; append = queue_of a }
 
--- A crash of Rewrite's files `r` and Append's `a` loses at most a suffix of the pending `batches`. The prefixes of
--- pending records that it leaves determine a number `count`. From every file at which it may start, a recovery then
--- gets map `m` after the first `count` batches. Rewrite's files after the last gap are numbered from `n` on, and
--- Append's from `k` on.
+-- A crash of Rewrite's files `r` and Append's files `a` loses at most a suffix of the pending `batches`. The prefixes
+-- of pending records that the crash leaves determine a number `count`. A recovery then gets map `m` after the first
+-- `count` batches, whatever files it may start at. After the last gap, Rewrite's files are numbered from `n` on, and
+-- Append's files from `k` on.
 abbrev pub SurvivesInFiles : {E V : Type 0} → ℕ → FileQueue E V → ℕ → FileQueue E V → Map E V
     → List (Record E V) → Type 0
 SurvivesInFiles {E} {V} n r k a m batches =
@@ -102,8 +102,8 @@ pub data FileEvent (E V : Type 0) : Type 0 where
   Raise : (out stay : List (LogFile E V)) → FileEvent E V
   -- a file below the live range is deleted or renamed, so a gap now separates the files before it from the later ones
   Lose : (before : List (LogFile E V)) (file : LogFile E V) (rest : List (LogFile E V)) → FileEvent E V
-  -- An open reads an image that kept the records `kept` of the pending ones. It reads the live range, and of the files
-  -- below it `again`, but not `below`.
+  -- An open reads an image that kept the records `kept` of the pending ones. It reads the live range. Of the files
+  -- below the live range, it reads `again`, but not `below`.
   Read : (below again : List (LogFile E V)) (kept : List (Record E V)) → FileEvent E V
 
 -- the event may happen to files `q`, and changes them into `p`

@@ -9,8 +9,8 @@ pub record History (E V : Type 0) : Type 0 where
   pub synced : List (Record E V)
   pub pending : List (Record E V)
 
--- The history after one more event. A batch is pending at first, and a sync of Append makes all of them synced. After
--- a crash and an open, the history has the pending batches that the crash kept, as synced.
+-- The history after one more event. A batch is pending at first. A sync of Append makes all pending batches synced.
+-- After a crash and an open, the pending batches that the crash kept are synced, and the others are gone.
 abbrev pub happened : {E V : Type 0} → History E V → Event E V → History E V
 happened h (Take y) = record { synced = h.synced; pending = h.pending ++ y ∷ [] }
 happened h SyncAppend = record { synced = h.synced ++ h.pending; pending = [] }

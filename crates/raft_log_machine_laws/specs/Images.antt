@@ -1,5 +1,5 @@
--- Each raft group's entries as one run, in each image that a crash may leave. Also what a crash and the recovery after
--- it may choose.
+-- In each image that a crash may leave, each raft group's entries are one run. Also here: what a crash may keep, and
+-- what the recovery after it may read.
 use Rattle.std.specs.Prelude.{◌≡◌, ℕ, ◌<◌, ◌≤◌, List, ◌++◌, Option, Some, None}
 use Rattle.raft_log_model_laws.specs.Item.{Record}
 use Rattle.raft_log_model_laws.specs.Meaning.{Slot, Content}
@@ -11,7 +11,7 @@ use Rattle.raft_log_machine_laws.specs.Machine.{Machine, Event}
 use Rattle.raft_log_machine_laws.specs.Machine.Event.{Reopen}
 
 -- The entries of the raft group are one run. Each index from `first` to below `end` has an entry, and no other index
--- has one. All are below 2^64 - 1.
+-- has one. All indexes with an entry are below 2^64 - 1.
 pub record IsOneRun {E V : Type 0} (m : Slot → Option (Content E V)) : Type 0 where
   pub first : ℕ
   pub end : ℕ

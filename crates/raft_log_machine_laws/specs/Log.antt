@@ -1,5 +1,5 @@
--- An engine's log as its callers see it: the map that is synced, and the pending batches. Also the engine's view of it:
--- where each entry and value is stored. `may_be` says which files may be on disk.
+-- An engine's log as its callers see it: the map that is synced, and the pending batches. Also the engine's view of the
+-- log: where each entry and value is stored. `may_be` says which files may be on disk.
 use Rattle.std.specs.Prelude.{◌≡◌, ℕ, Bool, List, [], ◌++◌}
 use Rattle.raft_log_model_laws.specs.Item.{Record}
 use Rattle.raft_log_model_laws.specs.Groups.{Map, taken}
@@ -19,8 +19,8 @@ pub record IsLog {E V : Type 0} (may_be : Files E V → Type 0) (m : Map E V) (p
   pub ends : files.append.pending ≡ pending
   pub there : may_be files
 
--- The log of file system `d` is map `m` with these pending batches. Some files hold this log, and allow each image that
--- a crash of `d` may leave.
+-- The log of file system `d` is map `m` with these pending batches. Some files hold this log, and each image that a
+-- crash of `d` may leave is an image of these files (`IsAllowed`).
 abbrev pub IsLogOf : {D E V : Type 0} → Readings D E V → D → Map E V → List (Record E V) → Type 0
 IsLogOf r d m pending = IsLog (Allows r d) m pending
 

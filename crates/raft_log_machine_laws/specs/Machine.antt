@@ -73,8 +73,8 @@ abbrev pub GoesOnWith : {E V : Type 0} → Queue E V → ℕ → List (Tagged E 
 GoesOnWith {E} {V} q n first more =
     (front : List (Record E V)) × (q.live ++ q.pending ≡ front ++ begun n first more)
 
--- The items `items` may replace `parts`. They do the same to each slot, and `parts` leave no hole if `items` leave
--- none. So one run may replace several runs, each of which starts at the end of the one before.
+-- The items `items` may replace `parts`. Both lists do the same to each slot, and `parts` leave no hole if `items`
+-- leave none. So one run may replace several runs, each of which starts at the end of the one before.
 pub record IsJoined {E V : Type 0} (parts items : List (Item E V)) : Type 0 where
   pub same_words : (s : Slot) → says s parts ≡ says s items
   pub no_more_holes : (w : Window) → NoHole w items → NoHole w parts
@@ -156,8 +156,8 @@ abbrev pub Steps : {E V : Type 0} → Machine E V → List (Event E V) → Machi
 Steps w [] v = v ≡ w
 Steps {E} {V} w (e ∷ es) v = (next : Machine E V) × Step e w next × Steps next es v
 
--- what records do to each slot of raft group `g`: all records of Rewrite that a recovery may read, those of Rewrite's
--- live range, and those of Append's
+-- What records do to each slot of raft group `g`. Three lists count, each with the pending records: all records of
+-- Rewrite that a recovery may read, the records of Rewrite's live range, and the records of Append's live range.
 abbrev pub said_of : {E V : Type 0} → ℕ → Store E V → SaysOfSlot E V
 said_of g q = record {
   lowest = λ s. says s (rewritten g (all_records q.rewrite));

@@ -17,8 +17,9 @@ pub record Files (E V : Type 0) : Type 0 where
   pub append : FileQueue E V
   pub append_from : ℕ
 
--- The files of a log, the map of Append's synced batches, and whether the engine has failed. `whereabouts` says in
--- which queue each entry and value of a raft group is stored, those of pending batches included.
+-- The files of a log, and whether the engine has failed. `map` is what all batches mean that were ever synced in
+-- Append, whichever queue stores them now. `whereabouts` says in which queue each entry and value of a raft group is
+-- stored, those of pending batches included. It may be wrong once the engine has failed.
 pub record Model (E V : Type 0) : Type 0 where
   pub files : Files E V
   pub map : Map E V

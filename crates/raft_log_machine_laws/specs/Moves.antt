@@ -1,5 +1,5 @@
 -- Quiet events: what may happen to a queue's files while nothing is written. They are syncs, rotations, and losses of
--- files below the live range. Also a queue's files after single events.
+-- files below the live range. Also here: a queue's files after one event.
 use Rattle.std.specs.Prelude.{◌≡◌, ℕ, ◌+◌, List, [], ◌∷◌, ◌++◌}
 use Rattle.raft_log_model_laws.specs.Item.{Record}
 use Rattle.raft_log_machine_laws.specs.Files.{LogFile, FileQueue, FileEvent, FileStep, numbered_from}

@@ -1,6 +1,7 @@
--- For each slot, an engine notes a file of the queue that stores the slot's content. In Append, a record of this file
--- touches the slot. In Rewrite, an item that touches the slot still counts when only the files from this one on are
--- read. The queue's live range may begin at the lowest noted file, or before it.
+-- For each slot, an engine notes the number of a file of the queue that stores the slot's content. For an empty slot
+-- the number means nothing. In Append, a record of the noted file touches the slot. In Rewrite, if only the files from
+-- the noted one on are read, some item that touches the slot still takes effect. The queue's live range may begin at
+-- the lowest noted file, or before that file.
 use Rattle.std.specs.Prelude.{◌≡◌, ℕ, ◌<◌, ◌≤◌, ◌⊎◌, true, false, List, [], ◌∷◌, ◌++◌, None}
 use Rattle.raft_log_model_laws.specs.Item.{Record, Tagged, items_of}
 use Rattle.raft_log_model_laws.specs.Meaning.{Slot, says}
@@ -53,8 +54,9 @@ abbrev pub AllBelow : {E V : Type 0} → ℕ → List (LogFile E V) → Type 0
 AllBelow n [] = Unit {0}
 AllBelow n (f ∷ fs) = (f.number < n) × AllBelow n fs
 
--- If only the files `back` are read, an item touches slot `s` of raft group `g`. They are a suffix of the live range,
--- all numbered `n` or higher. The item is in a plain record there, or in an atomic group that is whole there.
+-- The files `back` are a suffix of the live range, and all have the number `n` or a higher one. If only they are read,
+-- an item touches slot `s` of raft group `g`. The item is in a plain record of these files, or in an atomic group that
+-- is whole in them.
 pub record SpeaksFrom {E V : Type 0} (q : FileQueue E V) (g n : ℕ) (s : Slot) : Type 0 where
   pub front : List (LogFile E V)
   pub back : List (LogFile E V)
@@ -67,8 +69,8 @@ abbrev pub IsInRewrite : Whereabouts → Slot → Type 0
 IsInRewrite t (Index i) = (t.first ≤ i) × (i < t.split)
 IsInRewrite t (Key k) = t.appended k ≡ false
 
--- The noted files of Rewrite are right: an item touches the slot even if only files from the noted one on are read
--- (`SpeaksFrom`). Slots that are empty, or whose content is stored in Append, are left out.
+-- The noted files of Rewrite are right for each slot whose content is stored in Rewrite: the slot is empty, or an item
+-- touches it even if only files from the noted one on are read (`SpeaksFrom`).
 abbrev pub AreNotedInRewrite : {E V : Type 0} → Map E V → (ℕ → Whereabouts) → Notes → FileQueue E V → Type 0
 AreNotedInRewrite m whereabouts notes q =
     (g : ℕ) (s : Slot) → IsInRewrite (whereabouts g) s → (m g s ≡ None) ⊎ SpeaksFrom q g (notes g s) s
@@ -78,8 +80,8 @@ abbrev pub RewriteStandsFrom : {E V : Type 0} → ℕ → Map E V → (ℕ → W
 RewriteStandsFrom n m whereabouts notes =
     (g : ℕ) (s : Slot) → IsInRewrite (whereabouts g) s → (m g s ≡ None) ⊎ (n ≤ notes g s)
 
--- The live range ends with the records of atomic group `n`, which has no end yet. All of them are in files from number
--- `from` on. The group's begin has the items `first`, and its middles have `more`.
+-- The live range ends with the records of atomic group `n`, which has no end yet. All these records are in files from
+-- number `from` on. The group's begin has the items `first`, and its middles have the items `more`.
 pub record GoesOnFrom {E V : Type 0} (q : FileQueue E V) (from n : ℕ) (first : List (Tagged E V))
     (more : List (List (Tagged E V))) : Type 0 where
   pub front : List (LogFile E V)

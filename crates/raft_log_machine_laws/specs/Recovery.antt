@@ -21,18 +21,18 @@ has_del k [] = false
 has_del k (Del l ∷ xs) = bytes_eq l k || has_del k xs
 has_del k (x ∷ xs) = has_del k xs
 
--- Which tombstones are owed after an open read these items of Append. A Clean is owed exactly if they have one. If they
--- have no Clean, each of their Compacts and Dels is owed. A Del is owed only if they have it. A Compact may be owed
--- although they have none, which does no harm.
+-- Which tombstones are owed after an open read these items of Append. A Clean is owed exactly if the items have one. If
+-- the items have no Clean, each of their Compacts and Dels is owed. A Del is owed only if the items have it. A Compact
+-- may be owed although the items have none. That does no harm.
 pub record HasMarks {E V : Type 0} (append : List (Item E V)) (t : Whereabouts) : Type 0 where
   pub cleaned : t.cleaned ≡ has_clean append
   pub compacted : has_clean append ≡ false → has_compact append ≡ true → t.compacted ≡ true
   pub deleted : (k : List ℕ) → has_clean append ≡ false → has_del k append ≡ true → t.deleted k ≡ true
   pub was_deleted : (k : List ℕ) → t.deleted k ≡ true → has_del k append ≡ true
 
--- Whereabouts `t` are right for a raft group with content `m` if an open read the items `append` from Append. They
--- place in Append what these items leave, and all else in Rewrite. The tombstones for Append's deletions are owed, as
--- `HasMarks` says.
+-- Whereabouts `t` are right for a raft group with content `m` if an open read the items `append` from Append. `t`
+-- places in Append what these items leave, and all other content in Rewrite. The tombstones for Append's deletions are
+-- owed, as `HasMarks` says.
 pub record IsRecovered {E V : Type 0} (m : Slot → Option (Content E V)) (append : List (Item E V))
     (t : Whereabouts) : Type 0 where
   pub in_order : (t.first ≤ t.split) × (t.split ≤ t.end) × (t.end ≤ top)
@@ -47,8 +47,8 @@ pub record IsRecovered {E V : Type 0} (m : Slot → Option (Content E V)) (appen
   pub key_older : (k : List ℕ) → t.appended k ≡ false → (m (Key k) ≡ None) ⊎ (says (Key k) append ≡ None)
   pub marks : HasMarks append t
 
--- Whereabouts `t` are made from Rewrite's table and the summary of Append. What the summary's table has is in Append,
--- and all else in Rewrite.
+-- Whereabouts `t` are made from Rewrite's table and the summary of Append. `t` places in Append what the summary's
+-- table has, and all other content in Rewrite.
 pub record IsReadOff {E V : Type 0} (rewrite : Table E V) (append : Summary E V) (t : Whereabouts)
     : Type 0 where
   pub first : t.first ≡ (directory_table rewrite append).first

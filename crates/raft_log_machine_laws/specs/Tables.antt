@@ -11,8 +11,9 @@ use Rattle.raft_log_machine_laws.specs.Machine.{AllFit, IsJoined}
 use Rattle.raft_log_machine_laws.specs.Notes.{IsAppended, IsInRewrite}
 use Rattle.raft_log_machine_laws.specs.Log.{View}
 
--- Record `y` was appended to file `n` of Append. Each slot whose content is then stored in Append has one of two
--- origins. It was stored there before, with the same noted file, or the record touches it, and file `n` is noted.
+-- Record `y` was appended to file `n` of Append. For each slot whose content is then stored in Append, one of two
+-- things is true. Its content was stored in Append before, and the noted file is the same. Or the record touches the
+-- slot, and file `n` is noted.
 abbrev pub NotesGrow : {E V : Type 0} → Record E V → ℕ → View E V → View E V → Type 0
 NotesGrow y n old new =
     (g : ℕ) (s : Slot) → IsAppended (new.whereabouts g) s
@@ -32,9 +33,9 @@ pub record GrowsTo {E V : Type 0} (y : Record E V) (n : ℕ) (old new : View E V
   pub noted : NotesGrow y n old new
   pub noted_in_rewrite : NotesStay old new
 
--- The items `xs` start to count in file `n` of Rewrite. Each slot whose content is then stored in Rewrite has one of
--- two origins. It was stored there before, and its noted file is no later. Or the items touch it, and its noted file is
--- `n` or an earlier one.
+-- The items `xs` start to count in file `n` of Rewrite. For each slot whose content is then stored in Rewrite, one of
+-- two things is true. Its content was stored in Rewrite before, and its noted file is now the same or an earlier one.
+-- Or the items touch the slot, and its noted file is `n` or an earlier one.
 abbrev pub NotesCarry : {E V : Type 0} → List (Tagged E V) → ℕ → View E V → View E V → Type 0
 NotesCarry xs n old new =
     (g : ℕ) (s : Slot) → IsInRewrite (new.whereabouts g) s
@@ -57,7 +58,8 @@ pub record CarriesTo {E V : Type 0} (xs : List (Tagged E V)) (n : ℕ) (old new 
   pub noted_in_rewrite : NotesCarry xs n old new
 
 -- How the view changes from `old` to `new` when an atomic group of Rewrite ends with the items `xs`. The group began in
--- file `n`, with the items `first`, and its middles have `more`. Several of its runs may count as one run (`IsJoined`).
+-- file `n`, with the items `first`, and its middles have the items `more`. Several runs of the group may count as one
+-- run (`IsJoined`).
 pub record EndsGroupTo {E V : Type 0} (first : List (Tagged E V)) (more : List (List (Tagged E V)))
     (xs : List (Tagged E V)) (n : ℕ) (old new : View E V) : Type 0 where
   pub fit : AllFit xs

@@ -24,7 +24,7 @@ IsRightInRewrite said m s = (unwrap_or (said.lowest s) None ≡ m s) × (unwrap_
 -- - Rewrite alone is right about it;
 -- - a Clean is owed;
 -- - a Compact is owed that will remove the index: `i` is below the first entry, or no entry is in Rewrite;
--- - an entry at or below `i` is in Append, so the run there overrides Rewrite.
+-- - Append has entries, the first of them at or below `i`, so their run overrides Rewrite at `i`.
 abbrev pub IsSettledIndex : {E V : Type 0} → SaysOfSlot E V → (Slot → Option (Content E V)) → Whereabouts → ℕ
     → Type 0
 IsSettledIndex said m t i =

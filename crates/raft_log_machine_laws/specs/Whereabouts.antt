@@ -28,7 +28,7 @@ pub record Whereabouts : Type 0 where
 abbrev pub with_key : (List ℕ → Bool) → List ℕ → Bool → List ℕ → Bool
 with_key test key answer k = if bytes_eq key k then answer else test k
 
--- a run that starts at `f` replaces all entries: none is below `f`, or there are none
+-- a run that starts at `f` replaces all entries: no entry is below `f`, or there are no entries
 abbrev pub Alone : Whereabouts → ℕ → Type 0
 Alone t f = (f ≤ t.first) ⊎ (t.first ≡ t.end)
 
@@ -113,8 +113,8 @@ CarriesAll m t (x ∷ xs) u = (next : Whereabouts) × Carries m t x next × Carr
 abbrev pub OwesNothing : Whereabouts → Type 0
 OwesNothing t = (t.cleaned ≡ false) × (t.compacted ≡ false) × ((k : List ℕ) → t.deleted k ≡ false)
 
--- the items `kept` of Append have each entry that whereabouts `t` place in Append, and touch each key that `t` place
--- there
+-- the items `kept` of Append have each entry that whereabouts `t` place in Append, and touch each key whose value `t`
+-- place in Append
 abbrev pub HasAppended : {E V : Type 0} → Whereabouts → List (Item E V) → Type 0
 HasAppended {E} {V} t kept =
     ((i : ℕ) → t.split ≤ i → i < t.end → (entry : Content E V) × (says (Index i) kept ≡ Some (Some entry)))

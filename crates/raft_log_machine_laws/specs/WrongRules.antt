@@ -52,7 +52,7 @@ compact_3 = Plain (tagged 1 (Compact 3 ∷ []))
 abbrev pub compact_4 : Record ℕ ℕ
 compact_4 = Plain (tagged 1 (Compact 4 ∷ []))
 
--- A new entry 3 of group 1 replaces all entries from there on. Then a Compact deletes it and all below.
+-- A new entry 3 of group 1 replaces all entries from index 3 on. Then a Compact deletes entry 3 and all below it.
 abbrev pub all_compacted : Record ℕ ℕ
 all_compacted = Plain (tagged 1 (Run 3 (23 ∷ []) ∷ Compact 4 ∷ []))
 

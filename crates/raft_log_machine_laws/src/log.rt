@@ -39,8 +39,8 @@ pub fn image_is_a_log<D: LogImages>()
         → (k : ℕ) × (k ≤ length pending) × IsLogOf D.readings image (taken m (take k pending)) [] }
 {}
 
-/// If the images of a file system show no more than those of another one, it is the same log. Each of its images then
-/// means what some image of the other one means.
+/// If the images of a file system `new` show no more than those of `old`, then `new` is the same log. Each image of
+/// `new` means what some image of `old` means.
 pub fn no_more_images_are_the_same_log<D: LogImages>()
     ensures log { (old new : D) (m : Map D.Entry D.Value) (pending : List (Record D.Entry D.Value))
         → ShowsNoMore D.readings old new

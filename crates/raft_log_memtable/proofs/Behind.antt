@@ -3,12 +3,11 @@ use Rattle.std.proofs.Common.{◌≡◌, ℕ, zero, suc, ◌-◌, ◌≤◌, max
 use Rattle.std.proofs.Math.Path.{fun_ext}
 use Rattle.raft_log_model_laws.specs.Holes.{is_past}
 use Rattle.raft_log_model_laws.specs.Summary.{lesser}
-use Rattle.raft_log_model_laws.proofs.Cases.{at_bool, from_lt_false}
+use Rattle.raft_log_model_laws.proofs.Public.{at_bool, from_lt_false}
 use Rattle.raft_log_extents.specs.declared.place.Place.{Place}
 use Rattle.raft_log_memtable_index.specs.Shown.{nothing_shown, span}
 use Rattle.raft_log_memtable_index.specs.Replayed.{Replayed, joined, left, nothing_replayed, run_over, with_entries, with_newer, LeavesHole}
-use Rattle.raft_log_memtable_index.proofs.Alone.{nothing_left, same_held, same_note, shows}
-use Rattle.raft_log_memtable_index.proofs.Replays.{or_false}
+use Rattle.raft_log_memtable_index.proofs.Public.{nothing_left, or_false, same_held, same_note, shows}
 use Rattle.raft_log_memtable.specs.Replays.{begin_alone}
 use Rattle.raft_log_memtable.proofs.Reread.{replays}
 

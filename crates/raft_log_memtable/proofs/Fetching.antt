@@ -4,7 +4,7 @@ use Rattle.std.proofs.lemmas.List.{drop-take}
 use Rattle.raft_log_record_base.specs.declared.pipe_log.FileBlockHandle.{FileBlockHandle}
 use Rattle.raft_log_record_base.specs.declared.pipe_log.LogQueue.TheVariants.{Append, Rewrite}
 use Rattle.raft_log_record_items.specs.declared.entry.EntryIndex.{EntryIndex}
-use Rattle.raft_log_model_laws.proofs.Cases.{lt_false, lt_true}
+use Rattle.raft_log_model_laws.proofs.Public.{lt_false, lt_true}
 use Rattle.raft_log_extents.specs.declared.place.Place.{Place}
 use Rattle.raft_log_extents.specs.Blocks.{between, in_block}
 use Rattle.raft_log_extents.specs.Entries.{entries_between, entries_of, entry_of, place_at, queue_of}

@@ -2,8 +2,8 @@
 use Rattle.std.proofs.Common.{◌≡◌, ℕ, zero, suc, ◌+◌, ◌-◌, ◌<◌, ◌≤◌, max, min, Bool, true, false, List, [], ◌∷◌, length, Option, Some, None, option_map, slice_get, if◌then◌else◌, nat_le, nat_lt, refl, sym, ap, subst, ◌∙◌, inl, inr, arith, le_refl}
 use Rattle.raft_log_record_base.specs.declared.pipe_log.LogQueue.TheVariants.{Append, Rewrite}
 use Rattle.raft_log_model_laws.specs.Meaning.Slot.{Index}
-use Rattle.raft_log_model_laws.proofs.Cases.{at_bool, at_option, from_le_true, from_lt_true, if_false, if_true, le_false, lt_true}
-use Rattle.raft_log_machine_laws.proofs.TruthRaises.{no_word}
+use Rattle.raft_log_model_laws.proofs.Public.{at_bool, at_option, from_le_true, from_lt_true, if_false, if_true, le_false, lt_true}
+use Rattle.raft_log_machine_laws.proofs.Public.{no_word}
 use Rattle.std.proofs.lemmas.Bool.{cases_lt}
 use Rattle.raft_log_extents.specs.declared.place.Place.{Place}
 use Rattle.raft_log_memtable_index.specs.declared.group_files.GroupFiles.{GroupFiles}
@@ -12,7 +12,7 @@ use Rattle.raft_log_memtable_index.specs.Noted.{file_at, noting, place_file, sta
 use Rattle.raft_log_memtable_index.specs.LeastFiles.{lesser, least_value, IsLeastValue}
 use Rattle.raft_log_memtable.specs.Files.{first_file, first_place, least_rewritten, min_file, noted_after, ArePast, FrontIsLeast, IsLeastInAppend, IsMinFile}
 use Rattle.raft_log_memtable_index.specs.Keys.{slot_at}
-use Rattle.raft_log_memtable_index.proofs.LeastValues.{from_value, lesser_is_one, lesser_left, lesser_right, same_number, shown_file}
+use Rattle.raft_log_memtable_index.proofs.Public.{from_value, lesser_is_one, lesser_left, lesser_right, same_number, shown_file}
 use Rattle.raft_log_memtable.specs.Table.{Raw, shown}
 
 -- the least of a queue's values, and of a file beside them

@@ -1,3 +1,4 @@
+pub mod Public
 pub mod Ready
 pub mod Leasts
 pub mod Rewriting

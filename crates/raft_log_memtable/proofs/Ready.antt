@@ -5,11 +5,11 @@ use Rattle.raft_log_model_laws.specs.Item.{Item}
 use Rattle.raft_log_model_laws.specs.Item.Item.{Run, Clean, Compact, Put, Del}
 use Rattle.raft_log_model_laws.specs.Holes.{Window}
 use Rattle.raft_log_model_laws.specs.Renamed.{renamed}
-use Rattle.raft_log_model_laws.proofs.Tests.{same_key}
+use Rattle.raft_log_model_laws.proofs.Public.{same_key}
 use Rattle.raft_log_machine_laws.specs.Whereabouts.{top, with_key}
 use Rattle.raft_log_extents.specs.declared.place.Place.{Place}
 use Rattle.raft_log_memtable_index.specs.Shown.{Shown, span, next_span, stepped, MayFollow, MayAllFollow}
-use Rattle.raft_log_memtable_index.proofs.Spans.{span_stepped}
+use Rattle.raft_log_memtable_index.proofs.Public.{span_stepped}
 use Rattle.raft_log_memtable.specs.Room.{Promise, count_of, promised, kept, HasRoom, CanTake, needs, AllHave, span_after, IsForgotten, IsReady}
 
 key_stays : (b : Bool) (old : Bool) → old ≡ true → (if b then true else old) ≡ true

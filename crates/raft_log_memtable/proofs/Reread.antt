@@ -4,7 +4,7 @@ use Rattle.std.specs.Option.{option_or}
 use Rattle.raft_log_model_laws.specs.Item.{Item}
 use Rattle.raft_log_model_laws.specs.Item.Item.{Run, Clean, Compact, Put, Del}
 use Rattle.raft_log_model_laws.specs.Holes.{is_past}
-use Rattle.raft_log_model_laws.proofs.Cases.{at_bool, from_lt_false}
+use Rattle.raft_log_model_laws.proofs.Public.{at_bool, from_lt_false}
 use Rattle.raft_log_record_items.specs.declared.entry.EntryIndex.{EntryIndex}
 use Rattle.raft_log_extents.specs.declared.place.Place.{Place}
 use Rattle.raft_log_extents.specs.Entries.{run_of}

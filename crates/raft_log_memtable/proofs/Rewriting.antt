@@ -2,12 +2,12 @@
 use Rattle.std.proofs.Common.{◌≡◌, ℕ, zero, suc, ◌+◌, ◌-◌, ◌<◌, ◌≤◌, max, min, List, [], ◌∷◌, ◌++◌, length, map, take, drop, Option, slice_index_or, nat_lt, refl, sym, ap, ap₂, subst, ◌∙◌, arith, length-take}
 use Rattle.std.proofs.lemmas.List.{length-map, take-map, drop-map}
 use Rattle.raft_log_record_items.specs.declared.entry.EntryIndex.{EntryIndex}
-use Rattle.raft_log_model_laws.proofs.Cases.{if_false, lt_false}
+use Rattle.raft_log_model_laws.proofs.Public.{if_false, lt_false}
 use Rattle.raft_log_extents.specs.declared.place.Place.{Place}
 use Rattle.raft_log_extents.specs.Entries.{place_of, run_of}
 use Rattle.raft_log_memtable_index.specs.Shown.{Shown}
 use Rattle.raft_log_memtable.specs.Moves.{gated, movable, rewritten_at, rewritten_by}
-use Rattle.raft_log_extents.proofs.Replacing.{drop_at}
+use Rattle.raft_log_extents.proofs.Public.{drop_at}
 
 drop_min : {A : Type 0} (n : ℕ) (xs : List A) → drop (min n (length xs)) xs ≡ drop n xs
 drop_min n xs = by (min n (length xs)) n xs refl

@@ -25,9 +25,9 @@ first_place queue t = first_file queue (shown t)
 abbrev pub least_rewritten : Raw → Option ℕ
 least_rewritten t = lesser (first_place Rewrite t) (least_value false t.keys)
 
--- The lowest file of `queue` that the table needs. It is the file of its first entry there, or the lowest file of a
--- value there, whichever is lower. If Rewrite's recorded atomic groups reach from an earlier file into this one, it is
--- their first file instead.
+-- The lowest file of `queue` that the table needs: the file of its first entry there, or the lowest file of a value
+-- there, whichever is lower. In Rewrite, the recorded atomic groups count too. If they reach this file from an earlier
+-- file, the table needs their first file.
 abbrev pub min_file : LogQueue → Raw → Option ℕ
 min_file Append t = lesser (first_place Append t) (least_value true t.keys)
 min_file Rewrite t = option_map (λ n. start_of n t.noted) (least_rewritten t)
@@ -37,9 +37,9 @@ abbrev pub IsLeastRewritten : Shown → Option ℕ → Type 0
 IsLeastRewritten v least =
     (value : Option ℕ) × IsLeastValue false v.held value × (least ≡ lesser (first_file Rewrite v) value)
 
--- `file` is the lowest file of the queue that the table needs. It is the file of its first entry there, or the lowest
--- file of a value there, whichever is lower. If Rewrite's recorded atomic groups reach from an earlier file into this
--- one, it is their first file instead.
+-- `file` is the lowest file of the queue that the table needs: the file of its first entry there, or the lowest file of
+-- a value there, whichever is lower. In Rewrite, the recorded atomic groups count too. If they reach this file from an
+-- earlier file, the table needs their first file.
 abbrev pub IsMinFile : LogQueue → Shown → Option ℕ → Type 0
 IsMinFile Append v file =
     (value : Option ℕ) × IsLeastValue true v.held value × (file ≡ lesser (first_file Append v) value)
@@ -56,8 +56,8 @@ noted_after (Some least) old new = noting least old new
 abbrev pub with_group : Raw → GroupFiles → Shown
 with_group t files = record (shown t) { noted = Some (noted_after (least_rewritten t) t.noted files) }
 
--- `u` is the table `v` after it recorded an atomic group in these files. Files recorded before are dropped if the
--- table's lowest file of Rewrite is a later one, or if the table has nothing in Rewrite.
+-- `u` is the table `v` after it recorded an atomic group in these files. The files recorded before are dropped in two
+-- cases: the table has nothing in Rewrite, or its lowest file of Rewrite is after all of them.
 abbrev pub NotesGroup : GroupFiles → Shown → Shown → Type 0
 NotesGroup files v u =
     (least : Option ℕ) × IsLeastRewritten v least

@@ -49,7 +49,7 @@ rewritten_at v d ps = record v {
 }
 
 -- The table after copies of entries were written to Rewrite. Entries that the table still has, and that may be copied
--- (`movable`), move to the new places. If the copies begin past the entries in Rewrite, none move.
+-- (`movable`), move to the new places. If the copies leave a gap after the table's entries in Rewrite, none move.
 abbrev pub rewritten_by : Option ℕ → Shown → Item Place (List ℕ) → Shown
 rewritten_by gate v (Run f ps) =
     if nat_lt v.rewritten (f - v.first) then v

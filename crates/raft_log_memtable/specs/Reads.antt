@@ -55,7 +55,8 @@ appended_entries v gate =
 abbrev pub rewritten_entries : Shown → List EntryIndex
 rewritten_entries v = entries_from v 0 (take v.rewritten v.places)
 
--- whether there is a place, and its file in this queue isn't after `gate`; all of Append is after all of Rewrite
+-- Whether there is a place, and its file in this queue isn't after `gate`. In the order of files, all files of Append
+-- are after all files of Rewrite.
 abbrev pub is_up_to : FileId → LogQueue → Option Place → Bool
 is_up_to gate queue None = false
 is_up_to gate queue (Some p) = is_le (file_cmp (record { queue = queue; seq = p.file }) gate)

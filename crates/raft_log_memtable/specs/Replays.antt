@@ -16,8 +16,8 @@ abbrev pub in_append : LogQueue → Bool
 in_append Append = true
 in_append Rewrite = false
 
--- What a run from index `f` on leaves of the table's entries: those below `f`. If the run begins past their end, it
--- leaves none.
+-- What a run from index `f` on leaves of the table's entries: those below `f`. If there is a gap between the table's
+-- entries and the run, the run leaves none.
 abbrev pub under : Shown → ℕ → Shown
 under v f =
     if is_past (span v) f then record v { first = f; places = []; rewritten = 0 }
@@ -32,8 +32,8 @@ under v f =
 abbrev pub begin_alone : Shown → ℕ
 begin_alone v = if v.cleaned then v.first else (if nat_lt 0 (length v.places) then v.first else 0)
 
--- whether the entries of the later segment `z` are in Append and begin past the end of the entries that `z` leaves of
--- `v`
+-- whether the entries of the later segment `z` are in Append, with a gap between them and the entries that `z` leaves
+-- of `v`
 abbrev pub leaves_hole : Shown → Replayed → Bool
 leaves_hole v z =
     nat_lt 0 (length z.table.places)

@@ -94,7 +94,7 @@ module _ {E V : Type 0} where
   span_after w (x ∷ xs) = span_after (next_span w x) xs
 
   -- The table can take all these items, one after another. Places and slots are reserved for them. No run leaves a
-  -- hole, and indexes are below 2 ^ 64 - 1. The reserved range is the one after the items.
+  -- hole, and indexes are below 2 ^ 64 - 1. The reservation has the range of indexes after the items.
   pub record IsReady (v : Shown) (q : Promise) (xs : List (Item E V)) : Type 0 where
     pub room : needs xs ≤ q.wanted
     pub keys : AllHave q.has xs

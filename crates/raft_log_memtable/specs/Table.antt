@@ -15,7 +15,8 @@ use Rattle.raft_log_memtable.specs.Room.{Promise}
 
 -- The fields of a table:
 -- - `ahead`: the range of its indexes after the items that it is prepared for
--- - `low`, `high`: of entries read before it, a replay keeps only those from `low` on and below `high`
+-- - `low`, `high`: in a replay, only entries from `low` on and below `high` stay of those that were read before this
+--   table
 -- - all others: what callers see (`shown`); `places` and `keys` also have what is reserved
 pub record Raw : Type 0 where
   pub first : ℕ

@@ -10,9 +10,7 @@ use Rattle.raft_log_model_laws.specs.Meaning.Content.{Entry}
 use Rattle.raft_log_model_laws.specs.Holes.{is_past, IsSolid}
 use Rattle.raft_log_model_laws.specs.Table.{content}
 use Rattle.raft_log_model_laws.specs.Summary.{word}
-use Rattle.raft_log_model_laws.proofs.Cases.{at_bool, if_false, from_lt_false, le_true, lt_false, none_some}
-use Rattle.raft_log_model_laws.proofs.TableSteps.{content_below, content_above}
-use Rattle.raft_log_model_laws.proofs.Joins.{stands_in, table_holds}
+use Rattle.raft_log_model_laws.proofs.Public.{at_bool, content_above, content_below, from_lt_false, if_false, le_true, lt_false, none_some, stands_in, table_holds}
 use Rattle.raft_log_machine_laws.specs.Recovery.{IsRecovered}
 use Rattle.raft_log_machine_laws.specs.Whereabouts.{top}
 use Rattle.raft_log_extents.specs.declared.place.Place.{Place}

@@ -7,7 +7,7 @@ use Rattle.std.specs.declared.cmp.Ordering.{Ordering}
 use Rattle.std.specs.declared.cmp.Ordering.TheVariants.{Less, Equal, Greater}
 use Rattle.std.specs.Range.Bound.{IsForward}
 use Rattle.std.specs.declared.ops.Bound.{Bound}
-use Rattle.raft_log_model_laws.proofs.Cases.{at_bool}
+use Rattle.raft_log_model_laws.proofs.Public.{at_bool}
 use Rattle.raft_log_memtable_index.specs.declared.key_map.KeySlot.{KeySlot}
 use Rattle.raft_log_memtable_index.specs.Bounds.{below_bound, by_bytes_cmp, from_bound, later_end, IsBoundAround}
 use Rattle.raft_log_memtable_index.specs.Bridge.{bytes_held}

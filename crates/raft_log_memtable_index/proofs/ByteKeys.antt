@@ -9,7 +9,7 @@ use Rattle.std.specs.Cmp.Lexicographic.{slice_cmp, nat_list_cmp_total, nat_list_
 use Rattle.std.proofs.lemmas.Map.Text.{is_eq-slice_cmp}
 use Rattle.std.proofs.lemmas.Slice.Eq.{bytes_eq-Decides}
 use Rattle.std.proofs.Math.Path.{fun_ext}
-use Rattle.raft_log_model_laws.proofs.Cases.{at_bool}
+use Rattle.raft_log_model_laws.proofs.Public.{at_bool}
 use Rattle.raft_log_memtable_index.specs.Shown.{KeyValue}
 use Rattle.raft_log_memtable_index.specs.Bridge.{rewritten_value}
 use Rattle.raft_log_memtable_index.specs.declared.key_map.KeySlot.{KeySlot}

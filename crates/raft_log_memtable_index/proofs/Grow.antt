@@ -6,7 +6,7 @@ use Rattle.std.proofs.Math.Path.{fun_ext}
 use Rattle.raft_log_model_laws.specs.Item.{Item}
 use Rattle.raft_log_model_laws.specs.Item.Item.{Run, Clean, Compact, Put, Del}
 use Rattle.raft_log_machine_laws.specs.Whereabouts.{Whereabouts, Alone, GoesOn, AppendTakes, GrowsBy, with_key}
-use Rattle.raft_log_machine_laws.proofs.RenamedWhereabouts.{grows_by_renamed}
+use Rattle.raft_log_machine_laws.proofs.Public.{grows_by_renamed}
 use Rattle.raft_log_extents.specs.declared.place.Place.{Place}
 use Rattle.raft_log_memtable_index.specs.Shown.{KeyValue, Shown, with_held, with_run, with_compact, stepped, all_stepped, is_in_append, whereabouts, span, IsOrderly, MayFollow, MayAllFollow, next_span}
 use Rattle.raft_log_memtable_index.specs.Bridge.{Located, in_queue, written}

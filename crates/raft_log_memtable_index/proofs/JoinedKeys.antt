@@ -7,7 +7,7 @@ use Rattle.std.specs.Cmp.Lexicographic.{slice_cmp, nat_list_eq_equiv}
 use Rattle.std.proofs.lemmas.Map.Text.{is_eq-slice_cmp}
 use Rattle.std.proofs.lemmas.Slice.Eq.{bytes_eq-Decides}
 use Rattle.std.proofs.Math.Path.{fun_ext}
-use Rattle.raft_log_model_laws.proofs.Cases.{at_bool, if_false, if_true}
+use Rattle.raft_log_model_laws.proofs.Public.{at_bool, if_false, if_true}
 use Rattle.raft_log_memtable_index.specs.Shown.{KeyValue}
 use Rattle.raft_log_memtable_index.specs.declared.key_map.KeySlot.{KeySlot}
 use Rattle.raft_log_memtable_index.specs.declared.key_map.HeldValue.{HeldValue}

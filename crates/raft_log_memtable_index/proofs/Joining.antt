@@ -11,16 +11,10 @@ use Rattle.raft_log_model_laws.specs.Meaning.Content.{Value}
 use Rattle.raft_log_model_laws.specs.Holes.{Window, Spans, nothing, window, is_below, is_past, FitsOn, NoHole, has_clean}
 use Rattle.raft_log_model_laws.specs.Table.{Table, compacted, content, cut_from, run_onto, span_of}
 use Rattle.raft_log_model_laws.specs.Summary.{Summary, entries_over, join, lesser, values_over, word, IsSummary}
-use Rattle.raft_log_model_laws.proofs.Cases.{at_bool, if_false, from_lt_true, none_some}
-use Rattle.raft_log_model_laws.proofs.Words.{says_append}
-use Rattle.raft_log_model_laws.proofs.Holes.{no_hole_end, no_hole_front, no_hole_later, tail_step, IsTail}
-use Rattle.raft_log_model_laws.proofs.Windows.{one_run_fits, same_spans}
-use Rattle.raft_log_model_laws.proofs.TableSteps.{content_below, content_above}
-use Rattle.raft_log_model_laws.proofs.Summaries.{JoinFits}
-use Rattle.raft_log_model_laws.proofs.Joins.{join_fits, join_is_summary, stands_in, table_holds}
+use Rattle.raft_log_model_laws.proofs.Public.{at_bool, content_above, content_below, from_lt_true, if_false, join_fits, join_is_summary, no_hole_end, no_hole_front, no_hole_later, none_some, one_run_fits, same_spans, says_append, stands_in, table_holds, tail_step, IsTail, JoinFits}
 use Rattle.raft_log_machine_laws.specs.Recovery.{has_compact, has_del}
 use Rattle.raft_log_machine_laws.specs.Whereabouts.{top}
-use Rattle.raft_log_machine_laws.proofs.TruthRaises.{no_word}
+use Rattle.raft_log_machine_laws.proofs.Public.{no_word}
 use Rattle.raft_log_extents.specs.declared.place.Place.{Place}
 use Rattle.raft_log_memtable_index.specs.Shown.{IsOrderly, KeyValue, Shown, span, whereabouts}
 use Rattle.raft_log_memtable_index.specs.Bridge.{Located, in_queue}

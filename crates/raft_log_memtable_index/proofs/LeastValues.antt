@@ -5,8 +5,8 @@ use Rattle.std.specs.List.Sorted.{IsStrictlySortedBy}
 use Rattle.std.specs.Map.{keys_of}
 use Rattle.std.specs.Ordering.{nat_cmp}
 use Rattle.std.proofs.lemmas.Slice.Eq.{bytes_eq-Decides}
-use Rattle.raft_log_model_laws.proofs.Cases.{at_bool, at_option, from_le_false, from_le_true, if_true}
-use Rattle.raft_log_machine_laws.proofs.TruthRaises.{no_word}
+use Rattle.raft_log_model_laws.proofs.Public.{at_bool, at_option, from_le_false, from_le_true, if_true}
+use Rattle.raft_log_machine_laws.proofs.Public.{no_word}
 use Rattle.raft_log_memtable_index.specs.Shown.{KeyValue}
 use Rattle.raft_log_memtable_index.specs.declared.key_map.HeldValue.{HeldValue}
 use Rattle.raft_log_memtable_index.specs.declared.key_map.KeySlot.{KeySlot}

@@ -1,3 +1,4 @@
+pub mod Public
 pub mod ByteKeys
 pub mod JoinedKeys
 pub mod Sparing

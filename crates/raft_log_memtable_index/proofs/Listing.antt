@@ -1,5 +1,5 @@
 -- Keys that are listed in the order of a map.
-use Rattle.std.proofs.Common.{◌≡◌, ◌+◌, ◌-◌, ◌^◌, ℕ, Bool, true, false, ◌&&◌, List, [], ◌∷◌, ◌++◌, map, reverse, length, take, Option, Some, None, is_some, option_map, if◌then◌else◌, bytes_eq, refl, sym, ap, subst, ◌∙◌, arith, append_assoc}
+use Rattle.std.proofs.Common.{◌≡◌, ◌+◌, ◌-◌, ◌^◌, ℕ, Bool, true, false, ◌&&◌, List, [], ◌∷◌, ◌++◌, map, reverse, length, Option, Some, None, is_some, option_map, if◌then◌else◌, bytes_eq, refl, sym, ap, subst, ◌∙◌, arith}
 use Rattle.std.specs.Prelude.{min}
 use Rattle.std.specs.Cmp.Lexicographic.{slice_cmp, nat_list_eq_equiv}
 use Rattle.std.specs.List.{AllByRecursion}
@@ -10,7 +10,7 @@ use Rattle.std.specs.declared.cmp.Ordering.TheVariants.{Less}
 use Rattle.std.proofs.lemmas.List.{append-nil, reverse-append}
 use Rattle.std.proofs.lemmas.Map.Text.{is_eq-slice_cmp}
 use Rattle.std.proofs.lemmas.Slice.Eq.{bytes_eq-Decides}
-use Rattle.raft_log_model_laws.proofs.Cases.{at_bool}
+use Rattle.raft_log_model_laws.proofs.Public.{at_bool}
 use Rattle.raft_log_memtable_index.specs.Bridge.{AllOwed, bytes_held, without}
 use Rattle.raft_log_memtable_index.specs.declared.key_map.KeySlot.{KeySlot}
 use Rattle.raft_log_memtable_index.specs.Keys.{deleted_in, held_in, shown_value, slot_at}
@@ -214,23 +214,6 @@ asked_length gate (e ∷ es) = at_found (asked_in gate e.0 e.1) ∙ ap (one_more
     at_found : (o : Option (List ℕ)) → length (with_found e.0 o (listed (asked_in gate) es)) ≡ one_more_if o (length (listed (asked_in gate) es))
     at_found None = refl
     at_found (Some x) = let more : length ((e.0, x) ∷ listed (asked_in gate) es) ≡ length (listed (asked_in gate) es) + 1 = omega arith in more
-
--- one more that is found, and one that isn't
-pub found_more : {X : Type 0} (k : List ℕ) (x : X) (o : Option X) (front rest : List (List ℕ × X)) (all : List (List ℕ × X)) → o ≡ Some x
-    → front ++ with_found k o rest ≡ all → (front ++ ((k, x) ∷ [])) ++ rest ≡ all
-found_more k x o front rest all is h = append_assoc front ((k, x) ∷ []) rest ∙ ap (λ p. front ++ with_found k p rest) (sym is) ∙ h
-
-pub none_more : {X : Type 0} (k : List ℕ) (o : Option X) (front rest : List (List ℕ × X)) (all : List (List ℕ × X)) → o ≡ None
-    → front ++ with_found k o rest ≡ all → front ++ rest ≡ all
-none_more k o front rest all is h = ap (λ p. front ++ with_found k p rest) (sym is) ∙ h
-
--- what came behind is cut off
-pub front_kept : {X : Type 0} (old xs new : List X) → new ≡ old ++ xs → take (length old) new ≡ old
-front_kept old xs new h = ap (take (length old)) h ∙ cut old xs
-  where
-    cut : {Y : Type 0} (ys zs : List Y) → take (length ys) (ys ++ zs) ≡ ys
-    cut [] zs = refl
-    cut (y ∷ ys) zs = ap (λ l. y ∷ l) (cut ys zs)
 
 module _ {K : Type 0} (items : K → List ℕ) (es : List (K × KeySlot)) (now : List (List ℕ × KeySlot)) (is : by_bytes items es ≡ now) where
   -- the keys of a map rise, also as contracts see it

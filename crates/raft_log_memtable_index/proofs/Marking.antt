@@ -4,7 +4,7 @@ use Rattle.std.proofs.Math.Path.{fun_ext}
 use Rattle.raft_log_model_laws.specs.Item.{Item}
 use Rattle.raft_log_model_laws.specs.Item.Item.{Clean, Compact}
 use Rattle.raft_log_model_laws.specs.Meaning.{Slot, Content}
-use Rattle.raft_log_model_laws.proofs.Cases.{from_lt_true, from_lt_false}
+use Rattle.raft_log_model_laws.proofs.Public.{from_lt_false, from_lt_true}
 use Rattle.raft_log_machine_laws.specs.Whereabouts.{Whereabouts, top, CarriesAll, with_key}
 use Rattle.raft_log_memtable_index.specs.Shown.{Shown, whereabouts}
 use Rattle.raft_log_memtable_index.specs.Bridge.{dels, compact_owed, marks, AllOwed, without, unmarked}

@@ -10,9 +10,7 @@ use Rattle.raft_log_model_laws.specs.Meaning.Content.{Entry, Value}
 use Rattle.raft_log_model_laws.specs.Holes.{Window, FitsOn}
 use Rattle.raft_log_model_laws.specs.Table.{Table, content, span_of, table_step}
 use Rattle.raft_log_model_laws.specs.Renamed.{renamed, renamed_content, renamed_word}
-use Rattle.raft_log_model_laws.proofs.Words.{unwrap_or_option_or}
-use Rattle.raft_log_model_laws.proofs.TableLaws.{table_takes}
-use Rattle.raft_log_model_laws.proofs.RenamedLaws.{write_renamed}
+use Rattle.raft_log_model_laws.proofs.Public.{table_takes, unwrap_or_option_or, write_renamed}
 use Rattle.raft_log_extents.specs.declared.place.Place.{Place}
 use Rattle.raft_log_memtable_index.specs.Shown.{KeyValue, Shown, with_held, with_run, stepped, all_stepped, span, IsOrderly, MayFollow, MayAllFollow}
 use Rattle.raft_log_memtable_index.specs.Bridge.{Located, in_queue, bytes_held, table_of, written, IsMeant}

@@ -9,11 +9,9 @@ use Rattle.raft_log_model_laws.specs.Meaning.Slot.{Index}
 use Rattle.raft_log_model_laws.specs.Holes.{Window, is_past, IsSolid}
 use Rattle.raft_log_model_laws.specs.Table.{Table, compacted, content, cut_from, run_onto, span_of}
 use Rattle.raft_log_model_laws.specs.Summary.{directory_entries, directory_table}
-use Rattle.raft_log_model_laws.proofs.Cases.{at_bool, if_false, if_true, from_lt_false}
-use Rattle.raft_log_model_laws.proofs.AnySummary.{directory_of_any}
-use Rattle.raft_log_model_laws.proofs.Joins.{table_holds}
+use Rattle.raft_log_model_laws.proofs.Public.{at_bool, directory_of_any, from_lt_false, if_false, if_true, table_holds}
 use Rattle.raft_log_machine_laws.specs.Recovery.{HasMarks, IsReadOff, IsRecovered}
-use Rattle.raft_log_machine_laws.proofs.RecoveryLaws.{read_off}
+use Rattle.raft_log_machine_laws.proofs.Public.{read_off}
 use Rattle.raft_log_memtable_index.specs.Shown.{IsOrderly, KeyValue, Shown, is_in_append, span, whereabouts, with_run}
 use Rattle.raft_log_memtable_index.specs.Bridge.{IsMeant, Located, located, unmarked}
 use Rattle.raft_log_memtable_index.specs.Replayed.{IsReplayed, Replayed, AllStandsIn, left, merged, run_over, standing, summary_of, told, with_entries, with_newer}

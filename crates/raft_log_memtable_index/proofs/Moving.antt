@@ -7,8 +7,7 @@ use Rattle.raft_log_model_laws.specs.Meaning.{Slot, Content}
 use Rattle.raft_log_model_laws.specs.Meaning.Slot.{Index, Key}
 use Rattle.raft_log_model_laws.specs.Meaning.Content.{Entry, Value}
 use Rattle.raft_log_model_laws.specs.Renamed.{renamed_content}
-use Rattle.raft_log_model_laws.proofs.Tests.{from_same_key}
-use Rattle.raft_log_model_laws.proofs.TableSteps.{content_within, get_take, get_drop}
+use Rattle.raft_log_model_laws.proofs.Public.{content_within, from_same_key, get_drop, get_take}
 use Rattle.raft_log_machine_laws.specs.Whereabouts.{RunStands, Carries, CarriesAll, with_key}
 use Rattle.raft_log_extents.specs.declared.place.Place.{Place}
 use Rattle.raft_log_memtable_index.specs.Shown.{KeyValue, Shown, is_in_append, whereabouts, IsOrderly}

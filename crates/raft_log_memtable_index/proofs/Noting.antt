@@ -9,15 +9,10 @@ use Rattle.raft_log_model_laws.specs.Meaning.{Slot, Content, write, says}
 use Rattle.raft_log_model_laws.specs.Table.{content}
 use Rattle.raft_log_model_laws.specs.Meaning.Slot.{Index, Key}
 use Rattle.raft_log_model_laws.specs.Meaning.Content.{Value}
-use Rattle.raft_log_model_laws.proofs.Cases.{at_bool, at_option}
+use Rattle.raft_log_model_laws.proofs.Public.{at_bool, at_option, from_same_key, get_back, get_drop, get_front, get_take, put_sets, run_sets, says_renamed}
 use Rattle.raft_log_model_laws.specs.Renamed.{renamed_word}
-use Rattle.raft_log_model_laws.proofs.RenamedLaws.{says_renamed}
-use Rattle.raft_log_model_laws.proofs.Tests.{run_sets, from_same_key, put_sets}
-use Rattle.raft_log_model_laws.proofs.TableSteps.{get_take, get_drop, get_front, get_back}
 use Rattle.raft_log_machine_laws.specs.Survival.{IsSpoken}
-use Rattle.raft_log_machine_laws.proofs.TruthGrows.{spoken_after}
-use Rattle.raft_log_machine_laws.proofs.TruthCarries.{differ}
-use Rattle.raft_log_machine_laws.proofs.Starts.{spoken_newer}
+use Rattle.raft_log_machine_laws.proofs.Public.{differ, spoken_after, spoken_newer}
 use Rattle.raft_log_machine_laws.specs.Notes.{IsAppended, IsInRewrite}
 use Rattle.raft_log_extents.specs.declared.place.Place.{Place}
 use Rattle.raft_log_memtable_index.specs.declared.group_files.GroupFiles.{GroupFiles}

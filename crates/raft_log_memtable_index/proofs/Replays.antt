@@ -9,11 +9,8 @@ use Rattle.raft_log_model_laws.specs.Meaning.{write}
 use Rattle.raft_log_model_laws.specs.Holes.{Window, is_past, FitsOn, has_clean}
 use Rattle.raft_log_model_laws.specs.Table.{Table, run_onto, span_of, table_step}
 use Rattle.raft_log_model_laws.specs.Summary.{Summary, step, IsSummary}
-use Rattle.raft_log_model_laws.proofs.Cases.{at_bool, if_false}
-use Rattle.raft_log_model_laws.proofs.Words.{says_append}
-use Rattle.raft_log_model_laws.proofs.Summaries.{step_word, step_sound}
-use Rattle.raft_log_model_laws.proofs.Joins.{is_summary}
-use Rattle.raft_log_machine_laws.proofs.TruthRaises.{no_word}
+use Rattle.raft_log_model_laws.proofs.Public.{at_bool, if_false, is_summary, says_append, step_sound, step_word}
+use Rattle.raft_log_machine_laws.proofs.Public.{no_word}
 use Rattle.raft_log_machine_laws.specs.Recovery.{has_compact, has_del, HasMarks}
 use Rattle.raft_log_machine_laws.specs.Whereabouts.{top, Whereabouts}
 use Rattle.raft_log_extents.specs.declared.place.Place.{Place}

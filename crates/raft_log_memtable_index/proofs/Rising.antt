@@ -4,7 +4,7 @@ use Rattle.std.proofs.lemmas.Bool.{cases_lt}
 use Rattle.raft_log_model_laws.specs.Item.{Item}
 use Rattle.raft_log_model_laws.specs.Item.Item.{Run, Clean, Compact, Put, Del}
 use Rattle.raft_log_model_laws.specs.Meaning.Slot.{Index}
-use Rattle.raft_log_model_laws.proofs.TableSteps.{get_take, get_front, get_back}
+use Rattle.raft_log_model_laws.proofs.Public.{get_back, get_front, get_take}
 use Rattle.raft_log_extents.specs.declared.place.Place.{Place}
 use Rattle.raft_log_memtable_index.specs.Shown.{Shown, nothing_shown, with_run, stepped, all_stepped, span, IsOrderly, MayFollow, MayAllFollow}
 use Rattle.raft_log_memtable_index.specs.Bridge.{Located, Move, moved_run, moved, all_moved, CanMove, CanAllMove}

@@ -1,5 +1,5 @@
 -- How many of the places from a position on fit, or are in files up to a number, counted one after another.
-use Rattle.std.proofs.Common.{◌≡◌, ℕ, zero, suc, ◌+◌, ◌-◌, ◌<◌, ◌≤◌, ◌⊎◌, true, false, List, [], ◌∷◌, length, take, drop, Some, slice_index_or, if◌then◌else◌, nat_le, refl, sym, ap, ap₂, subst, ◌∙◌, inl, inr, arith}
+use Rattle.std.proofs.Common.{◌≡◌, ℕ, zero, suc, ◌+◌, ◌-◌, ◌<◌, ◌≤◌, true, false, List, [], ◌∷◌, length, take, drop, Some, slice_index_or, if◌then◌else◌, nat_le, refl, sym, ap, ap₂, subst, ◌∙◌, arith}
 use Rattle.std.proofs.lemmas.Bool.Decides.{nat_tests}
 use Rattle.raft_log_extents.specs.declared.place.Place.{Place}
 use Rattle.raft_log_extents.specs.Counts.{fitting, passing, sized}
@@ -56,14 +56,6 @@ first_fits max position limit ps d h k =
     let fewer : limit ≡ suc (limit - 1) = omega arith in
     ap₂ (λ n l. sized (Some max) (take n l)) fewer (drop_at position ps d k)
 
-pub last_fits : (left n : ℕ) (ps : List Place) → n ≡ 0 → fitting left (take n ps) ≡ 0
-last_fits left n ps h = ap (λ k. fitting left (take k ps)) h
-
-pub index_drop : (n j : ℕ) (ps : List Place) (d : Place) → slice_index_or (drop n ps) j d ≡ slice_index_or ps (n + j) d
-index_drop zero j ps d = ap (λ k. slice_index_or ps k d) (let same : j ≡ 0 + j = omega arith in same)
-index_drop (suc n) j [] d = refl
-index_drop (suc n) j (p ∷ ps) d = index_drop n j ps d ∙ ap (λ k. slice_index_or (p ∷ ps) k d) (let same : suc (n + j) ≡ suc n + j = omega arith in same)
-
 -- the same of the place that was read
 pub starts : (max position limit : ℕ) (ps : List Place) (p : Place) → p ≡ slice_index_or ps position p → 0 < limit → position < length ps → p.entry_len ≤ max
     → sized (Some max) (take limit (drop position ps)) ≡ 1 + fitting (max - p.entry_len) (take (limit - 1) (drop (position + 1) ps))
@@ -110,25 +102,3 @@ stops gate position limit i ps d all h k high e =
     let none = passing_next gate position limit i ps d h k
     ∙ if_more (slice_index_or ps (position + i) d).file gate (suc (passing gate (take (limit - (i + 1)) (drop (position + (i + 1)) ps)))) 0 high in
     omega (arith, e, none)
-
-pub passing_start : (gate position limit : ℕ) (ps : List Place) → passing gate (take limit (drop position ps)) ≡ 0 + passing gate (take (limit - 0) (drop (position + 0) ps))
-passing_start gate position limit ps =
-    let a : limit ≡ limit - 0 = omega arith in
-    let b : position ≡ position + 0 = omega arith in
-    let c : passing gate (take (limit - 0) (drop (position + 0) ps)) ≡ 0 + passing gate (take (limit - 0) (drop (position + 0) ps)) = omega arith in
-    ap₂ (λ m n. passing gate (take m (drop n ps))) a b ∙ c
-
--- all were counted
-pub passing_end : (gate position limit i : ℕ) (ps : List Place) → (limit ≤ i) ⊎ (length ps ≤ position + i) → passing gate (take (limit - i) (drop (position + i) ps)) ≡ 0
-passing_end gate position limit i ps (inl h) = ap (λ n. passing gate (take n (drop (position + i) ps))) (let none : limit - i ≡ 0 = omega arith in none)
-passing_end gate position limit i ps (inr h) = ap (λ l. passing gate (take (limit - i) l)) (none (position + i) ps h) ∙ nothing (limit - i)
-  where
-    none : (n : ℕ) (ps : List Place) → length ps ≤ n → drop n ps ≡ []
-    none zero [] h = refl
-    none (suc n) [] h = refl
-    none zero (p ∷ ps) h = absurd (omega arith)
-    none (suc n) (p ∷ ps) h = none n ps (omega arith)
-
-    nothing : (n : ℕ) → passing gate (take n []) ≡ 0
-    nothing zero = refl
-    nothing (suc n) = refl

@@ -42,8 +42,8 @@ table_of v = record {
 abbrev pub written : {E : Type 0} → (Located → E) → Item Place (List ℕ) → Item E (List ℕ)
 written at x = renamed (λ p. at (in_queue true p)) x
 
--- The table `v` represents the contents `m` of its group: `m` has the same in each slot. `at` gives the bytes at each
--- place.
+-- The table `v` represents the contents `m` of its group: in each slot (an index or a key), `m` has the same content as
+-- the table. `at` gives the bytes at each place.
 abbrev pub IsMeant : {E : Type 0} → (Located → E) → Shown → (Slot → Option (Content E (List ℕ))) → Type 0
 IsMeant at v m = (s : Slot) → option_map (renamed_content at) (content (table_of v) s) ≡ m s
 
@@ -51,14 +51,14 @@ IsMeant at v m = (s : Slot) → option_map (renamed_content at) (content (table_
 abbrev pub read : {E : Type 0} → (Located → E) → Shown → ℕ → ℕ → List E
 read at v f count = map at (take count (drop (f - v.first) (located v.rewritten v.places)))
 
--- One copy into Rewrite. `MoveRun` copies entries to new places, the first one at this index. `MoveKey` copies the
--- value of a key into a file.
+-- One copy into Rewrite. `MoveRun` copies entries with consecutive indexes, from this index on, to these new places.
+-- `MoveKey` copies the value of this key into the file with this number.
 pub data Move : Type 0 where
   MoveRun : ℕ → List Place → Move
   MoveKey : List ℕ → ℕ → Move
 
--- The table after entries were copied to Rewrite, one to each place in `ps`; the first has the index `f`. All entries
--- before these are in Rewrite too.
+-- The table after entries were copied to Rewrite, one to each place in `ps`. The first of these entries has the index
+-- `f`. All entries before `f` are in Rewrite too.
 abbrev pub moved_run : Shown → ℕ → List Place → Shown
 moved_run v f ps = record v {
   places = take (f - v.first) v.places ++ (ps ++ drop ((f - v.first) + length ps) v.places);
@@ -84,9 +84,11 @@ abbrev pub all_moved : Shown → List Move → Shown
 all_moved v [] = v
 all_moved v (x ∷ xs) = all_moved (moved v x) xs
 
--- The copy is allowed. A run starts at or before the end of the entries in Rewrite, and ends at or after it. It may go
--- on into Append only if the table owes neither a Clean nor a Compact. The bytes at the new places are those at the old
--- ones. A key must have a value. If the value is in Append, the table must owe neither a Clean nor the Del of this key.
+-- The copy is allowed.
+-- - `MoveRun`: the table has these entries. They start at or before the end of the entries in Rewrite, and end at or
+--   after it. They may include entries of Append only if the table owes neither a Clean nor a Compact. The bytes at the
+--   new places are those at the old ones.
+-- - `MoveKey`: the key has a value. If the value is in Append, the table owes neither a Clean nor the Del of this key.
 abbrev pub CanMove : {E : Type 0} → (Located → E) → Shown → Move → Type 0
 CanMove at v (MoveRun f ps) =
     (v.first ≤ f) × (f ≤ v.first + v.rewritten) × (v.first + v.rewritten ≤ f + length ps)
@@ -128,7 +130,7 @@ abbrev pub compact_owed : {E : Type 0} → Shown → List (Item E (List ℕ))
 compact_owed v =
     if v.compacted then Compact (if nat_lt 0 v.rewritten then v.first else top) ∷ [] else []
 
--- the tombstones that the table owes to Rewrite, with a Del for each key in `ks`: the Clean first, then the Compact
+-- the tombstones that the table owes to Rewrite: the Clean first, then the Compact, then a Del for each key in `ks`
 abbrev pub marks : {E : Type 0} → Shown → List (List ℕ) → List (Item E (List ℕ))
 marks v ks = (if v.cleaned then Clean ∷ [] else []) ++ (compact_owed v ++ dels ks)
 

@@ -1,5 +1,5 @@
--- In which files a memtable's entries and values are. What is in Rewrite also has a first file that must be kept so
--- that it can be recovered. That may be an earlier file, since an atomic group may have records in several.
+-- In which files a memtable's entries and values are. To recover an entry or value that is in a file of Rewrite, an
+-- earlier file may have to be kept too. The reason is that an atomic group may have records in several files.
 use Rattle.std.specs.Prelude.{◌≡◌, ℕ, ◌+◌, ◌-◌, ◌<◌, ◌≤◌, ◌⊎◌, min, max, false, List, [], ◌∷◌, length, Option, Some, None, if◌then◌else◌, nat_le, slice_get}
 use Rattle.raft_log_model_laws.specs.Item.{Item}
 use Rattle.raft_log_model_laws.specs.Item.Item.{Run}
@@ -28,8 +28,9 @@ abbrev pub file_at : Shown → Slot → ℕ
 file_at v (Index i) = place_file (slice_get v.places (i - v.first))
 file_at v (Key k) = held_file (v.held k)
 
--- The first file that must be kept so that what is in file `n` of Rewrite can be recovered. If the noted atomic groups
--- reach file `n` or a later one, it is their first file or `n`, whichever is lower. Otherwise it is `n`.
+-- The first file that must be kept so that what is in file `n` of Rewrite can be recovered. `files` are the first and
+-- the last file of the noted atomic groups. If the last one is `n` or later, the result is the first one or `n`,
+-- whichever is lower. Otherwise the result is `n`.
 abbrev pub start_of : ℕ → Option GroupFiles → ℕ
 start_of n None = n
 start_of n (Some files) = if nat_le n files.to then min files.from n else n
@@ -44,8 +45,8 @@ IsLeastInRewrite v least =
     ((i : ℕ) → v.first ≤ i → i < v.first + v.rewritten → least ≤ file_at v (Index i))
     × ((k : List ℕ) (h : KeyValue) → v.held k ≡ Some h → h.appended ≡ false → least ≤ h.file)
 
--- The files to note after the end of an atomic group whose records are in the files `new`. The files noted before stay
--- noted, unless the last of them is below `least`, a file below which the table has nothing in Rewrite.
+-- The files to note after the end of an atomic group whose records are in the files `new`. Below file `least` the table
+-- has nothing in Rewrite. The files noted before stay noted, unless the last of them is below `least`.
 abbrev pub noting : ℕ → Option GroupFiles → GroupFiles → GroupFiles
 noting least None new = new
 noting least (Some old) new =
@@ -102,18 +103,18 @@ AppendedGrow xs n v u =
     → (IsAppended (whereabouts v) s × (file_at u s ≡ file_at v s))
     ⊎ ((file_at u s ≡ n) × IsSpoken (says s xs))
 
--- each slot that is in Append in `u` was there in `v`, in the same file
+-- each slot that the table `u` has in Append, the table `v` has in Append too, in the same file
 abbrev pub AppendedShrink : Shown → Shown → Type 0
 AppendedShrink v u =
     (s : Slot) → IsAppended (whereabouts u) s → IsAppended (whereabouts v) s × (file_at u s ≡ file_at v s)
 
--- for each slot that is in Rewrite in `u`, the first file that must be kept is not later than in `v`
+-- for each slot that the table `u` has in Rewrite, the first file that must be kept is not later in `u` than in `v`
 abbrev pub RewrittenStay : Shown → Shown → Type 0
 RewrittenStay v u = (s : Slot) → IsInRewrite (whereabouts u) s → noted_at u s ≤ noted_at v s
 
--- Items that count from file `n` on changed the table `v` into `u`. Each slot that is now in Rewrite has one of two
--- origins. It was in Rewrite before, and its first file to keep is not later. Or its first file to keep is at most `n`,
--- and an item touches it.
+-- The items `xs`, which are in Rewrite, changed the table `v` into `u`. Each slot that is now in Rewrite has one of two
+-- origins. Either it was in Rewrite before, and its first file to keep is not later now. Or its first file to keep is
+-- at most `n`, and an item touches it.
 abbrev pub RewrittenCarry : {E : Type 0} → List (Item E (List ℕ)) → ℕ → Shown → Shown → Type 0
 RewrittenCarry xs n v u =
     (s : Slot) → IsInRewrite (whereabouts u) s

@@ -13,9 +13,9 @@ use Rattle.raft_log_memtable_index.specs.declared.group_files.GroupFiles.{GroupF
 use Rattle.raft_log_memtable_index.specs.Shown.{IsOrderly, KeyValue, Shown, nothing_shown, span, whereabouts, with_clean, with_compact, with_del, with_held, with_run}
 use Rattle.raft_log_memtable_index.specs.Bridge.{Located, in_queue, located, unmarked}
 
--- The result of replaying items of a group: the table that they make, and which earlier entries they leave. Unless
--- there was a Clean, they leave the entries from `low` on, below `high` if there is one. `low` is the greatest index of
--- a Compact, and `high` the least start of a run.
+-- The result of replaying items of a group: `table` is the table that these items make. `low` and `high` say which
+-- entries of an earlier segment the items leave, if none of them is a Clean: those from index `low` on, and below
+-- `high` if there is one. `low` is the greatest index of a Compact, and `high` the least start of a run.
 pub record Replayed : Type 0 where
   pub table : Shown
   pub low : ℕ
@@ -25,8 +25,8 @@ pub record Replayed : Type 0 where
 abbrev pub nothing_replayed : Replayed
 nothing_replayed = record { table = nothing_shown; low = 0; high = None }
 
--- The table after a run from index `f` on, whose first `count` entries are in Rewrite. It replaces all entries from
--- `f` on. If `f` is past the end of the entries, so that a hole would remain, it replaces all entries.
+-- The table after a run from index `f` on, whose first `count` entries are in Rewrite. The run replaces all entries
+-- from `f` on. If `f` is past the end of the entries, so that a hole would remain, the run replaces all entries.
 abbrev pub run_over : Shown → ℕ → List Place → ℕ → Shown
 run_over v f ps count =
     if is_past (span v) f then record v { first = f; places = ps; rewritten = count }
@@ -107,7 +107,8 @@ with_newer v z = record (with_entries v z) {
   noted = both_noted v.noted z.table.noted;
 }
 
--- The result of two segments, one after the other. If the later one has a Clean, it is the later result alone.
+-- The result of two segments, one after the other. If the later segment has a Clean, the result is that of the later
+-- segment alone.
 abbrev pub joined : Replayed → Replayed → Replayed
 joined a z =
     if z.table.cleaned then z
@@ -118,8 +119,8 @@ joined a z =
 abbrev pub merged : Shown → Replayed → Shown
 merged v z = if z.table.cleaned then z.table else with_newer (unmarked v) z
 
--- The later segment has no Clean. Its entries are in Append, and begin past the end of the entries that it leaves of
--- `v`.
+-- The later segment has no Clean, but it has entries, all in Append. They begin past the end of the entries of `v` that
+-- this segment leaves.
 abbrev pub LeavesHole : Shown → Replayed → Type 0
 LeavesHole v z =
     (z.table.cleaned ≡ false) × (0 < length z.table.places) × (z.table.rewritten ≡ 0)
@@ -161,8 +162,8 @@ pub record AllStandsIn (q : Bool) (v : Shown) : Type 0 where
   pub entries : v.rewritten ≡ (if q then 0 else length v.places)
   pub values : (k : List ℕ) (h : KeyValue) → v.held k ≡ Some h → h.appended ≡ q
 
--- `z` is the result of replaying the items `xs`, of Append if `q` is true, else of Rewrite. In each slot it has what
--- they put there, and it owes their tombstones.
+-- `z` is the result of replaying the items `xs`, of Append if `q` is true, else of Rewrite. In each slot (an index or a
+-- key), the table of `z` has what the items put into this slot. It owes the items' tombstones.
 pub record IsReplayed (q : Bool) (xs : List (Item Located KeyValue)) (z : Replayed) : Type 0 where
   pub summary : IsSummary (summary_of z) xs
   pub marks : HasMarks xs (whereabouts z.table)

@@ -14,9 +14,10 @@ pub record KeyValue : Type 0 where
   pub appended : Bool
   pub file : ℕ
 
--- A group's table. Its entries have indexes from `first` on and these places; the first `rewritten` ones are in
--- Rewrite, the others in Append. `cleaned`, `compacted` and `deleted` say whether a Clean, a Compact or the Del of a
--- key is owed to Rewrite. `noted` is the range of files of the atomic groups in Rewrite that may still be needed.
+-- A group's table. Its entries have the indexes from `first` on, and are at `places`. The first `rewritten` entries are
+-- in Rewrite, the others in Append. `held` gives the value of each key. `cleaned`, `compacted` and `deleted` say
+-- whether a Clean, a Compact or the Del of a key is owed to Rewrite. `noted` is the range of files of the atomic groups
+-- in Rewrite that may still be needed.
 pub record Shown : Type 0 where
   pub first : ℕ
   pub places : List Place
@@ -52,7 +53,7 @@ with_run v f ps = record v {
   rewritten = min v.rewritten (f - v.first);
 }
 
--- The table after a Clean: no entry and no value remain, and a Clean is owed. It makes an owed Compact unnecessary.
+-- The table after a Clean: no entry and no value remain, and a Clean is owed. A Compact is no longer owed.
 abbrev pub with_clean : Shown → Shown
 with_clean v = record v {
   first = 0;

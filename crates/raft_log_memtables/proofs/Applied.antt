@@ -4,7 +4,7 @@ use Rattle.raft_log_model_laws.specs.Item.{Item, Tagged}
 use Rattle.raft_log_model_laws.specs.Item.Item.{Run}
 use Rattle.raft_log_model_laws.specs.Groups.{of_group}
 use Rattle.raft_log_model_laws.specs.Renamed.{renamed, renamed_tagged}
-use Rattle.raft_log_model_laws.proofs.RenamedLaws.{of_group_renamed}
+use Rattle.raft_log_model_laws.proofs.Public.{of_group_renamed}
 use Rattle.raft_log_record_items.specs.declared.entry.EntryIndex.{EntryIndex}
 use Rattle.raft_log_record_items.specs.declared.op_type.OpType.{OpType}
 use Rattle.raft_log_record_items.specs.declared.op_type.OpType.TheVariants as ops
@@ -24,12 +24,11 @@ use Rattle.raft_log_model_laws.specs.Meaning.{after}
 use Rattle.raft_log_machine_laws.specs.Whereabouts.{GrowsBy}
 use Rattle.raft_log_extents.specs.Entries.{place_of}
 use Rattle.raft_log_memtable_index.specs.Bridge.{in_queue, IsMeant, Located}
-use Rattle.raft_log_memtable_index.proofs.Grow.{batch_grows, orderly_after}
-use Rattle.raft_log_memtable_index.proofs.Meant.{batch_meant}
+use Rattle.raft_log_memtable_index.proofs.Public.{batch_grows, batch_meant, orderly_after}
 use Rattle.raft_log_memtable.specs.Room.{Promise, kept, IsReady, CanTake}
-use Rattle.raft_log_memtable.proofs.Ready.{ready_can, ready_next, ready_renamed}
+use Rattle.raft_log_memtable.proofs.Public.{ready_can, ready_next, ready_renamed}
 use Rattle.raft_log_memtables.specs.declared.mem_tables.MemTables.{MemTables}
-use Rattle.raft_log_memtables.specs.Tables.{shown_of, promise_of, has_table, counts, IsAtRest}
+use Rattle.raft_log_memtables.specs.Tables.{shown_of, promise_of, has_table, counts}
 use Rattle.raft_log_memtables.specs.Batch.{all_shown, all_written, MayFollowAll, counts_after, counts_at_end, GroupsPass, IsApplied, IsReadyFor}
 use Rattle.raft_log_memtables.proofs.Ready.{by_group, same_or_apart}
 
@@ -114,10 +113,6 @@ written_items handle (x ∷ xs) =
 pub ready_written : (m : MemTables) (handle : FileBlockHandle) (xs : List LogItem) → IsReadyFor m (tagged_items (λ e. e) xs) → IsReadyFor m (tagged_items (λ e. e) (written handle xs))
 ready_written m handle xs r =
     subst (λ (l : List (Tagged EntryIndex (List ℕ))). IsReadyFor m l) (sym (written_items handle xs)) (ready_for (written_entry handle) m xs r)
-
--- nothing is prepared any more once all items are done
-pub done_rests : {E V : Type 0} (m : MemTables) → IsReadyFor {E = E} {V = V} m [] → IsAtRest m
-done_rests m r g = (r.groups g).ends
 
 module _ (n : ℕ) (m k : MemTables) (x : Tagged Place (List ℕ)) (xs : List (Tagged Place (List ℕ))) where
   here : (g : ℕ) → (x.group == g) ≡ true → of_group g (x ∷ xs) ≡ x.item ∷ of_group g xs

@@ -3,7 +3,7 @@ use Rattle.std.proofs.Common.{◌≡◌, ℕ, zero, suc, ◌-◌, ◌&&◌, ◌|
 use Rattle.std.specs.BTreeMap.{get}
 use Rattle.std.specs.Option.{option_or}
 use Rattle.std.specs.Ordering.{nat_cmp}
-use Rattle.raft_log_model_laws.proofs.Cases.{if_false, if_true, lt_false}
+use Rattle.raft_log_model_laws.proofs.Public.{if_false, if_true, lt_false}
 use Rattle.raft_log_extents.specs.declared.place.Place.{Place}
 use Rattle.raft_log_memtable_index.specs.Shown.{KeyValue, Shown}
 use Rattle.raft_log_memtable_index.specs.Bridge.{unmarked}

@@ -11,9 +11,7 @@ use Rattle.raft_log_machine_laws.specs.Tables.{NotesCarry, NotesShrink}
 use Rattle.raft_log_memtable_index.specs.Shown.{Shown, whereabouts}
 use Rattle.raft_log_memtable_index.specs.Noted.{AreUpTo, file_at, noted_at}
 use Rattle.raft_log_memtable_index.specs.Bridge.{AllOwed, CanAllMove, Located, Move, all_moved, items_of as copies_of, marks, unmarked, without}
-use Rattle.raft_log_memtable_index.proofs.Moving.{moves_carry, moves_meant, moves_orderly}
-use Rattle.raft_log_memtable_index.proofs.Marking.{marks_carry}
-use Rattle.raft_log_memtable_index.proofs.Noting.{appended_shrink, rewritten_carry}
+use Rattle.raft_log_memtable_index.proofs.Public.{appended_shrink, marks_carry, moves_carry, moves_meant, moves_orderly, rewritten_carry}
 use Rattle.raft_log_memtables.specs.Views.{AreMeant, ViewCarries, view_of}
 use Rattle.raft_log_memtables.proofs.Fitting.{EachFits, groups_fit, marks_fit, moves_fit}
 

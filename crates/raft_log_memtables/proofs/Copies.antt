@@ -4,14 +4,14 @@ use Rattle.std.proofs.lemmas.List.{take_all}
 use Rattle.raft_log_model_laws.specs.Item.{Item}
 use Rattle.raft_log_model_laws.specs.Item.Item.{Run, Clean, Compact, Put, Del}
 use Rattle.raft_log_model_laws.specs.Meaning.{Slot, Content}
-use Rattle.raft_log_model_laws.proofs.Cases.{at_bool, if_false, if_true, lt_false}
+use Rattle.raft_log_model_laws.proofs.Public.{at_bool, if_false, if_true, lt_false}
 use Rattle.raft_log_machine_laws.specs.Whereabouts.{CarriesAll}
 use Rattle.raft_log_extents.specs.declared.place.Place.{Place}
 use Rattle.raft_log_extents.specs.Counts.{passing}
 use Rattle.raft_log_memtable_index.specs.Shown.{KeyValue, Shown, whereabouts, with_held, IsOrderly}
 use Rattle.raft_log_memtable_index.specs.Bridge.{Located, moved_run, moved_key, all_moved, rewritten_value, item_of, item_of_key, items_of, CanMove, CanAllMove, IsMeant}
 use Rattle.raft_log_memtable_index.specs.Bridge.Move.{MoveRun, MoveKey}
-use Rattle.raft_log_memtable_index.proofs.Moving.{moves_carry, moves_meant, moves_orderly, move_orderly}
+use Rattle.raft_log_memtable_index.proofs.Public.{move_orderly, moves_carry, moves_meant, moves_orderly}
 use Rattle.raft_log_memtable.specs.Moves.{gated, movable, rewritten_at, rewritten_by, may_move, rewritten_to, key_rewritten}
 use Rattle.raft_log_memtables.specs.Rewriting.{all_rewritten, copied_items, moves_of, IsCopy, AreCopies}
 

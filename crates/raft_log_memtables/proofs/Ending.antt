@@ -13,8 +13,7 @@ use Rattle.raft_log_memtable_index.specs.declared.group_files.GroupFiles.{GroupF
 use Rattle.raft_log_memtable_index.specs.Shown.{Shown, IsOrderly, whereabouts}
 use Rattle.raft_log_memtable_index.specs.Noted.{file_at, noted_at, with_note}
 use Rattle.raft_log_memtable_index.specs.Bridge.{IsMeant, Located, all_moved, items_of as copies_of}
-use Rattle.raft_log_memtable_index.proofs.Moving.{moves_carry, moves_meant, moves_orderly}
-use Rattle.raft_log_memtable_index.proofs.Noting.{appended_shrink, group_carries}
+use Rattle.raft_log_memtable_index.proofs.Public.{appended_shrink, group_carries, moves_carry, moves_meant, moves_orderly}
 use Rattle.raft_log_memtables.specs.Views.{AreMeant, GroupEnd, MayEnd, ViewEnds, ended}
 
 -- what the end of an atomic group makes of one group's table

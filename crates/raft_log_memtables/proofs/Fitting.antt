@@ -9,7 +9,7 @@ use Rattle.raft_log_machine_laws.specs.Whereabouts.{top}
 use Rattle.raft_log_memtable_index.specs.Shown.{KeyValue, Shown, IsOrderly}
 use Rattle.raft_log_memtable_index.specs.Bridge.{CanAllMove, CanMove, Located, Move, compact_owed, dels, in_queue, item_of, item_of_key, items_of, marks, moved}
 use Rattle.raft_log_memtable_index.specs.Bridge.Move.{MoveKey, MoveRun}
-use Rattle.raft_log_memtable_index.proofs.Moving.{moves_orderly}
+use Rattle.raft_log_memtable_index.proofs.Public.{moves_orderly}
 
 -- each of a group's items does
 abbrev pub EachFits : {E V : Type 0} → List (Item E V) → Type 0

@@ -4,7 +4,7 @@ use Rattle.std.proofs.lemmas.List.{append-nil}
 use Rattle.raft_log_model_laws.specs.Item.{Item, Record, Tagged, items_of}
 use Rattle.raft_log_model_laws.specs.Meaning.{after, says}
 use Rattle.raft_log_model_laws.specs.Groups.{Map, of_group, taken}
-use Rattle.raft_log_model_laws.proofs.RenamedLaws.{of_group_renamed}
+use Rattle.raft_log_model_laws.proofs.Public.{of_group_renamed}
 use Rattle.raft_log_machine_laws.specs.Survival.{IsSpoken}
 use Rattle.raft_log_machine_laws.specs.Whereabouts.{GrowsBy}
 use Rattle.raft_log_machine_laws.specs.Notes.{IsAppended}
@@ -13,7 +13,7 @@ use Rattle.raft_log_extents.specs.declared.place.Place.{Place}
 use Rattle.raft_log_memtable_index.specs.Shown.{Shown, whereabouts}
 use Rattle.raft_log_memtable_index.specs.Noted.{file_at}
 use Rattle.raft_log_memtable_index.specs.Bridge.{IsMeant, Located, in_queue, written}
-use Rattle.raft_log_memtable_index.proofs.Noting.{rewritten_stay, written_grow}
+use Rattle.raft_log_memtable_index.proofs.Public.{rewritten_stay, written_grow}
 use Rattle.raft_log_memtables.specs.Batch.{MayFollowAll, all_shown, all_written}
 use Rattle.raft_log_memtables.proofs.Applied.{all_grow, all_meant, all_orderly}
 use Rattle.raft_log_memtables.specs.Views.{AreMeant, LieIn, ViewGrows, view_of}

@@ -1,3 +1,4 @@
+pub mod Public
 pub mod Bare
 pub mod Items
 pub mod Ready

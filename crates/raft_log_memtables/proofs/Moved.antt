@@ -1,6 +1,5 @@
 -- Room for the entries of a batch to move into Rewrite, and their move, item by item.
-use Rattle.std.proofs.Common.{◌≡◌, ℕ, ◌+◌, ◌-◌, ◌≤◌, ◌==◌, Bool, true, false, if◌then◌else◌, List, [], ◌∷◌, ◌++◌, length, map, Option, refl, sym, ap, ap₂, subst, ◌∙◌, arith, append-nil}
-use Rattle.std.proofs.lemmas.List.{length-map}
+use Rattle.std.proofs.Common.{◌≡◌, ℕ, ◌+◌, ◌-◌, ◌≤◌, ◌==◌, Bool, true, false, if◌then◌else◌, List, [], ◌∷◌, ◌++◌, map, Option, refl, sym, ap, ap₂, subst, ◌∙◌, arith, append-nil}
 use Rattle.raft_log_record_base.specs.declared.pipe_log.FileBlockHandle.{FileBlockHandle}
 use Rattle.raft_log_record_items.specs.declared.entry.EntryIndex.{EntryIndex}
 use Rattle.raft_log_record_items.specs.declared.item.LogItem.{LogItem}
@@ -9,13 +8,12 @@ use Rattle.raft_log_record_items.specs.Placed.{written, written_entry}
 use Rattle.raft_log_model_laws.specs.Item.{Tagged}
 use Rattle.raft_log_model_laws.specs.Groups.{of_group}
 use Rattle.raft_log_model_laws.specs.Renamed.{renamed_tagged}
-use Rattle.raft_log_model_laws.proofs.Records.{of_group_append}
-use Rattle.raft_log_model_laws.proofs.RenamedLaws.{of_group_renamed}
-use Rattle.raft_log_record_frames.specs.Meaning.{meaning, tagged_items}
+use Rattle.raft_log_model_laws.proofs.Public.{of_group_append, of_group_renamed}
+use Rattle.raft_log_record_frames.specs.Meaning.{tagged_items}
 use Rattle.raft_log_extents.specs.declared.place.Place.{Place}
 use Rattle.raft_log_memtable_index.specs.Shown.{span}
-use Rattle.raft_log_memtable.specs.Room.{Promise, count_of, needs, no_promise, with_moves, without_moves}
-use Rattle.raft_log_memtable.proofs.Ready.{needs-append, needs_renamed}
+use Rattle.raft_log_memtable.specs.Room.{Promise, count_of, needs, with_moves, without_moves}
+use Rattle.raft_log_memtable.proofs.Public.{needs-append, needs_renamed}
 use Rattle.raft_log_memtables.specs.declared.mem_tables.MemTables.{MemTables}
 use Rattle.raft_log_memtables.specs.Tables.{has_table, promise_of, IsAtRest, PromisesSame, ShowsSame}
 use Rattle.raft_log_memtables.specs.Rewriting.{entries_of, moving, GroupsStay, MayMove, PromisesMove, PromisesMoves, TakesRewritten, RewritesOne}
@@ -23,19 +21,8 @@ use Rattle.raft_log_memtables.proofs.Applied.{items_renamed, written_items}
 use Rattle.raft_log_memtables.proofs.Ready.{by_group, same_or_apart}
 use Rattle.raft_log_memtables.proofs.Rewritten.{rewrites_more}
 
--- how many entries an item has
-pub entries_counted : {E : Type 0} (entry : EntryIndex → E) (es : List EntryIndex) → count_of (meaning entry (contents.EntryIndexes es)) ≡ length es
-entries_counted entry [] = refl
-entries_counted entry (e ∷ es) = length-map (e ∷ es) entry
-
 pub none_added : (q : Promise) → q ≡ with_moves q 0
 none_added q = ap (λ n. record q { moves = n }) (omega arith)
-
-pub none_taken : (q : Promise) → q ≡ without_moves q 0
-none_taken q = ap (λ n. record q { moves = n }) (omega arith)
-
-pub nothing_taken : (n : ℕ) → no_promise ≡ without_moves no_promise n
-nothing_taken n = ap (λ k. record no_promise { moves = k }) (omega arith)
 
 moving_more : (b : Bool) (q : Promise) (m n : ℕ) → moving b (moving b q m) n ≡ moving b q (m + n)
 moving_more true q m n = ap (λ k. record q { moves = k }) (omega arith)
@@ -97,9 +84,6 @@ module _ {E V : Type 0} where
       let before = may g there in
       omega (arith, entries_append g xs ys, now, before)
 
-  pub promised_may_move : (m n : MemTables) (xs : List (Tagged E V)) → PromisesMoves m n xs → MayMove n xs
-  promised_may_move m n xs all = more_may_move m n [] xs (λ g h. omega arith) all
-
 pub rest_same : (m n : MemTables) → ShowsSame m n → PromisesSame m n → IsAtRest m → IsAtRest n
 rest_same m n same promises rest = λ g. ap (λ q. q.ends) (promises g) ∙ rest g ∙ ap span (sym (same.shown g))
 
@@ -117,15 +101,6 @@ written_may_move m handle xs may =
     subst (λ (l : List (Tagged EntryIndex (List ℕ))). MayMove m l) (sym (written_items handle xs)) (may_for (written_entry handle) m xs may)
 
 module _ (gate : Option ℕ) (n : ℕ) where
-  -- some items moved, and one more
-  pub none_moved : (m : MemTables) → TakesRewritten gate n m m []
-  none_moved m = record {
-    stay = record { tables = λ g. refl; counts = λ g. refl };
-    shows = λ g. refl;
-    ends = λ g. refl;
-    promise = λ g. none_taken (promise_of m g);
-  }
-
   pub moved_more : (l m k : MemTables) (xs : List (Tagged Place (List ℕ))) (x : Tagged Place (List ℕ)) → TakesRewritten gate n l m xs → RewritesOne gate n m k x
       → TakesRewritten gate n l k (xs ++ x ∷ [])
   moved_more l m k xs x all one = record {
@@ -165,6 +140,3 @@ module _ (gate : Option ℕ) (n : ℕ) where
       let room = may g (sym (done.stay.tables g) ∙ h) in
       let now : (promise_of k g).moves ≡ (promise_of m g).moves - entries_of g xs = ap (λ q. q.moves) (done.promise g) in
       omega (arith, entries_append g xs ys, room, now)
-
-  pub rests_moved : (l m : MemTables) (xs : List (Tagged Place (List ℕ))) → TakesRewritten gate n l m xs → IsAtRest l → IsAtRest m
-  rests_moved l m xs h rest = λ g. ap (λ q. q.ends) (h.promise g) ∙ rest g ∙ sym (h.ends g)

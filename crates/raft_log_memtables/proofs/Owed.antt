@@ -12,14 +12,14 @@ use Rattle.raft_log_model_laws.specs.Item.Item.{Clean, Compact, Del}
 use Rattle.raft_log_model_laws.specs.Groups.{of_group}
 use Rattle.raft_log_model_laws.specs.Meaning.{Slot, Content}
 use Rattle.raft_log_model_laws.specs.Renamed.{renamed}
-use Rattle.raft_log_model_laws.proofs.Records.{of_group_append}
+use Rattle.raft_log_model_laws.proofs.Public.{of_group_append}
 use Rattle.raft_log_machine_laws.specs.Whereabouts.{top, CarriesAll}
 use Rattle.raft_log_record_frames.specs.declared.marking.Marking.TheVariants.{Unmarked}
 use Rattle.raft_log_record_frames.specs.Marking.{has_mark_key, mark_of, marking_of, marking_of_items, part_or_broken, joined_marking}
 use Rattle.raft_log_record_frames.specs.Meaning.{tagged, tagged_items, unless_mark}
 use Rattle.raft_log_memtable_index.specs.Shown.{Shown, nothing_shown, whereabouts}
 use Rattle.raft_log_memtable_index.specs.Bridge.{dels, marks, unmarked}
-use Rattle.raft_log_memtable_index.proofs.Marking.{marks_carry}
+use Rattle.raft_log_memtable_index.proofs.Public.{marks_carry}
 use Rattle.raft_log_memtable_index.specs.Listing.{ListsMarked}
 use Rattle.raft_log_memtable.specs.Moves.{owed_compact}
 use Rattle.raft_log_memtable.specs.Table.{shown}

@@ -37,10 +37,6 @@ module _ {E V : Type 0} where
       either true rest = last (x.group == g)
       either false rest = rest
 
-  -- what is promised to no items, to some and one more
-  pub nothing_promised : (m : MemTables) → PromisesAll {E = E} {V = V} m m []
-  nothing_promised m = record { tables = λ g. refl; promises = λ g. refl }
-
   pub promised_more : (l m n : MemTables) (xs : List (Tagged E V)) (x : Tagged E V) → PromisesAll l m xs → IsPrepared m n x → PromisesAll l n (xs ++ x ∷ [])
   promised_more l m n xs x all one = record {
     tables = λ g. one.tables g ∙ ap (λ (b : Bool). (x.group == g) || b) (all.tables g) ∙ sym (speaks_push g xs x (has_table l g));

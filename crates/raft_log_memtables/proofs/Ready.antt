@@ -1,8 +1,8 @@
 -- The tables of all groups get ready for a batch item by item, and do it item by item.
-use Rattle.std.proofs.Common.{◌≡◌, ℕ, ◌==◌, ◌||◌, Bool, true, false, if◌then◌else◌, List, [], ◌∷◌, ◌++◌, refl, sym, ap, subst, ◌∙◌, arith, Result, Ok, Err, OnOk, OnErr, inl, inr, append-nil}
+use Rattle.std.proofs.Common.{◌≡◌, ℕ, ◌==◌, ◌||◌, Bool, true, false, if◌then◌else◌, List, [], ◌∷◌, ◌++◌, refl, sym, ap, subst, ◌∙◌, arith, Result, Ok, Err, OnErr, inl, inr, append-nil}
 use Rattle.raft_log_model_laws.specs.Item.{Item, Tagged}
 use Rattle.raft_log_model_laws.specs.Groups.{of_group}
-use Rattle.raft_log_model_laws.proofs.Records.{of_group_append}
+use Rattle.raft_log_model_laws.proofs.Public.{of_group_append}
 use Rattle.raft_log_memtable_index.specs.Shown.{span, next_span, MayFollow, MayAllFollow}
 use Rattle.raft_log_model_laws.specs.Holes.{Window}
 use Rattle.raft_log_record_base.specs.declared.errors.Error.{Error}
@@ -11,14 +11,10 @@ use Rattle.raft_log_record_items.specs.declared.entry.EntryIndex.{EntryIndex}
 use Rattle.raft_log_record_frames.specs.Meaning.{tagged_items}
 use Rattle.raft_log_memtables.proofs.Items.{none_said}
 use Rattle.raft_log_memtable.specs.Room.{Promise, promised, span_after, IsReady}
-use Rattle.raft_log_memtable.proofs.Ready.{ready_none, ready_more}
+use Rattle.raft_log_memtable.proofs.Public.{ready_more}
 use Rattle.raft_log_memtables.specs.declared.mem_tables.MemTables.{MemTables}
 use Rattle.raft_log_memtables.specs.Tables.{shown_of, promise_of, has_table, IsAtRest, ShowsSame}
 use Rattle.raft_log_memtables.specs.Batch.{mentions, MayFollowAll, ItemRefused, BatchRefused, GroupsPass, IsPrepared, IsReadyFor}
-
-pub on_ok_both : {T E : Type 0} {A B C : Type 0} (r : Result T E) → (A → B → C) → OnOk r A → OnOk r B → OnOk r C
-on_ok_both (Ok x) f a b = f a b
-on_ok_both (Err e) f a b = tt
 
 pub on_err_all : {T E : Type 0} {A : Type 0} (r : Result T E) → A → OnErr r A
 on_err_all (Ok x) a = tt
@@ -61,9 +57,6 @@ module _ {E V : Type 0} where
 
   pub of_more_there : (g : ℕ) (xs : List (Tagged E V)) (x : Tagged E V) → (x.group == g) ≡ false → of_group g (xs ++ x ∷ []) ≡ of_group g xs
   of_more_there g xs x t = of_group_append g xs (x ∷ []) ∙ ap (λ l. of_group g xs ++ l) (one_of g x false t) ∙ append-nil (of_group g xs)
-
-  pub none_ready : (m : MemTables) → IsAtRest m → IsReadyFor {E = E} {V = V} m []
-  none_ready m rest = record { tables = tt; groups = λ g. ready_none (shown_of m g) (promise_of m g) (rest g) }
 
   ready_here : (m n : MemTables) (xs : List (Tagged E V)) (x : Tagged E V) (g : ℕ) → x.group ≡ g → (x.group == g) ≡ true → IsReadyFor m xs → ShowsSame m n → IsPrepared m n x
       → IsReady (shown_of n g) (promise_of n g) (of_group g (xs ++ x ∷ []))

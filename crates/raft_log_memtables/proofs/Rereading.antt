@@ -4,7 +4,7 @@ use Rattle.std.specs.BTreeMap.{get}
 use Rattle.std.specs.Ordering.{nat_cmp}
 use Rattle.raft_log_model_laws.specs.Item.{Item, Tagged}
 use Rattle.raft_log_model_laws.specs.Groups.{of_group}
-use Rattle.raft_log_model_laws.proofs.Records.{of_group_append}
+use Rattle.raft_log_model_laws.proofs.Public.{of_group_append}
 use Rattle.raft_log_record_items.specs.declared.entry.EntryIndex.{EntryIndex}
 use Rattle.raft_log_record_items.specs.declared.item.LogItem.{LogItem}
 use Rattle.raft_log_record_items.specs.declared.item.LogItemContent.TheVariants as contents
@@ -14,9 +14,8 @@ use Rattle.raft_log_extents.specs.declared.place.Place.{Place}
 use Rattle.raft_log_extents.specs.Entries.{place_of, run_of}
 use Rattle.raft_log_memtable_index.specs.Shown.{next_span, span, MayAllFollow, MayFollow}
 use Rattle.raft_log_memtable_index.specs.Replayed.{Replayed, replayed}
-use Rattle.raft_log_memtable_index.proofs.Spans.{span_stepped}
-use Rattle.raft_log_memtable.specs.Room.{span_after}
-use Rattle.raft_log_memtable.proofs.Reread.{append_step}
+use Rattle.raft_log_memtable_index.proofs.Public.{span_stepped}
+use Rattle.raft_log_memtable.proofs.Public.{append_step}
 use Rattle.raft_log_record_base.specs.declared.errors.Error.{Error}
 use Rattle.raft_log_memtables.specs.declared.group_table.GroupTable.{GroupTable}
 use Rattle.raft_log_memtables.specs.declared.mem_tables.MemTables.{MemTables}
@@ -46,13 +45,6 @@ replayed_more q n z (y ∷ ys) x = replayed_more q n (replayed q n z y) ys x
 counts_more : (b : Bool) (xs : List (Item Place (List ℕ))) (x : Item Place (List ℕ)) → counts_at_end b (xs ++ x ∷ []) ≡ counts_after (counts_at_end b xs) x
 counts_more b [] x = refl
 counts_more b (y ∷ ys) x = counts_more (counts_after b y) ys x
-
--- the ends after items of Append that are read
-span_read : (n : ℕ) (z : Replayed) (xs : List (Item Place (List ℕ))) → MayAllFollow (span z.table) xs → span (all_replayed true n z xs).table ≡ span_after (span z.table) xs
-span_read n z [] h = refl
-span_read n z (x ∷ xs) h =
-    let step : span (replayed true n z x).table ≡ next_span (span z.table) x = ap span (sym (append_step n z.table x)) ∙ span_stepped n z.table x h.0.0 in
-    span_read n (replayed true n z x) xs (subst (λ w. MayAllFollow w xs) (sym step) h.1) ∙ ap (λ w. span_after w xs) step
 
 follow_more : (n : ℕ) (z : Replayed) (xs : List (Item Place (List ℕ))) (x : Item Place (List ℕ)) → MayAllFollow (span z.table) xs → MayFollow (span (all_replayed true n z xs).table) x
     → MayAllFollow (span z.table) (xs ++ x ∷ [])

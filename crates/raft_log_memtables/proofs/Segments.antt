@@ -4,15 +4,15 @@ use Rattle.std.specs.BTreeMap.{get, is_at}
 use Rattle.std.specs.List.{AllByRecursion, IsDistinct}
 use Rattle.std.specs.Map.{lookup}
 use Rattle.std.specs.Ordering.{is_eq, nat_cmp, eq_by_cmp}
-use Rattle.raft_log_model_laws.proofs.Cases.{if_false, if_true}
+use Rattle.raft_log_model_laws.proofs.Public.{if_false, if_true}
 use Rattle.raft_log_record_base.specs.declared.errors.Error.{Error}
 use Rattle.raft_log_memtable_index.specs.Shown.{Shown, span}
 use Rattle.raft_log_memtable_index.specs.Bridge.{unmarked}
 use Rattle.raft_log_memtable_index.specs.Replayed.{Replayed, joined, merged, LeavesHole}
 use Rattle.raft_log_memtable.specs.Room.{with_room_of}
-use Rattle.raft_log_memtable_index.proofs.Alone.{rewrite_alone}
+use Rattle.raft_log_memtable_index.proofs.Public.{rewrite_alone}
 use Rattle.raft_log_memtable.specs.Table.{replay_of}
-use Rattle.raft_log_memtable.proofs.Behind.{joined_last}
+use Rattle.raft_log_memtable.proofs.Public.{joined_last}
 use Rattle.raft_log_memtables.specs.declared.group_table.GroupTable.{GroupTable}
 use Rattle.raft_log_memtables.specs.declared.mem_tables.MemTables.{MemTables}
 use Rattle.raft_log_memtables.specs.Tables.{counts, counts_in, replayed_in, replayed_of, shown_in, shown_of, promise_of, IsAtRest}

@@ -1,5 +1,5 @@
 -- A batch and the tables of all its groups: when it can be applied, what is reserved for it, and how it changes the
--- tables.
+-- tables. An index is too high if it isn't below 2^64 - 1.
 use Rattle.std.specs.Prelude.{◌≡◌, ℕ, ◌==◌, ◌||◌, ◌⊎◌, Bool, true, false, List, [], ◌∷◌, map}
 use Rattle.raft_log_record_base.specs.declared.errors.Error.{Error}
 use Rattle.raft_log_record_base.specs.declared.errors.Error.TheVariants as errors
@@ -26,7 +26,7 @@ abbrev pub GroupsPass : {E V : Type 0} → (ℕ → Bool) → List (Tagged E V) 
 GroupsPass test [] = Unit {0}
 GroupsPass test (x ∷ xs) = (test x.group ≡ true) × GroupsPass test xs
 
--- Applying the items can't fail: each of their groups has a table, and the table is prepared for the group's items.
+-- Applying the items can't fail: each item's group has a table, and the table is prepared for the group's items.
 pub record IsReadyFor {E V : Type 0} (m : MemTables) (xs : List (Tagged E V)) : Type 0 where
   pub tables : GroupsPass (has_table m) xs
   pub groups : (g : ℕ) → IsReady (shown_of m g) (promise_of m g) (of_group g xs)

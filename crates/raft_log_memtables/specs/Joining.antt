@@ -1,6 +1,6 @@
--- How the tables of two consecutive segments are joined, and how the tables read from Append are applied over those
--- read from Rewrite. `old` and `new` are the tables before and after. `newer` are the tables read from the later
--- segment, `append` those read from Append.
+-- How the tables of two consecutive segments (the files that one worker reads) are joined, and how the tables read from
+-- Append are applied over those read from Rewrite. `old` and `new` are the tables before and after. `newer` are the
+-- tables read from the later segment. `append` are the tables read from Append.
 use Rattle.std.specs.Prelude.{◌≡◌, ℕ, ◌==◌, ◌⊎◌, Bool, false, ◌&&◌, ◌||◌, not, Option, Some, None}
 use Rattle.raft_log_record_base.specs.declared.errors.Error.{Error}
 use Rattle.raft_log_record_base.specs.declared.errors.Error.TheVariants as errors
@@ -20,8 +20,8 @@ use Rattle.raft_log_memtables.specs.Replaying.{StaysAt}
 abbrev pub counts_with : MemTables → MemTables → ℕ → Bool
 counts_with old newer g = counts newer g || (counts old g && not (shown_of newer g).cleaned)
 
--- In group `g`, `new` has the result of both segments, the earlier one in `old` and the later one in `newer`. The later
--- segment's entries leave no hole after those of the earlier one.
+-- In group `g`, `new` has the result of both segments: `old` has that of the earlier segment, `newer` that of the later
+-- one. The later segment's entries leave no hole after those of the earlier segment.
 pub record JoinsAt (old newer new : MemTables) (g : ℕ) : Type 0 where
   pub read : replayed_of new g ≡ joined (replayed_of old g) (replayed_of newer g)
   pub counting : counts new g ≡ counts_with old newer g
@@ -83,14 +83,14 @@ abbrev pub MergesSome : MemTables → MemTables → MemTables → Type 0
 MergesSome old append new = (g : ℕ) → UnmarkedAt old new g ⊎ MergesAt old append new g
 
 -- The result of a raft group's replay after an atomic group in these files was read. Files that were noted before stay
--- noted. Without a table, the result is that of no items.
+-- noted. If the raft group has no table, the result is that of a replay without items.
 abbrev pub read_noted_in : GroupFiles → Option Raw → Replayed
 read_noted_in files None = nothing_replayed
 read_noted_in files (Some t) = with_read_group (replay_of t) files
 
--- The result of a raft group's replay after an atomic group in these files ended. Files that were noted before stay
--- noted only if they reach up to the raft group's lowest file of Rewrite. Without a table, the result is that of no
--- items.
+-- The result of a raft group's replay after an atomic group in these files ended. Files that were noted before are
+-- dropped if all of them are below the raft group's lowest file of Rewrite, or if it has no such file. If the raft
+-- group has no table, the result is that of a replay without items.
 abbrev pub noted_in : GroupFiles → Option Raw → Replayed
 noted_in files None = nothing_replayed
 noted_in files (Some t) = record (replay_of t) { table = with_group t files }

@@ -17,7 +17,7 @@ use Rattle.raft_log_memtable.specs.Moves.{owed_compact}
 use Rattle.raft_log_memtables.specs.declared.mem_tables.MemTables.{MemTables}
 use Rattle.raft_log_memtables.specs.Tables.{shown_of}
 
--- a Compact of group `g` at this index, if there is one
+-- a Compact of group `g` with this index, or no item if there is no index
 abbrev pub compact_items : ℕ → Option ℕ → List LogItem
 compact_items g None = []
 compact_items g (Some index) = item_of g (contents.Command (commands.Compact index)) ∷ []

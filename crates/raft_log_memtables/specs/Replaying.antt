@@ -43,8 +43,8 @@ pub record ReadsOne (q : Bool) (n : ℕ) (old new : MemTables) (x : Tagged Place
   pub counting : counts new x.group ≡ counts_after (counts old x.group) x.item
   pub others : (g : ℕ) → (x.group == g) ≡ false → StaysAt old new g
 
--- The items `xs` were read in file `n` and applied to their groups' tables. In Append, none of their runs leaves a
--- hole or an index too high.
+-- The items `xs` were read in file `n` and applied to their groups' tables. If they are from Append, none of their runs
+-- leaves a hole or an index too high.
 pub record ReadsAll (q : Bool) (n : ℕ) (old new : MemTables) (xs : List (Tagged Place (List ℕ)))
     : Type 0 where
   pub fits : q ≡ true → MayFollowAll (shown_of old) xs

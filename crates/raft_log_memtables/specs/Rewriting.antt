@@ -14,9 +14,10 @@ use Rattle.raft_log_memtable.specs.Room.{Promise, count_of, needs, with_moves, w
 use Rattle.raft_log_memtables.specs.declared.mem_tables.MemTables.{MemTables}
 use Rattle.raft_log_memtables.specs.Tables.{counts, has_table, promise_of, shown_of}
 
--- The table after this item was written to file `n` of Rewrite. A run moves entries to its places, if the table still
--- has them and the gate allows it (`rewritten_by`). A put moves the key's value to file `n`, if there is one and the
--- gate allows it (`key_rewritten`). A Clean, Compact or Del is a tombstone that was owed, and changes nothing.
+-- The table after this item was written to file `n` of Rewrite. A run moves entries to the run's places, as far as the
+-- table still has them and the gate allows it (`rewritten_by`). A put moves the key's value to file `n`, if the key has
+-- a value and the gate allows it (`key_rewritten`). A Clean, Compact or Del is a tombstone that was owed, and changes
+-- nothing.
 abbrev pub rewritten_item : Option ℕ → ℕ → Shown → Item Place (List ℕ) → Shown
 rewritten_item gate n v (Run f ps) = rewritten_by gate v (Run f ps)
 rewritten_item gate n v (Put k w) = key_rewritten gate v k n
@@ -83,7 +84,8 @@ pub record TakesRewritten (gate : Option ℕ) (n : ℕ) (old new : MemTables) (x
 -- - A run has the bytes of the table's entries. It starts at an entry in Rewrite or right after the last of these, and
 --   has all later entries in Rewrite. It has only those entries in Append that the gate allows, and none if a Clean or
 --   Compact is owed.
--- - A put has the key's value, which the gate allows. If it is in Append, neither a Clean nor the key's Del is owed.
+-- - A put has the key's value, which the gate allows. If the value is in Append, neither a Clean nor the key's Del is
+--   owed.
 abbrev pub IsCopy : {E : Type 0} → (Located → E) → Option ℕ → Shown → Item Place (List ℕ) → Type 0
 IsCopy at gate v (Run f ps) =
     (v.first ≤ f) × (f ≤ v.first + v.rewritten) × (v.first + v.rewritten ≤ f + length ps)

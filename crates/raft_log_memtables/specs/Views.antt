@@ -1,5 +1,5 @@
--- What an engine knows from its groups' tables, in the form of the log model, which calls this a view. How the view
--- changes with each batch, each copy and each owed tombstone that is written.
+-- What an engine knows from its groups' tables; the log model calls this a view. How the view changes with each batch,
+-- each copy and each owed tombstone that is written.
 use Rattle.std.specs.Prelude.{◌≡◌, ℕ, Bool, true, false, if◌then◌else◌, List, [], ◌∷◌, ◌++◌}
 use Rattle.raft_log_model_laws.specs.Item.{Record, Tagged, items_of}
 use Rattle.raft_log_model_laws.specs.Groups.{Map, of_group, taken}
@@ -62,8 +62,8 @@ CopiesCarryTheView E = (at : Located → E) (n : ℕ) (v : ℕ → Shown) (m : M
     → ((g : ℕ) → AreUpTo n (moves g)) → ((g : ℕ) → of_group g xs ≡ copies_of at (v g) (moves g))
     → ViewCarries at n v (λ g. all_moved (v g) (moves g)) m xs
 
--- Suppose the tables represent the contents, and `xs` are all tombstones that they owe. Then dropping these from the
--- tables changes the view as writing `xs` to file `n` of Rewrite does.
+-- Suppose the tables represent the contents, and `xs` are all tombstones that the tables owe. Then dropping the owed
+-- tombstones changes the view as writing `xs` to file `n` of Rewrite does.
 abbrev pub MarksCarryTheView : Type 0 → Type 0
 MarksCarryTheView E = (at : Located → E) (n : ℕ) (v : ℕ → Shown) (m : Map E (List ℕ))
     (keys : ℕ → List (List ℕ)) (xs : List (Tagged E (List ℕ))) → AreMeant at v m
@@ -71,9 +71,9 @@ MarksCarryTheView E = (at : Located → E) (n : ℕ) (v : ℕ → Shown) (m : Ma
     → ((g : ℕ) (k : List ℕ) → without (v g).deleted (keys g) k ≡ false)
     → ((g : ℕ) → of_group g xs ≡ marks (v g) (keys g)) → ViewCarries at n v (λ g. unmarked (v g)) m xs
 
--- How the end of an atomic group of Rewrite changes the tables. `files` are those of the atomic group, and `about` is
--- true for the raft groups that it changes. `moves` has the copies in each of these. After the copies, the raft group
--- has nothing of Rewrite in a file below `least`.
+-- How the end of an atomic group of Rewrite changes the tables. `files` are the atomic group's files. `about` is true
+-- for the raft groups that the end changes. `moves` has the copies in each of these raft groups. After the copies, such
+-- a raft group has nothing in a file of Rewrite below `least`.
 pub record GroupEnd : Type 0 where
   pub files : GroupFiles
   pub about : ℕ → Bool
@@ -85,8 +85,8 @@ abbrev pub ended : GroupEnd → (ℕ → Shown) → ℕ → Shown
 ended e v g = if e.about g then with_note (all_moved (v g) (e.moves g)) (e.least g) e.files else v g
 
 -- In raft group `g`, with the table `v g`, the copies of the end `e` are allowed, and go to files up to `e.files.to`.
--- After the copies, the raft group has nothing of Rewrite below file `e.least g`. The copies may replace `items`, those
--- of all records of the atomic group.
+-- After the copies, the raft group has nothing in a file of Rewrite below `e.least g`. The copies may replace the raft
+-- group's part of `items`, the items of all records of the atomic group.
 pub record MayEndIn {E : Type 0} (at : Located → E) (e : GroupEnd) (v : ℕ → Shown)
     (items : List (Tagged E (List ℕ))) (g : ℕ) : Type 0 where
   pub can : CanAllMove at (v g) (e.moves g)
@@ -94,16 +94,16 @@ pub record MayEndIn {E : Type 0} (at : Located → E) (e : GroupEnd) (v : ℕ �
   pub least : IsLeastInRewrite (all_moved (v g) (e.moves g)) (e.least g)
   pub taken_as : IsJoined (of_group g items) (copies_of at (v g) (e.moves g))
 
--- The end `e` is allowed in each raft group that it changes. `items` are those of all records of the atomic group,
--- and none is of another raft group.
+-- The end `e` is allowed in each raft group that it changes. `items` are the items of all records of the atomic group.
+-- Raft groups that the end doesn't change have no item among them.
 pub record MayEnd {E : Type 0} (at : Located → E) (e : GroupEnd) (v : ℕ → Shown)
     (items : List (Tagged E (List ℕ))) : Type 0 where
   pub about : (g : ℕ) → e.about g ≡ true → MayEndIn at e v items g
   pub others : (g : ℕ) → e.about g ≡ false → of_group g items ≡ []
 
 -- Changing the tables from `v` to `u` changes the view as the end of an atomic group does. The group began in file `n`.
--- Its earlier records have the items `first` and `more`, its last one `xs`. The new tables represent the same contents
--- `m`.
+-- Its earlier records have the items `first` and `more`, and its last record has `xs`. The new tables represent the
+-- same contents `m`.
 pub record ViewEnds {E : Type 0} (at : Located → E) (n : ℕ) (v u : ℕ → Shown) (m : Map E (List ℕ))
     (first : List (Tagged E (List ℕ))) (more : List (List (Tagged E (List ℕ))))
     (xs : List (Tagged E (List ℕ))) : Type 0 where

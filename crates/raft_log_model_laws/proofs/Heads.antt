@@ -3,14 +3,8 @@ use Rattle.std.proofs.Common.{◌≡◌, ℕ, ◌==◌, List, [], ◌∷◌, ◌
 use Rattle.raft_log_model_laws.specs.Item.{Tagged, Record}
 use Rattle.raft_log_model_laws.specs.Item.Record.{Plain, Part}
 use Rattle.raft_log_model_laws.specs.Item.Mark.{Begin, Middle, End}
-use Rattle.raft_log_model_laws.specs.Fragments.{Head, head, then_head}
-use Rattle.raft_log_model_laws.specs.Fragments.Head.{GoesOn, Ends, BeginsAnew}
-
--- more items in front of a head
-pub then_goes_on : {E V : Type 0} (xs ys : List (Tagged E V)) (h : Head E V) → then_head (GoesOn xs) (then_head (GoesOn ys) h) ≡ then_head (GoesOn (xs ++ ys)) h
-then_goes_on xs ys (GoesOn zs) = ap GoesOn (sym (append_assoc xs ys zs))
-then_goes_on xs ys (Ends zs) = ap Ends (sym (append_assoc xs ys zs))
-then_goes_on xs ys BeginsAnew = refl
+use Rattle.raft_log_model_laws.specs.Fragments.{head, then_head}
+use Rattle.raft_log_model_laws.specs.Fragments.Head.{GoesOn, Ends}
 
 -- a case on a test inside a head
 if_same : {A B : Type 0} (f : A → B) (b : Bool) (x y : A) (u v : B) → f x ≡ u → f y ≡ v → f (if b then x else y) ≡ (if b then u else v)

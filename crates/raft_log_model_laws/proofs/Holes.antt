@@ -1,5 +1,5 @@
 -- A list without holes means the same with and without the rule on runs past the end, and so does each end of it.
-use Rattle.std.proofs.Common.{◌≡◌, ℕ, ◌<◌, ◌≤◌, ◌⊎◌, max, List, [], ◌∷◌, ◌++◌, length, false, ◌&&◌, nat_lt, nat_le, if◌then◌else◌, refl, ap, ap₂, inl, inr, arith}
+use Rattle.std.proofs.Common.{◌≡◌, ℕ, ◌≤◌, ◌⊎◌, max, List, [], ◌∷◌, ◌++◌, length, false, ◌&&◌, nat_lt, nat_le, if◌then◌else◌, refl, ap, ap₂, inl, inr, arith}
 use Rattle.std.proofs.lemmas.Bool.Decides.{nat_tests}
 use Rattle.std.specs.Option.{option_or}
 use Rattle.raft_log_model_laws.specs.Item.{Item}
@@ -8,9 +8,6 @@ use Rattle.raft_log_model_laws.specs.Meaning.{Slot, write, says}
 use Rattle.raft_log_model_laws.specs.Meaning.Slot.{Index, Key}
 use Rattle.raft_log_model_laws.specs.Holes.{Window, nothing, is_past, next_window, window, write_past, says_past, FitsOn, NoHole}
 use Rattle.raft_log_model_laws.proofs.Cases.{if_false}
-
-pub not_past : (w : Window) (f : ℕ) → is_past w f ≡ false → w.first < w.end → f ≤ w.end
-not_past w f h n = grind (arith, nat_tests)
 
 -- an item that leaves no hole says what it says
 pub fits_writes : {E V : Type 0} (w : Window) (s : Slot) (x : Item E V) → FitsOn w x → write_past w s x ≡ write s x

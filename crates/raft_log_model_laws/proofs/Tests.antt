@@ -49,8 +49,5 @@ put_sets l k v h = if_true (bytes_eq l k) _ _ (same_key l k h)
 pub put_leaves : {E V : Type 0} (l k : List ℕ) (v : V) → (l ≡ k → ⊥) → write {E = E} (Key k) (Put l v) ≡ None
 put_leaves l k v h = if_false (bytes_eq l k) _ _ (other_key l k h)
 
-pub del_removes : {E V : Type 0} (l k : List ℕ) → l ≡ k → write {E = E} {V = V} (Key k) (Del l) ≡ Some None
-del_removes l k h = if_true (bytes_eq l k) _ _ (same_key l k h)
-
 pub del_leaves : {E V : Type 0} (l k : List ℕ) → (l ≡ k → ⊥) → write {E = E} {V = V} (Key k) (Del l) ≡ None
 del_leaves l k h = if_false (bytes_eq l k) _ _ (other_key l k h)

@@ -40,7 +40,7 @@ entry_in i rewrite = directory_meaning rewrite [] 1 (Index i)
 abbrev pub value_in : List (Record ℕ ℕ) → Option (Content ℕ ℕ)
 value_in rewrite = directory_meaning rewrite [] 1 (Key voter)
 
--- the current run after these items
+-- the current run (`Window`) after these items
 abbrev pub run_of : List (Item ℕ ℕ) → Window
 run_of xs = window nothing xs
 
@@ -52,11 +52,11 @@ top = 18446744073709551615
 abbrev pub twenty : List (Item ℕ ℕ)
 twenty = Run 1 (upward 1 20) ∷ []
 
--- Append with two entries that replace 15 and all later ones, and a compaction that removes both
+-- Append with two entries that replace entry 15 and all later ones, and a compaction that removes both new entries
 abbrev pub overwritten : List (Item ℕ ℕ)
 overwritten = Run 15 (115 ∷ 116 ∷ []) ∷ Compact 17 ∷ []
 
--- Append with the same two entries, and a compaction that removes the first of them
+-- Append with the same two entries, and a compaction that removes the first of these
 abbrev pub truncated : List (Item ℕ ℕ)
 truncated = Run 15 (115 ∷ 116 ∷ []) ∷ Compact 16 ∷ []
 
@@ -96,8 +96,8 @@ append_from_4 = Run 3 (3 ∷ 4 ∷ 5 ∷ []) ∷ Put voter 2 ∷ append_from_5
 abbrev pub four_and_five : List (Option (Content ℕ ℕ))
 four_and_five = None ∷ None ∷ None ∷ None ∷ Some (Entry 4) ∷ Some (Entry 105) ∷ None ∷ []
 
--- Rewrite of a directory: entry 6. The first run of its Append (`eight_then_seven`) starts past the end of Rewrite's
--- entries, and the second one right after them.
+-- Rewrite of a directory: entry 6. The directory's Append (`eight_then_seven`) has two runs. The first starts past the
+-- end of Rewrite's entries, and the second right after Rewrite's entries.
 abbrev pub six : List (Item ℕ ℕ)
 six = Run 6 (6 ∷ []) ∷ []
 

@@ -8,14 +8,15 @@ use Rattle.raft_log_model_laws.specs.Groups.{of_group, settled}
 
 -- what a segment does with an atomic group that may be open before it
 pub data Head (E V : Type 0) : Type 0 where
-  -- these items are added to the group, which neither ends in the segment nor begins anew
+  -- these items are added to the group; in the segment, the group neither ends nor begins anew
   GoesOn : List (Tagged E V) → Head E V
   -- the group ends, and these items are added up to its end
   Ends : List (Tagged E V) → Head E V
-  -- another group of its number begins before it ends, so its items are dropped
+  -- another atomic group with the same number begins before this one ends, so this one's items are dropped
   BeginsAnew : Head E V
 
--- what a segment does with atomic group `n`, if its earlier records added the items `xs` and these records follow
+-- what a segment does with atomic group `n`, if the segment's earlier records added the items `xs` to the group, and
+-- the given records follow
 abbrev pub head : {E V : Type 0} → ℕ → List (Tagged E V) → List (Record E V) → Head E V
 head n xs [] = GoesOn xs
 head n xs (Plain ys ∷ rs) = head n xs rs
@@ -23,7 +24,7 @@ head n xs (Part (Begin k) ys ∷ rs) = if k == n then BeginsAnew else head n xs 
 head n xs (Part (Middle k) ys ∷ rs) = if k == n then head n (xs ++ ys) rs else head n xs rs
 head n xs (Part (End k) ys ∷ rs) = if k == n then Ends (xs ++ ys) else head n xs rs
 
--- what two segments, one after the other, do with an atomic group
+-- what two consecutive segments together do with an atomic group, given what each of them does
 abbrev pub then_head : {E V : Type 0} → Head E V → Head E V → Head E V
 then_head (GoesOn xs) (GoesOn ys) = GoesOn (xs ++ ys)
 then_head (GoesOn xs) (Ends ys) = Ends (xs ++ ys)

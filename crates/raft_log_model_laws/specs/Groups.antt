@@ -15,7 +15,7 @@ abbrev pub contents : {E V : Type 0} → List (Record E V) → List (Tagged E V)
 contents [] = []
 contents (r ∷ rs) = items_of r ++ contents rs
 
--- the atomic groups that have begun and not ended: for each number, the items of its records so far
+-- the atomic groups that have begun and not ended: for the number of each, the items of its records so far
 abbrev pub Open : Type 0 → Type 0 → Type 0
 Open E V = ℕ → Option (List (Tagged E V))
 

@@ -8,9 +8,9 @@ use Rattle.raft_log_model_laws.specs.Meaning.{Slot, Content, write, holds}
 use Rattle.raft_log_model_laws.specs.Meaning.Slot.{Index}
 use Rattle.raft_log_model_laws.specs.Meaning.Content.{Entry}
 
--- The current run of a list of items: the consecutive entries that the list leaves, if a run past the end drops all
--- earlier ones. `first` is the first one's index, and `end` the index after the last one. The run is empty if `end`
--- isn't above `first`.
+-- The current run of a list of items: the consecutive entries that the list leaves, if a run that starts past the end
+-- of the entries before it drops all of these. `first` is the index of the current run's first entry, and `end` the
+-- index after its last one. The current run is empty if `end` isn't above `first`.
 pub record Window : Type 0 where
   pub first : ℕ
   pub end : ℕ
@@ -112,7 +112,7 @@ abbrev pub is_silent : {E V : Type 0} → List (Item E V) → ℕ → Bool
 is_silent xs i = not (has_clean xs) && (nat_le (low xs) i && is_below i (high xs))
 
 -- Append's items keep some entries of Rewrite's current run `w`, and Append's own current run starts past the end of
--- what they keep. A Clean among the items isn't considered here.
+-- the kept entries. A Clean among the items isn't considered here.
 abbrev pub has_gap : {E V : Type 0} → Window → List (Item E V) → Bool
 has_gap w append =
     nat_lt (max w.first (low append)) (least w.end (high append))

@@ -1,5 +1,4 @@
 pub mod Item
-pub mod Codes
 pub mod Meaning
 pub mod Groups
 pub mod Tidy

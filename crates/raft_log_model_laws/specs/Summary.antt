@@ -56,12 +56,12 @@ word z (Key k) =
     option_or (option_map (λ v. Some (Value v)) (z.table.values k))
     (if z.cleaned || z.deleted k then Some None else None)
 
--- the values of keys, if `t` is the table of earlier items, and `z` the summary of the items after them
+-- the values of keys after both: `t` is the table of earlier items, and `z` the summary of the items after them
 abbrev pub values_over : {E V : Type 0} → Table E V → Summary E V → List ℕ → Option V
 values_over t z k = option_or (z.table.values k) (if z.cleaned || z.deleted k then None else t.values k)
 
--- a table with the entries, if `t` is the table of earlier items, and `z` the summary of the items after them; its
--- values don't count
+-- The entries after both, as a table: `t` is the table of earlier items, and `z` the summary of the items after them.
+-- The values in this table don't count.
 abbrev pub entries_over : {E V : Type 0} → Table E V → Summary E V → Table E V
 entries_over t z =
     if z.cleaned then z.table
@@ -98,7 +98,7 @@ abbrev pub IsSummarySound : {E V : Type 0} → Summary E V → Type 0
 IsSummarySound z = 0 < length z.table.entries → is_below z.table.first z.high ≡ false
 
 -- `z` is a summary of the items `xs`, however it was made: it is sound (`IsSummarySound`), and does to each slot what
--- they do
+-- the items do
 pub record IsSummary {E V : Type 0} (z : Summary E V) (xs : List (Item E V)) : Type 0 where
   pub sound : IsSummarySound z
   pub says : (s : Slot) → word z s ≡ says s xs

@@ -34,7 +34,7 @@ compacted t c =
       entries = drop (c - t.first) t.entries;
     }
 
--- the table without the entries from this index on, if there is one
+-- the table without the entries from this index on; for `None`, the same table
 abbrev pub cut_from : {E V : Type 0} → Table E V → Option ℕ → Table E V
 cut_from t None = t
 cut_from t (Some h) = record t { entries = take (h - t.first) t.entries }
@@ -64,7 +64,7 @@ table_step t (Compact c) = compacted t c
 table_step t (Put k v) = put t k v
 table_step t (Del k) = delete t k
 
--- the table after more items, none of which leaves a hole
+-- the table after more items, none of which may be a run that starts past the end of the table's entries at that time
 abbrev pub table_after : {E V : Type 0} → Table E V → List (Item E V) → Table E V
 table_after t [] = t
 table_after t (x ∷ xs) = table_after (table_step t x) xs

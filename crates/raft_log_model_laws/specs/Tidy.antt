@@ -1,5 +1,6 @@
--- Tidy records. An atomic group has items of some raft groups. Of the records between its begin and its end, no other
--- item of these raft groups starts to count before the end.
+-- Tidy records. Take an atomic group, and the raft groups that have items in it. Between the atomic group's begin and
+-- its end, no other item takes effect for these raft groups. Items of atomic groups that began earlier aren't
+-- considered.
 use Rattle.std.specs.Prelude.{ℕ, List, [], ◌∷◌, ◌++◌, ◌≡◌, ◌⊎◌, ◌==◌, MatchBool, ⊤}
 use Rattle.raft_log_model_laws.specs.Item.{Tagged, Record}
 use Rattle.raft_log_model_laws.specs.Item.Record.{Plain, Part}
@@ -10,9 +11,10 @@ use Rattle.raft_log_model_laws.specs.Groups.{of_group, Open, none_open, counts, 
 abbrev pub Apart : {E V : Type 0} → List (Tagged E V) → List (Tagged E V) → Type 0
 Apart xs ys = (g : ℕ) → (of_group g xs ≡ []) ⊎ (of_group g ys ≡ [])
 
--- Atomic group `n` has the items `xs` so far. Of the records since its begin, the items `said` started to count, and
--- `o` are the other atomic groups that are open. If group `n` ends in these records, no raft group has items both in it
--- and in what started to count since its begin.
+-- Atomic group `n` has begun, and has the items `xs` so far. The list `said` has the items of other records that took
+-- effect since group `n` began. `o` are the other atomic groups that are open. If group `n` ends in these records,
+-- before another begin of it, no raft group has items both in group `n` and among those that took effect since its
+-- begin.
 abbrev pub Undisturbed : {E V : Type 0} → ℕ → List (Tagged E V) → List (Tagged E V) → Open E V
     → List (Record E V) → Type 0
 Undisturbed n xs said o [] = ⊤
@@ -27,8 +29,8 @@ Undisturbed n xs said o (Part (End k) ys ∷ rs) =
     (Undisturbed n xs (said ++ counts o (Part (End k) ys)) (opens o (Part (End k) ys)) rs)
 
 -- Take each atomic group that begins and ends in these records, and the records between its begin and its end. No raft
--- group has items both in the atomic group and in what counts of the records between. Another atomic group that began
--- before this one isn't considered.
+-- group has items both in the atomic group and among those that start to count in the records between. Items of an
+-- atomic group that began before this one aren't considered.
 abbrev pub Tidy : {E V : Type 0} → List (Record E V) → Type 0
 Tidy [] = ⊤
 Tidy (Plain xs ∷ rs) = Tidy rs

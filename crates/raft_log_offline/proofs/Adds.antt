@@ -2,9 +2,7 @@
 use Rattle.std.proofs.Common.{◌≡◌, ℕ, Option, Some, None, List, [], refl, sym, ◌∙◌, ap, subst, arith}
 use Rattle.raft_log_fs.specs.Disk.{File, Disk, with_file, at_rest}
 use Rattle.raft_log_fs.specs.Calls.{created}
-use Rattle.raft_log_fs.proofs.CauseLaws.{later_same, later_then}
-use Rattle.raft_log_fs.proofs.KeptLaws.{IsCalm}
-use Rattle.raft_log_fs.proofs.Updates.{name_apart, file_apart}
+use Rattle.raft_log_fs.proofs.Public.{file_apart, later_same, later_then, name_apart, IsCalm}
 use Rattle.raft_log_offline.specs.Copies.{AddsOnly, HasCopy}
 
 pub adds_none : (target : List ℕ) (own : List ℕ → Type 0) (d : Disk) → AddsOnly target own d d

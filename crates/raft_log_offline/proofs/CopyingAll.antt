@@ -8,10 +8,10 @@ use Rattle.raft_log_record_base.specs.declared.errors.Error.{Error}
 use Rattle.raft_log_record_base.specs.declared.errors.Error.TheVariants as errors
 use Rattle.raft_log_fs.specs.Disk.{Disk}
 use Rattle.raft_log_fs.specs.Arguments.{IsTaken}
-use Rattle.raft_log_fs.proofs.CauseLaws.{fails_after}
+use Rattle.raft_log_fs.proofs.Public.{fails_after}
 use Rattle.raft_log_recovery_scan.specs.Names.{built_name}
 use Rattle.raft_log_recovery_scan.specs.Directories.{MakesIfAbsent}
-use Rattle.raft_log_recovery_scan.proofs.DirectoryLemmas.{has_more, has_none}
+use Rattle.raft_log_recovery_scan.proofs.Public.{has_more, has_none}
 use Rattle.raft_log_offline.specs.Copies.{AddsOnly, HasCopy, IsCopyRefusal, IsSourceThere, copy_path}
 use Rattle.raft_log_offline.specs.Steps.{CopiesOne, FailsToCopyOne, TellsUncopied}
 use Rattle.raft_log_offline.specs.Forks.{CopiesAll, FailsToCopyAll, HaveCopies, IsCopyPath}
@@ -22,9 +22,6 @@ use Rattle.raft_log_offline.proofs.CopyingLemmas.{short_told}
 use Rattle.raft_log_offline.proofs.Lasts.{first, first_or_later, in_none}
 
 -- One file more.
-
-pub copied_none : (target : List ℕ) (d : Disk) → CopiesAll target [] d d
-copied_none target d = record { adds = adds_none target (IsCopyPath target []) d; copies = λ file there. absurd (in_none file there) }
 
 own_before : (target : List ℕ) (before more : List SourceFile) (path : List ℕ) → IsCopyPath target before path → IsCopyPath target (before ++ more) path
 own_before target before more path (file, there, is) = (file, Contains-append_left before more file there, is)

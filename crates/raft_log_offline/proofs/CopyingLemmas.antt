@@ -9,7 +9,7 @@ use Rattle.raft_log_fs.specs.Arguments.{WrongCreate}
 use Rattle.raft_log_fs.specs.Causes.{Fails, has_stopped}
 use Rattle.raft_log_fs.specs.Reading.{unreadable, stopped, gone}
 use Rattle.raft_log_recovery_scan.specs.Names.{built_name}
-use Rattle.raft_log_recovery_scan.proofs.FoundLemmas.{built_plain}
+use Rattle.raft_log_recovery_scan.proofs.Public.{built_plain}
 use Rattle.raft_log_offline.specs.Copies.{IsCopyRefusal, IsSourceThere, copy_path}
 use Rattle.raft_log_offline.specs.Steps.{CopiesOne, FailsToCopyOne, FailsToMake, FailsToReadWhole, AreAllBytes, MakesFile, TellsUncopied, TellsUnmade}
 use Rattle.raft_log_offline.specs.declared.source_file.SourceFile.{SourceFile}

@@ -15,8 +15,7 @@ use Rattle.raft_log_recovery_scan.specs.Opened.{AreOpen, IsOpenFile}
 use Rattle.raft_log_recovery_scan.specs.Scanned.{FailsToFindFiles}
 use Rattle.raft_log_recovery_scan.specs.declared.file_kind.FileKind.{FileKind}
 use Rattle.raft_log_recovery_scan.specs.declared.scanning.found.FoundFile.{FoundFile}
-use Rattle.raft_log_recovery_scan.proofs.FoundLemmas.{are_files_in, limit_small}
-use Rattle.raft_log_recovery_scan.proofs.Steps.{zip_map}
+use Rattle.raft_log_recovery_scan.proofs.Public.{are_files_in, limit_small, zip_map}
 use Rattle.raft_log_file_settings.specs.Settings.{Settings, directories_of}
 use Rattle.raft_log_offline.specs.Forks.{AllowsFork, IsForkRefusal}
 use Rattle.raft_log_offline.specs.Sources.{AreSourcesOf, IsOneEach, IsSource, IsSourceRefusal, source_of}
@@ -73,7 +72,3 @@ unfound s target d (errors.Corruption text) allowed (inr find) = (allowed, find)
 unfound s target d errors.Memory allowed why = tt
 unfound s target d _ allowed (inl (path, there, list)) = absurd list
 unfound s target d _ allowed (inr find) = absurd find
-
--- want of memory at the start
-pub short_fork : (s : Settings) (target : List ℕ) (d : Disk) (error : Error) → error ≡ errors.Memory → IsForkRefusal s target d error
-short_fork s target d error is = subst (IsForkRefusal s target d) (sym is) tt

@@ -1,5 +1,5 @@
 -- What is kept of runs, one behind the other.
-use Rattle.std.proofs.Common.{◌≡◌, ℕ, ◌+◌, ◌==◌, Bool, true, false, if◌then◌else◌, nat_lt, List, [], ◌∷◌, ◌++◌, length, take, get_or, ◌<◌, Option, Some, None, refl, sym, ap, ap₂, subst, ◌∙◌, arith, append_assoc, append-nil}
+use Rattle.std.proofs.Common.{◌≡◌, ℕ, ◌+◌, ◌==◌, Bool, true, false, if◌then◌else◌, nat_lt, List, [], ◌∷◌, ◌++◌, length, take, get_or, ◌<◌, Option, Some, None, refl, sym, ap, ap₂, ◌∙◌, arith, append_assoc, append-nil}
 use Rattle.std.proofs.lemmas.List.{take_more}
 use Rattle.std.proofs.lemmas.Grind.{flat_map-append}
 use Rattle.std.specs.Option.{option_or}
@@ -10,8 +10,8 @@ use Rattle.raft_log_record_base.specs.declared.pipe_log.LogQueue.{LogQueue}
 use Rattle.raft_log_offline.specs.declared.group_runs.GroupRuns.{GroupRuns}
 use Rattle.raft_log_offline.specs.declared.checker.ConsistencyChecker.{ConsistencyChecker}
 use Rattle.raft_log_offline.specs.Runs.{Run, finding, leaves_hole, run_of_content, run_of_item, runs_in, runs_of}
-use Rattle.raft_log_offline.specs.Kept.{FollowsAll, FollowsIn, KeepsRuns, TakesItem, TakesRuns, both_kept, kept, kept_of, last_end}
-use Rattle.raft_log_offline.proofs.Holes.{by_test, if_not, if_so, some_is}
+use Rattle.raft_log_offline.specs.Kept.{FollowsAll, KeepsRuns, TakesItem, TakesRuns, both_kept, kept, kept_of, last_end}
+use Rattle.raft_log_offline.proofs.Holes.{some_is}
 
 or_none : (b : Bool) (a : ℕ) (o : Option ℕ) → (if b then Some a else o) ≡ option_or (if b then Some a else None) o
 or_none true a o = refl
@@ -45,9 +45,6 @@ kept_joined (x ∷ xs) (y ∷ ys) =
 
 -- One item.
 
-pub itself : (n : ℕ) → (n == n) ≡ true
-itself n = grind (arith)
-
 pub equal_if : (a b : ℕ) → (a == b) ≡ true → a ≡ b
 equal_if a b h = grind (arith, h)
 
@@ -67,16 +64,6 @@ kept_more before g items item =
 
 pub takes_none : (old : ConsistencyChecker) → TakesRuns [] old old
 takes_none old g before h = h ∙ ap kept (sym (append-nil before))
-
--- a run of an item comes behind
-pub follows_item : (now next : ConsistencyChecker) (item : LogItem) (k : GroupRuns) → kept (run_of_content item.content) ≡ Some k → FollowsIn now next item.raft_group_id k → TakesItem item now next
-follows_item now next item k is follows g = by_test (item.raft_group_id == g)
-    (λ t. let same = equal_if item.raft_group_id g t in
-    subst (λ (j : ℕ). kept_of next j ≡ both_kept (kept_of now j) (kept (run_of_item j item))) same
-    (follows.both ∙ ap (λ o. both_kept (kept_of now item.raft_group_id) o)
-    (sym (ap kept (if_so (item.raft_group_id == item.raft_group_id) (run_of_content item.content) [] (itself item.raft_group_id)) ∙ is))))
-    (λ t. follows.others g t ∙ sym (nothing_behind (kept_of now g))
-    ∙ ap (λ o. both_kept (kept_of now g) o) (ap kept (sym (if_not (item.raft_group_id == g) (run_of_content item.content) [] t))))
 
 either : (b : Bool) (rs : List Run) → rs ≡ [] → (if b then rs else []) ≡ []
 either true rs h = h

@@ -1,3 +1,4 @@
+pub mod Public
 mod Holes
 mod Ends
 mod Keeping

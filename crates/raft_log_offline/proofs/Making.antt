@@ -1,32 +1,20 @@
 -- Why a file isn't made, and what stands in one that is.
-use Rattle.std.specs.Prelude.{◌⊎◌, Result, Err}
+use Rattle.std.specs.Prelude.{Result, Err}
 use Rattle.std.specs.Map.{update}
 use Rattle.std.proofs.Common.{◌≡◌, ℕ, Some, None, List, [], nat_eq, refl, sym, ◌∙◌, ap, subst, inl, inr, arith}
 use Rattle.std.specs.declared.io.ErrorKind.{ErrorKind}
 use Rattle.raft_log_fs.specs.Disk.{File, Disk, Wrote, at_rest, overwritten}
 use Rattle.raft_log_record_base.specs.declared.errors.Error.TheVariants as errors
-use Rattle.raft_log_fs.specs.Arguments.{WrongCreate, WrongHandle, WrongWriter}
+use Rattle.raft_log_fs.specs.Arguments.{WrongHandle, WrongWriter}
 use Rattle.raft_log_fs.specs.declared.handle.Handle.{Handle}
 use Rattle.raft_log_fs.specs.declared.handle.Permission.TheVariants.{ReadWrite}
-use Rattle.raft_log_fs.specs.Calls.{Changes, Creates, IsRight, after_change, created, flushed, after_stop, wrong_argument, failed, stops}
-use Rattle.raft_log_fs.specs.Causes.{Fails, has_stopped, has_failed}
-use Rattle.raft_log_fs.specs.Exits.{FailsToCreate, FailsToSync, FailsToWrite}
-use Rattle.raft_log_fs.proofs.CauseLaws.{fails_after, fails_change, fails_whole}
+use Rattle.raft_log_fs.specs.Calls.{Changes, Creates, IsRight, after_change, created, flushed}
+use Rattle.raft_log_fs.specs.Exits.{FailsToSync, FailsToWrite}
+use Rattle.raft_log_fs.proofs.Public.{fails_after, fails_change, fails_whole, file_here, kept_change, kept_sync, name_here, overwritten_at_end}
 use Rattle.raft_log_fs.specs.Image.{IsSound}
-use Rattle.raft_log_fs.proofs.ChangeLaws.{overwritten_at_end}
-use Rattle.raft_log_fs.proofs.KeptLaws.{kept_change, kept_sync}
-use Rattle.raft_log_fs.proofs.Updates.{name_here, file_here}
 use Rattle.raft_log_offline.specs.Copies.{AddsOnly}
 use Rattle.raft_log_offline.specs.Steps.{FailsToMake, Fills, MakesFile}
 use Rattle.raft_log_offline.proofs.Adds.{adds_calm, adds_created, adds_file, adds_none}
-
--- a file wasn't made: a failure, a stop, or a wrong path
-pub create_fails : (path : List ℕ) (error : ErrorKind) (old new : Disk) → FailsToCreate path error old new → Fails old new ⊎ WrongCreate path old error
-create_fails path error old new (after_stop is same told) = inl (has_stopped (ap (λ (d : Disk). d.stopped) same ∙ is))
-create_fails path error old new (wrong_argument runs why same) = inr why
-create_fails path error old new (failed runs right left is same) =
-    inl (has_failed (omega (arith, ap (λ (d : Disk). d.failures) same, ap (λ (d : Disk). d.failures) is)))
-create_fails path error old new (stops runs told left is same) = inl (has_stopped (ap (λ (d : Disk). d.stopped) same))
 
 -- a new file is empty, and has the name
 pub created_has : (path : List ℕ) (id : ℕ) (old new : Disk) → Creates path id old new → (new.names path ≡ Some id) × (new.files id ≡ Some (at_rest []))
@@ -62,12 +50,6 @@ synced_has id bytes old new (file, is, all) made =
 -- a change of a file leaves names
 pub changed_names : (id : ℕ) (next : File → File) (old new : Disk) (path : List ℕ) → Changes id next old new → new.names path ≡ old.names path
 changed_names id next old new path made = ap (λ (d : Disk). d.names path) made.done
-
--- a file that is there stays there through a change of it
-pub still_has : (id : ℕ) (next : File → File) (old new : Disk) → Changes id next old new → new.files id ≡ None → ⊥
-still_has id next old new made none =
-    let there : new.files id ≡ Some (next made.file) = ap (λ (d : Disk). d.files id) made.done ∙ file_here old.files id (Some (next made.file)) in
-    absurd cc
 
 -- A file that is made is all that is added.
 

@@ -6,13 +6,13 @@ use Rattle.std.proofs.lemmas.List.Elements.{Contains-append_cases}
 use Rattle.raft_log_fs.specs.Disk.{Disk, File}
 use Rattle.raft_log_fs.specs.Image.{IsSound}
 use Rattle.raft_log_file_format.specs.Name.{IsNamed}
-use Rattle.raft_log_file_format.proofs.Names.{one_number, one_queue}
+use Rattle.raft_log_file_format.proofs.Public.{one_number, one_queue}
 use Rattle.raft_log_recovery_scan.specs.Names.{built_name, end_of}
 use Rattle.raft_log_recovery_scan.specs.Found.{found_path}
 use Rattle.raft_log_recovery_scan.specs.declared.file_kind.FileKind.{FileKind}
 use Rattle.raft_log_recovery_scan.specs.declared.file_kind.FileKind.TheVariants.{Append, Rewrite}
 use Rattle.raft_log_recovery_scan.specs.declared.scanning.found.FoundFile.{FoundFile}
-use Rattle.raft_log_recovery_scan.proofs.FoundLemmas.{named_built}
+use Rattle.raft_log_recovery_scan.proofs.Public.{named_built}
 use Rattle.raft_log_offline.specs.Sources.{AreApart, AreRising, AreSources, AreSourcesOf, AllThere, IsSource}
 use Rattle.raft_log_offline.specs.declared.source_file.SourceFile.{SourceFile}
 use Rattle.raft_log_offline.proofs.Lasts.{first, first_or_later, in_none, later}

@@ -25,7 +25,7 @@ use Rattle.raft_log_offline.specs.Findings.{Lists, finding_of}
 use Rattle.raft_log_offline.specs.Kept.{KeepsRuns, IsOutOfMemory}
 use Rattle.raft_log_offline.specs.declared.checker.ConsistencyChecker.{ConsistencyChecker}
 
--- `batches` are those of the files of a queue on disk `d`, file after file. `endings` says for each file where its
+-- `batches` are the batches in a queue's files on disk `d`, file after file. `endings` says for each file where its
 -- records end and whether it is damaged.
 pub record HoldAll (queue : LogQueue) (mode : RecoveryMode) (files : List File) (d : Disk)
     (batches : List Batch) (endings : List FileEnding) : Type 0 where

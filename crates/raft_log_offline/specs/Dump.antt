@@ -20,8 +20,8 @@ LacksBoth path d text = (text ≡ told (codes "No such file or directory") path)
     × (d.directories path ≡ false)
 
 -- Why a dump of this path fails:
--- - `Io`: the file system has stopped. The other errors come only if it runs.
--- - `InvalidArgument`: nothing has the path, or it is that of a file without a log file's name.
+-- - `Io`: the file system has stopped. The other errors come only if the file system runs.
+-- - `InvalidArgument`: nothing has the path, or a file has it whose name isn't a log file's.
 -- - `Memory`: memory ran out.
 abbrev pub IsNoDump : List ℕ → Disk → Error → Type 0
 IsNoDump path d (errors.InvalidArgument text) =

@@ -77,8 +77,8 @@ pub record CopiesAll (target : List ℕ) (files : List SourceFile) (old new : Di
   pub adds : AddsOnly target (IsCopyPath target files) old new
   pub copies : HaveCopies target files old new
 
--- Copying the files failed at `file`. Those before it, `copied`, have their copies. `file` may have an incomplete copy,
--- and nothing else changed. The error is that of a call for `file`.
+-- Copying the files failed at `file`. The files before it, `copied`, have their copies. `file` may have an incomplete
+-- copy, and nothing else changed. The error is that of a call for `file`, or `Memory`.
 pub record FailsToCopyAll (target : List ℕ) (files : List SourceFile) (error : Error) (old new : Disk)
     : Type 0 where
   pub copied : List SourceFile

@@ -18,7 +18,7 @@ abbrev pub last_end : Run → List Run → ℕ
 last_end run [] = run.last
 last_end run (next ∷ runs) = last_end next runs
 
--- what is kept of a group's runs, if there are any: the first index, the last one, and the finding
+-- what is kept of a group's runs, if there are any: the first index, the last index, and the finding
 abbrev pub kept : List Run → Option GroupRuns
 kept [] = None
 kept (run ∷ runs) = Some (record {
@@ -31,8 +31,8 @@ kept (run ∷ runs) = Some (record {
 abbrev pub hole_between : GroupRuns → GroupRuns → Option ℕ
 hole_between earlier later = if nat_lt (earlier.last + 1) later.first then Some earlier.last else None
 
--- What is kept of earlier and then later runs. The finding is that of the earlier runs. If they have none, it is the
--- hole between the two, and without such a hole the finding of the later runs.
+-- What is kept of earlier and then later runs. The finding is the first of these that exists: the finding of the
+-- earlier runs, the hole between the two, the finding of the later runs.
 abbrev pub followed : GroupRuns → GroupRuns → GroupRuns
 followed earlier later = record {
   first = earlier.first;

@@ -20,8 +20,8 @@ abbrev pub IsNoLater : FoundFile → FoundFile → Type 0
 IsNoLater a b = (a.path_id < b.path_id)
     ⊎ ((a.path_id ≡ b.path_id) × (a.signed ≡ true → b.signed ≡ true))
 
--- Among the files in `found` that have the number of `file`, it is the one that counts: the one in the last directory.
--- If two files in that directory have this number, it is the one whose name has a plus sign.
+-- Among the files in `found` with its number, `file` is the one that counts: the one in the last directory. If two
+-- files in that directory have this number, it is the one whose name has a plus sign.
 pub record IsLastOf (found : List FoundFile) (file : FoundFile) : Type 0 where
   pub there : Contains found file
   pub last : (other : FoundFile) → Contains found other → other.seq ≡ file.seq → IsNoLater other file
@@ -32,7 +32,7 @@ AreRising [] = Unit {0}
 AreRising (file ∷ files) =
     ((other : FoundFile) → Contains files other → file.seq < other.seq) × AreRising files
 
--- `chosen` has one of these files for each number, sorted by number: the one that counts
+-- `chosen` has one file for each number in `found`: the one that counts (`IsLastOf`). It is sorted by number.
 pub record IsOneEach (found chosen : List FoundFile) : Type 0 where
   pub are : (file : FoundFile) → Contains chosen file → IsLastOf found file
   pub all : (file : FoundFile) → IsLastOf found file → Contains chosen file
@@ -53,7 +53,7 @@ abbrev pub lasts : List FoundFile → List FoundFile
 lasts [] = []
 lasts (file ∷ files) = unless_again file files ++ lasts files
 
--- `file` is the file `found`, of this kind, as it is open to be copied
+-- `file` is the file `found`, of this kind, opened to be copied
 pub record IsSource (kind : FileKind) (directories : List (List ℕ)) (d : Disk) (found : FoundFile)
     (file : SourceFile) : Type 0 where
   pub queue : file.kind ≡ kind
@@ -61,7 +61,7 @@ pub record IsSource (kind : FileKind) (directories : List (List ℕ)) (d : Disk)
   pub small : found.seq < 10 ^ 16
   pub is : d.names (found_path kind directories found) ≡ Some file.handle.file
 
--- `files` are the files of this kind in these directories, one for each number, open
+-- `files` are the files of this kind in these directories, one for each number, opened to be copied
 pub record AreSourcesOf (kind : FileKind) (directories : List (List ℕ)) (d : Disk) (files : List SourceFile)
     : Type 0 where
   pub found : List FoundFile
@@ -92,6 +92,6 @@ AreApart [] = Unit {0}
 AreApart (file ∷ files) = ((other : SourceFile) → Contains files other
     → built_name file.kind file.seq ≡ built_name other.kind other.seq → ⊥) × AreApart files
 
--- why finding the files fails: listing a directory fails, or finding or opening its files does
+-- why finding the files fails: listing a directory fails, or finding and opening the files in it does
 abbrev pub IsSourceRefusal : List (List ℕ) → Disk → Error → Type 0
 IsSourceRefusal directories d error = FailsToListAll directories d error ⊎ FailsToFindFiles directories d error

@@ -1,5 +1,5 @@
 -- Records of a file one behind the other.
-use Rattle.std.proofs.Common.{◌≡◌, ℕ, zero, suc, ◌+◌, ◌-◌, ◌≤◌, not, nat_eq, false, inl, inr, List, [], ◌∷◌, ◌++◌, length, take, drop, Err, refl, sym, ap, ap₂, subst, ◌∙◌, append_assoc, arith}
+use Rattle.std.proofs.Common.{◌≡◌, ℕ, zero, suc, ◌+◌, ◌-◌, ◌≤◌, not, nat_eq, false, inl, List, [], ◌∷◌, ◌++◌, length, take, drop, Err, refl, sym, ap, ap₂, subst, ◌∙◌, append_assoc, arith}
 use Rattle.std.proofs.lemmas.List.{append-nil, length-append}
 use Rattle.std.proofs.lemmas.Bool.{ne_eqb}
 use Rattle.std.proofs.Math.Seq.{take-append-add}
@@ -17,17 +17,17 @@ use Rattle.raft_log_record_items.specs.declared.item.LogItem.{LogItem}
 use Rattle.raft_log_fs.specs.Disk.{Disk}
 use Rattle.raft_log_fs.specs.Reading.{IsUnread}
 use Rattle.raft_log_fs.specs.declared.handle.Handle.{Handle}
-use Rattle.raft_log_file_format.specs.Header.{magic, header_at, IsFileHeader, IsHeaderRefusal, IsPayload}
+use Rattle.raft_log_file_format.specs.Header.{magic, header_at, IsFileHeader, IsPayload}
 use Rattle.raft_log_file_format.specs.declared.header.LogFileFormat.{LogFileFormat}
-use Rattle.raft_log_file_format.proofs.Headers.{is_header}
+use Rattle.raft_log_file_format.proofs.Public.{is_header}
 use Rattle.raft_log_file_reader.specs.Source.{bytes_in}
 use Rattle.raft_log_file_reader.specs.Opening.{FailsToOpen, SaysFormat}
-use Rattle.raft_log_file_reader.specs.Batches.{HasBatch, HasBlock, HasNoMore, IsBroken}
+use Rattle.raft_log_file_reader.specs.Batches.{HasBatch, HasBlock, HasNoMore}
 use Rattle.raft_log_file_reader.specs.declared.open_file.OpenFile.{OpenFile}
-use Rattle.raft_log_file_reader.proofs.Readings.{one_place}
+use Rattle.raft_log_file_reader.proofs.Public.{one_place}
 use Rattle.raft_log_recovery_read.specs.Reading.{FailsToRead, FileReading, ReadsBytes}
 use Rattle.raft_log_recovery_read.specs.Reading.ReadsBytes.{headless, headed, torn}
-use Rattle.raft_log_recovery_read.proofs.FaultLemmas.{file_unread, header_damaged, header_unread}
+use Rattle.raft_log_recovery_read.proofs.Public.{file_unread, header_damaged, header_unread}
 use Rattle.raft_log_open.specs.Content.{HasAllBytes, HasBytes, IsPadded, IsUnpadded, joined, plain_format}
 use Rattle.raft_log_open.specs.PaddingReading.{Joins}
 
@@ -100,12 +100,6 @@ pub unopened : (last : Bool) (id : FileId) (handle : Handle) (d : Disk) (error :
 unopened last id handle d error padded fails = header_unread handle d error fails
     (λ damaged. let (f, told, bad) = header_damaged handle d error fails damaged in padded_headed last id (bytes_in (d.files handle.file)) f padded bad)
 
--- a header without an alignment is refused for want of memory alone
-pub unencoded : (handle : Handle) (d : Disk) (format : LogFileFormat) (error : Error) → format.alignment ≡ 0 → IsHeaderRefusal format error → FailsToRead handle d error
-unencoded handle d format (errors.InvalidArgument text) none h = absurd (h.1 none)
-unencoded handle d format errors.Memory none h = tt
-unencoded handle d format _ none h = absurd h
-
 -- Which files have an alignment.
 
 by_number : (P Q : Type 0) (n : ℕ) → ((n ≡ 0 → ⊥) → P) → (n ≡ 0 → Q) → MatchBool (not (nat_eq n 0)) P Q
@@ -147,14 +141,6 @@ joins_all file content offset end records old now are none is = record {
   bytes = joined records;
   are = record { records = records; end = end; are = are; rest = []; left = inl (none, refl); both = sym (append-nil (joined records)) };
   more = is;
-}
-
-pub joins_rest : (file : OpenFile) (content : List ℕ) (offset end : ℕ) (fault : Fault) (records : List (List ℕ)) (old now new : List ℕ) → HasAllBytes file content offset records end
-    → IsBroken file content end fault → now ≡ old ++ joined records → new ≡ now ++ drop end content → Joins file content offset old new
-joins_rest file content offset end fault records old now new are broken is more = record {
-  bytes = joined records ++ drop end content;
-  are = record { records = records; end = end; are = are; rest = drop end content; left = inr (fault, broken, refl); both = refl };
-  more = more ∙ ap (λ (l : List ℕ). l ++ drop end content) is ∙ append_assoc old (joined records) (drop end content);
 }
 
 -- a format without an alignment

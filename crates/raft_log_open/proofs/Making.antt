@@ -9,11 +9,7 @@ use Rattle.raft_log_fs.specs.Calls.{Changes, Creates, Renames, after_change, cre
 use Rattle.raft_log_fs.specs.Exits.{FailsToCreate, FailsToRename, FailsToSync, FailsToWrite}
 use Rattle.raft_log_fs.specs.Touching.{TouchesOnly, TouchesOnlyNames}
 use Rattle.raft_log_fs.specs.declared.handle.Handle.{Handle}
-use Rattle.raft_log_fs.proofs.Updates.{name_here, file_here}
-use Rattle.raft_log_fs.proofs.ChangeLaws.{overwritten_at_end}
-use Rattle.raft_log_fs.proofs.KeptLaws.{IsCalm, kept_rename}
-use Rattle.raft_log_fs.proofs.NamesLaws.{renaming_leaves}
-use Rattle.raft_log_fs.proofs.TouchingLaws.{has_done, names_create, names_file, names_rename, names_then, touches_change, touches_sync}
+use Rattle.raft_log_fs.proofs.Public.{file_here, has_done, kept_rename, name_here, names_create, names_file, names_rename, names_then, overwritten_at_end, renaming_leaves, touches_change, touches_sync, IsCalm}
 use Rattle.raft_log_open.specs.Replacing.{FailsToMake, FailsToReplace, IsAtRest, IsEither, MakesFile, Replaces, StaysAt, not_created, not_written, not_synced, unmade, unnamed}
 
 -- what touches one path touches no more than one of two

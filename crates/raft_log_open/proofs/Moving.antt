@@ -5,17 +5,16 @@ use Rattle.std.proofs.Math.Seq.{take-append_seam}
 use Rattle.raft_log_record_base.specs.Fault.{Fault}
 use Rattle.raft_log_record_base.specs.Files.{signature_of}
 use Rattle.raft_log_record_base.specs.declared.pipe_log.LogFileContext.{LogFileContext}
-use Rattle.raft_log_record_base.proofs.Grammar.{done}
+use Rattle.raft_log_record_base.proofs.Public.{done}
 use Rattle.raft_log_record_items.specs.declared.item.LogItem.{LogItem}
 use Rattle.raft_log_record_items.specs.Placed.{placed}
 use Rattle.raft_log_record_frames.specs.Record.{Front, frame_at, header_at, record_at}
-use Rattle.raft_log_record_frames.proofs.Fronts.{frame_is_read, frames_are_read_back}
+use Rattle.raft_log_record_frames.proofs.Public.{frame_is_read, frames_are_read_back}
 use Rattle.raft_log_file_format.specs.declared.header.LogFileFormat.{LogFileFormat}
 use Rattle.raft_log_file_reader.specs.Batches.{padding_len, GoesOnAt, HasBatch, HasNoMore, IsBroken, batch_at, block_at, context_of}
 use Rattle.raft_log_file_reader.specs.Batches.GoesOnAt.{behind_padding, at_once}
 use Rattle.raft_log_file_reader.specs.declared.open_file.OpenFile.{OpenFile}
-use Rattle.raft_log_file_reader.proofs.Extents.{batch_broken, context_is, extent_header, placed_front}
-use Rattle.raft_log_file_reader.proofs.FrameReadings.{block_stands, frame_of_batch}
+use Rattle.raft_log_file_reader.proofs.Public.{batch_broken, block_stands, context_is, extent_header, frame_of_batch, placed_front}
 use Rattle.raft_log_open.specs.Content.{HasAllBytes, HasBytes, joined, plain_format}
 use Rattle.raft_log_open.specs.Laws.{AreMoved}
 

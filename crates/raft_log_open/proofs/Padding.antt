@@ -19,12 +19,12 @@ use Rattle.raft_log_replay_context.specs.declared.context.MemTableRecoverContext
 use Rattle.raft_log_recovery_read.specs.Tolerance.{FailsToReadFound}
 use Rattle.raft_log_recovery.specs.Finding.{FindsLog}
 use Rattle.raft_log_recovery.specs.Reading.{FilesAreUnread}
-use Rattle.raft_log_recovery.specs.Recovering.{FailsToRecoverLog, RecoversLog, append_config, append_files, rewrite_config, rewrite_files}
+use Rattle.raft_log_recovery.specs.Recovering.{FailsToRecoverLog, append_config, append_files, rewrite_config, rewrite_files}
 use Rattle.raft_log_recovery.specs.Recovering.FailsToRecoverLog.{aligned, append_uncut, append_unread, rewrite_uncut, rewrite_unread}
 use Rattle.raft_log_recovery.specs.Scanning.{FailsToScanLog}
 use Rattle.raft_log_recovery.specs.declared.builder.DualPipesBuilder.{DualPipesBuilder}
 use Rattle.raft_log_open.specs.Unpadding.{Unpads}
-use Rattle.raft_log_open.specs.Finding.{FailsToReadAnew, FindsAnew, FindsPadding, HasPadding, ReadsAnew}
+use Rattle.raft_log_open.specs.Finding.{FailsToReadAnew, FindsPadding, HasPadding, ReadsAnew}
 use Rattle.raft_log_open.specs.Finding.FailsToReadAnew.{unfound}
 use Rattle.raft_log_open.specs.Finding.FindsUnpadded.{once_unpadded}
 use Rattle.raft_log_open.specs.Opening.{FailsToOpenDirectory}
@@ -73,10 +73,6 @@ pub not_found : (was : DualPipesBuilder) (written : List FileId) (old unpadded n
     → IfErr result (λ error. FailsToScanLog was error unpadded new) → IfErr result (λ error. FailsToReadAnew was error old new)
 not_found was written old unpadded new (Ok v) unpads fails = tt
 not_found was written old unpadded new (Err error) unpads fails = unfound written unpadded unpads fails
-
--- what is read once the padding is out
-pub read_anew : (was found : DualPipesBuilder) (append rewrite : MemTableRecoverContext) (b : DualPipesBuilder) (old scanned new : Disk) → FindsAnew was found old scanned → RecoversLog HasReadBatches append rewrite found b scanned new → ReadsAnew was append rewrite b old new
-read_anew was found append rewrite b old scanned new finds recovers = record { found = found; scanned = scanned; anew = finds; recovers = recovers }
 
 -- the whole, from the first scan on
 pub opened_unpadded : (config : Config) (was : DualPipesBuilder) (text : String Global) (old scanned padded new : Disk) (result : Result ReadQueues Error) → FindsLog config was old scanned → FailsToRecoverLog HasReadBatches Declines was (errors.InvalidArgument text) scanned padded

@@ -9,11 +9,11 @@ use Rattle.raft_log_record_base.specs.declared.errors.Error.{Error}
 use Rattle.raft_log_record_base.specs.declared.pipe_log.FileId.{FileId}
 use Rattle.raft_log_record_base.specs.declared.pipe_log.Version.{Version}
 use Rattle.raft_log_record_base.specs.declared.pipe_log.Version.TheVariants.{V1, V2}
-use Rattle.raft_log_record_base.proofs.Grammar.{ok_is}
+use Rattle.raft_log_record_base.proofs.Public.{ok_is}
 use Rattle.raft_log_record_items.specs.declared.item.LogItem.{LogItem}
 use Rattle.raft_log_file_format.specs.Header.{header_at, header_bytes}
 use Rattle.raft_log_file_format.specs.declared.header.LogFileFormat.{LogFileFormat}
-use Rattle.raft_log_file_format.proofs.Headers.{is_header, written_header}
+use Rattle.raft_log_file_format.proofs.Public.{is_header, written_header}
 use Rattle.raft_log_active_file.specs.Layout.{IsUnaligned}
 use Rattle.raft_log_fs.specs.Disk.{File}
 use Rattle.raft_log_file_reader.specs.Source.{bytes_in}
@@ -23,8 +23,7 @@ use Rattle.raft_log_recovery_read.specs.Faults.{TellsIfAny}
 use Rattle.raft_log_recovery_read.specs.Records.{ReadsBehind}
 use Rattle.raft_log_recovery_read.specs.Reading.{FileReading, ReadsBytes}
 use Rattle.raft_log_recovery_read.specs.Reading.ReadsBytes.{headless, headed, torn}
-use Rattle.raft_log_recovery_read.proofs.Elsewhere.{same_behind}
-use Rattle.raft_log_recovery_read.proofs.OneReading.{one_behind}
+use Rattle.raft_log_recovery_read.proofs.Public.{one_behind, same_behind}
 use Rattle.raft_log_open.specs.Content.{IsPadded, IsWithoutPadding, joined, plain_format}
 use Rattle.raft_log_open.specs.Laws.{AreMoved, FilesReadTheSame, ReadsMoved, RecordsReadTheSame, WrittenFilesReadTheSame}
 use Rattle.raft_log_open.specs.PaddingReading.{content_of}

@@ -13,10 +13,9 @@ use Rattle.raft_log_file_format.specs.Name.{number_text, sixteen_digits, signed_
 use Rattle.raft_log_recovery_scan.specs.Names.{name_of, end_of}
 use Rattle.raft_log_recovery_scan.specs.Found.{AreFilesIn, FileLiesIn}
 use Rattle.raft_log_recovery_scan.specs.declared.scanning.found.FoundFile.{FoundFile}
-use Rattle.raft_log_recovery_scan.proofs.FoundLemmas.{limit_small}
+use Rattle.raft_log_recovery_scan.proofs.Public.{limit_small}
 use Rattle.raft_log_offline.specs.Sources.{IsOneEach}
-use Rattle.raft_log_offline.proofs.Finding.{chosen_lie}
-use Rattle.raft_log_offline.proofs.Lasts.{first_or_later, in_none}
+use Rattle.raft_log_offline.proofs.Public.{chosen_lie, first_or_later, in_none}
 use Rattle.raft_log_open.specs.Placing.{AreLogFiles, IsListed, IsPlaced, kind_of}
 use Rattle.raft_log_open.specs.Unpadding.{AreApart, IsApart}
 use Rattle.raft_log_open.specs.declared.placed_file.PlacedFile.{PlacedFile}

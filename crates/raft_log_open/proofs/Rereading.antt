@@ -6,14 +6,13 @@ use Rattle.std.proofs.lemmas.List.{drop_all}
 use Rattle.raft_log_record_base.specs.Fault.{Fault}
 use Rattle.raft_log_record_base.specs.Files.{signature_of}
 use Rattle.raft_log_record_base.specs.declared.pipe_log.LogFileContext.{LogFileContext}
-use Rattle.raft_log_record_base.proofs.Grammar.{ok_is}
+use Rattle.raft_log_record_base.proofs.Public.{ok_is}
 use Rattle.raft_log_record_items.specs.declared.item.LogItem.{LogItem}
 use Rattle.raft_log_record_frames.specs.Record.{Front, frame_at, record_at}
 use Rattle.raft_log_file_reader.specs.Batches.{GoesOnAt, HasBatch, HasBatches, HasNoMore, IsBroken, batch_at, context_of}
 use Rattle.raft_log_file_reader.specs.Laws.{EndsBehind}
 use Rattle.raft_log_file_reader.specs.declared.open_file.OpenFile.{OpenFile}
-use Rattle.raft_log_file_reader.proofs.Extents.{batch_broken, extent_short, placed_front}
-use Rattle.raft_log_file_reader.proofs.Readings.{one_place, one_fault_is}
+use Rattle.raft_log_file_reader.proofs.Public.{batch_broken, extent_short, one_fault_is, one_place, placed_front}
 use Rattle.raft_log_recovery_read.specs.Records.{EndsWhole, HasRecords, IsRecordTorn, IsWhole, ReadsBehind, StopsGood, StopsWhole}
 use Rattle.raft_log_recovery_read.specs.Records.ReadsEarlier.{none, good, torn}
 use Rattle.raft_log_open.specs.Content.{HasAllBytes, IsRest, joined}

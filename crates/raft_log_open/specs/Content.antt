@@ -1,4 +1,4 @@
--- A log file with an alignment has padding between its records. Here are its bytes without padding.
+-- A log file with an alignment has padding between its records. This file says what its bytes without padding are.
 use Rattle.std.specs.Prelude.{◌≡◌, ℕ, ◌⊎◌, Bool, List, [], ◌∷◌, ◌++◌, take, drop}
 use Rattle.raft_log_record_base.specs.Fault.{Fault}
 use Rattle.raft_log_record_base.specs.declared.pipe_log.FileId.{FileId}
@@ -13,8 +13,8 @@ use Rattle.raft_log_recovery_read.specs.Reading.{FileReading, ReadsBytes}
 
 -- Which files are rewritten.
 
--- The file with these bytes (`content`) has an alignment. `last` says whether it is its queue's last file. A last file
--- without a whole record doesn't count: an open takes its header for a torn one.
+-- The file with the bytes `content` has an alignment. `last` says whether it is its queue's last file. A last file
+-- without a whole record doesn't count as padded: an open takes its header for a torn one.
 abbrev pub IsPadded : Bool → FileId → List ℕ → Type 0
 IsPadded last id content =
     (read : FileReading) × ReadsBytes last id content read × (IsUnaligned read.format → ⊥)
@@ -25,13 +25,13 @@ IsUnpadded last id content = (read : FileReading) × ReadsBytes last id content 
 
 -- What is written.
 
--- `bytes` are those of the next record after `offset`, which ends at `end`
+-- `bytes` are those of the next record after `offset`; this record ends at `end`
 pub record HasBytes (file : OpenFile) (content : List ℕ) (offset : ℕ) (bytes : List ℕ) (end : ℕ) : Type 0 where
   pub items : List LogItem
   pub batch : HasBatch file content offset items end
   pub are : bytes ≡ take batch.len (drop batch.at content)
 
--- consecutive records after `offset`: the bytes of each, and the offset `end` where the last one ends
+-- consecutive records after `offset`: the bytes of each, and the offset `end` at which the last one ends
 abbrev pub HasAllBytes : OpenFile → List ℕ → ℕ → List (List ℕ) → ℕ → Type 0
 HasAllBytes file content offset [] end = end ≡ offset
 HasAllBytes file content offset (bytes ∷ more) end =
@@ -53,7 +53,7 @@ abbrev pub plain_format : LogFileFormat → LogFileFormat
 plain_format format = record { version = format.version; alignment = 0 }
 
 -- `bytes` are the file's records from `offset` on, one after another without padding, and then what follows the last
--- one.
+-- record (`IsRest`).
 pub record AreJoined (file : OpenFile) (content : List ℕ) (offset : ℕ) (bytes : List ℕ) : Type 0 where
   pub records : List (List ℕ)
   pub end : ℕ
@@ -62,8 +62,9 @@ pub record AreJoined (file : OpenFile) (content : List ℕ) (offset : ℕ) (byte
   pub left : IsRest file content end rest
   pub both : bytes ≡ joined records ++ rest
 
--- `content` are the bytes of file `id`, and `new` are its bytes without padding. They begin with a header of the same
--- version and no alignment. The records follow byte for byte without gaps, and then what follows the last one.
+-- `content` are the bytes of file `id`, and `new` are its bytes without padding. `new` begins with a header of the same
+-- version and no alignment. The records of `content` follow, byte for byte and without gaps, and then what follows the
+-- last record (`IsRest`).
 pub record IsWithoutPadding (id : FileId) (content new : List ℕ) : Type 0 where
   pub file : OpenFile
   pub is : file.id ≡ id

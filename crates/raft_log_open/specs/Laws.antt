@@ -1,4 +1,4 @@
--- An open reads the same from a file's bytes without padding as from the file with padding.
+-- An open reads the same from a file's bytes without padding as from its bytes with padding.
 use Rattle.std.specs.Prelude.{◌≡◌, ℕ, Bool, Some, List, drop, take, is_some}
 use Rattle.std.specs.List.{AllZip}
 use Rattle.std.specs.String.{string_bytes}
@@ -21,7 +21,8 @@ use Rattle.raft_log_open.specs.declared.placed_file.PlacedFile.{PlacedFile}
 -- The records.
 
 -- The bytes `new` have a header of the same version without alignment, and then the records of `content`, byte for
--- byte. After the last record, `new` ends if `content` does; else a broken record follows.
+-- byte. If no record follows these in `content`, `new` ends after them. If a broken record follows in `content`, one
+-- follows in `new`.
 pub record KeepsRecords (id : FileId) (content new : List ℕ) (old : IsWithoutPadding id content new) : Type 0 where
   pub file : OpenFile
   pub is : file.id ≡ id
@@ -34,19 +35,19 @@ pub record KeepsRecords (id : FileId) (content new : List ℕ) (old : IsWithoutP
   pub breaks : (fault : Fault) → IsBroken old.file content old.are.end fault
       → (other : Fault) × IsBroken file new end other
 
--- A file's bytes without padding have exactly the records of the file.
+-- `KeepsRecords` holds for each file and its bytes without padding
 abbrev pub RecordsReadTheSame : Type 0
 RecordsReadTheSame =
     (id : FileId) (content new : List ℕ) (old : IsWithoutPadding id content new) → KeepsRecords id content new old
 
 -- What an open reads.
 
--- the bytes of a file at the location of this block
+-- the bytes at the location `block`, if `content` are the bytes of its file
 abbrev pub placed_bytes : FileBlockHandle → List ℕ → List ℕ
 placed_bytes block content = take block.len (drop block.offset content)
 
--- `others` are the same items as `items`; their entry block is in the same file, perhaps at another offset, and has the
--- same bytes
+-- `others` are the same items as `items`. Their entry block is in the same file and has the same bytes, perhaps at
+-- another offset.
 pub record AreMoved (content new : List ℕ) (items others : List LogItem) : Type 0 where
   pub plain : List LogItem
   pub from : FileBlockHandle
@@ -57,9 +58,9 @@ pub record AreMoved (content new : List ℕ) (items others : List LogItem) : Typ
   pub same_len : to.len ≡ from.len
   pub same : placed_bytes to new ≡ placed_bytes from content
 
--- `old` was read from the bytes `content`, and `read` from `new`. Both have the same batches in the same order, perhaps
--- with entry blocks at other offsets. The format of `read` has the same version, and no alignment. `read` ends with a
--- fault exactly if `old` does.
+-- `old` was read from the bytes `content`, and `read` from the bytes `new`. Both have the same batches in the same
+-- order, perhaps with entry blocks at other offsets. The format of `read` has the same version, and no alignment.
+-- Either both end with a fault, or neither does.
 pub record ReadsMoved (content new : List ℕ) (old read : FileReading) : Type 0 where
   pub plain : read.format ≡ plain_format old.format
   pub batches : AllZip (AreMoved content new) old.batches read.batches

@@ -20,9 +20,9 @@ use Rattle.raft_log_recovery.specs.Finding.{FindsLog, IsBegun}
 use Rattle.raft_log_open.specs.Finding.{FailsToReadAnew, FindsPadding, IsNoPadding}
 use Rattle.raft_log_open.specs.Reading.{ReadsLog, ReadsQueues}
 
--- The log was opened. Files with padding were written without it, and both queues were read into these tables. Then
--- all files were synced, and the pipes were opened over them. `disk` gives the disk of a file system's state, and
--- `tells` the free space that it may return for a directory.
+-- The log was opened. Files with padding were written without it, and both queues were read into these memtables. Then
+-- all files were synced, and the pipes were opened over them. `disk` gives the disk of a file system's state. `tells`
+-- gives the free space that the file system may return for a directory.
 pub record OpensDirectory {F : Type 0} (disk : F → Disk) (tells : F → List ℕ → ℕ → Type 0) (config : Config)
     (old : F) (v : LogPipes) (tables : MemTables) : Type 0 where
   pub builder : DualPipesBuilder
@@ -32,12 +32,12 @@ pub record OpensDirectory {F : Type 0} (disk : F → Disk) (tells : F → List �
 
 -- Why opening a log fails:
 -- - `ended`: the file system had stopped; this comes before all other reasons.
--- - `unsound`: its settings have a fault.
--- - `unfound`: the scan of its directories failed.
--- - `unread`: reading a queue or truncating its damaged files failed; the error isn't the one for an alignment.
--- - `unread_anew`: one of its files has an alignment, and reading the log without its padding failed.
--- - `unmerged`: out of memory for the tables.
--- - `unreadied`: readying the reserved files, which are kept for recycling, failed.
+-- - `unsound`: a setting has a fault.
+-- - `unfound`: the scan of the directories failed.
+-- - `unread`: reading a queue or truncating a damaged file failed; the error isn't the one for an alignment.
+-- - `unread_anew`: a file has an alignment, and reading the log without its padding failed.
+-- - `unmerged`: out of memory for the memtables.
+-- - `unreadied`: making the reserved files (kept for recycling) failed, or no name could be made for one to be deleted.
 -- - `unfinished`: the sync of a file failed, or opening a pipe did.
 pub data FailsToOpenDirectory {F : Type 0} (disk : F → Disk) (tells : F → List ℕ → ℕ → Type 0)
     (config : Config) (error : Error) (old new : F) : Type 0 where

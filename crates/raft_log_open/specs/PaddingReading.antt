@@ -26,7 +26,7 @@ pub record NeedsBytes (d : Disk) (file : ListedFile) (bytes : List ℕ) : Type 0
   pub padded : IsPadded file.is_last file.id (content_of file d)
   pub without : IsWithoutPadding file.id (content_of file d) bytes
 
--- the reader read the next record, which begins at offset `start`
+-- the reader read the next record after the offset of `old`; the record begins at offset `start`
 pub record ReadsNext (file : OpenFile) (content : List ℕ) (old new : LogItemBatchFileReader) (start : ℕ)
     : Type 0 where
   pub items : List LogItem
@@ -34,8 +34,10 @@ pub record ReadsNext (file : OpenFile) (content : List ℕ) (old new : LogItemBa
   pub begins : start ≡ batch.at
   pub further : end_of old < end_of new
 
--- What follows the offset of `old` in the open file, whose bytes are `content`. It is a record, which was read; or
--- nothing more; or a broken record, which wasn't read.
+-- What follows the offset of `old` in the open file, whose bytes are `content`:
+-- - `Record start`: a record, which was read.
+-- - `End`: nothing more.
+-- - `Broken`: a broken record, which wasn't read.
 abbrev pub FindsNext : OpenFile → List ℕ → LogItemBatchFileReader → LogItemBatchFileReader → Next → Type 0
 FindsNext file content old new (nexts.Record start) = ReadsNext file content old new start
 FindsNext file content old new nexts.End = HasNoMore file content (end_of old)
@@ -48,7 +50,7 @@ pub record HasOpen (d : Disk) (reader : LogItemBatchFileReader) (content : List 
   pub opened : file_of reader ≡ Some file
   pub bytes : content ≡ bytes_of file.source d
 
--- the file's records from `offset` on were appended to `old`, without padding, and then what follows the last one
+-- the file's records from `offset` on were appended to `old`, without padding, and then what follows the last record
 pub record Joins (file : OpenFile) (content : List ℕ) (offset : ℕ) (old new : List ℕ) : Type 0 where
   pub bytes : List ℕ
   pub are : AreJoined file content offset bytes

@@ -17,7 +17,7 @@ abbrev pub kind_of : LogQueue → FileKind
 kind_of Append = kinds.Append
 kind_of Rewrite = kinds.Rewrite
 
--- the path that a temporary file has in a directory, until it is renamed to the file that it replaces
+-- the path of the temporary file in a directory; it is renamed over the file that it replaces
 abbrev pub temporary_in : List ℕ → List ℕ
 temporary_in directory = directory ++ 47 ∷ codes "unpadded"
 
@@ -35,8 +35,8 @@ pub record IsListed (count : ℕ) (found : FoundFile) : Type 0 where
   pub listed : found.path_id < count
   pub small : found.seq < 10 ^ 16
 
--- `file` is the file `found` of this queue, with its path and the path of its temporary file; `last` is the number of
--- the queue's last file
+-- `file` is the file `found` of this queue, with its path and the path of its temporary file. `last` is the number of
+-- the queue's last file.
 pub record IsPlaced (queue : LogQueue) (directories : List (List ℕ)) (last : ℕ) (found : FoundFile)
     (file : PlacedFile) : Type 0 where
   pub is : file.id ≡ record { queue = queue; seq = found.seq }
@@ -44,7 +44,8 @@ pub record IsPlaced (queue : LogQueue) (directories : List (List ℕ)) (last : �
   pub path : string_bytes file.path ≡ found_path (kind_of queue) directories found
   pub temporary : string_bytes file.temporary ≡ temporary_in (slice_index_or directories found.path_id [])
 
--- `files` are the queue's files in these directories, sorted by number: for each number the one in the last directory.
+-- `files` are the queue's files in these directories, sorted by number. If files in several directories have the same
+-- number, only the one in the last directory is listed.
 pub record ArePlacedOf (queue : LogQueue) (directories : List (List ℕ)) (d : Disk) (files : List PlacedFile)
     : Type 0 where
   pub found : List FoundFile

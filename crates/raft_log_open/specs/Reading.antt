@@ -1,4 +1,4 @@
--- An open reads the queues of a log into replay contexts, and merges these into the tables.
+-- An open reads the queues of a log into replay contexts, and merges these into the memtables.
 use Rattle.std.specs.Prelude.{◌≡◌, ◌-◌, ◌^◌, ℕ, min, List, length}
 use Rattle.raft_log_record_base.specs.declared.pipe_log.LogQueue.{LogQueue}
 use Rattle.raft_log_record_base.specs.declared.pipe_log.LogQueue.TheVariants.{Append, Rewrite}
@@ -24,7 +24,7 @@ use Rattle.raft_log_recovery.specs.Reserving.{ReadiesLog}
 use Rattle.raft_log_recovery.specs.declared.builder.DualPipesBuilder.{DualPipesBuilder}
 use Rattle.raft_log_open.specs.Finding.{FindsUnpadded}
 
--- The context has read all these files of a queue on disk `d`, in order, as the recovery mode `mode` requires.
+-- The context has read all these files of a queue on the disk `d`, in order, as the recovery mode `mode` requires.
 -- `endings` has the result for each file.
 pub record HasReadAll (queue : LogQueue) (mode : RecoveryMode) (files : List File) (d : Disk)
     (context : MemTableRecoverContext) (endings : List FileEnding) : Type 0 where
@@ -33,8 +33,8 @@ pub record HasReadAll (queue : LogQueue) (mode : RecoveryMode) (files : List Fil
   pub all : length segments ≡ length files
   pub read : HasReadBatches queue (all_batches segments) context
 
--- The log's files were found without padding. Then one context read all files of Append, and another all of Rewrite,
--- and after that the damaged files were truncated.
+-- The log's files were found, after padding was taken out (`FindsUnpadded`). Then one context read all files of Append,
+-- and another all files of Rewrite. After that the damaged files were truncated.
 pub record ReadsQueues (config : Config) (append rewrite : MemTableRecoverContext) (b : DualPipesBuilder)
     (old new : Disk) : Type 0 where
   pub found : DualPipesBuilder
@@ -46,7 +46,7 @@ pub record ReadsQueues (config : Config) (append rewrite : MemTableRecoverContex
   pub rewrite_all : HasReadAll Rewrite found.config.recovery_mode (rewrite_files found) scanned rewrite
       b.rewrite.endings.items
 
--- `n` is the number of entries and values that were read from Rewrite's files, live or not, at most 2 ^ 64 - 1.
+-- `n` is how many entries and values were read from Rewrite's files, live or not; at most 2 ^ 64 - 1
 pub record BringsInRewrite (config : Config) (d : Disk) (n : ℕ) : Type 0 where
   pub found : DualPipesBuilder
   pub scanned : Disk
@@ -58,15 +58,15 @@ pub record BringsInRewrite (config : Config) (d : Disk) (n : ℕ) : Type 0 where
   pub all : length segments ≡ length (rewrite_files found)
   pub count : n ≡ min (written_by (all_batches segments)) (2 ^ 64 - 1)
 
--- the tables are the context of Append merged over that of Rewrite, and no batch is prepared in them
+-- the memtables are what Append's context has, merged over what Rewrite's has, and no batch is prepared in them
 pub record AreMergedOf (append rewrite : MemTableRecoverContext) (tables : MemTables) : Type 0 where
   pub over : (first behind : List ReadRecord) → HasRead Rewrite first rewrite → HasRead Append behind append
       → ComesOver first behind tables
   pub rest : IsAtRest tables
 
--- Both queues were read and merged into these tables, and then the reserved files were readied, as the settings want.
--- The builder has a result for each file of the queues. `disk` gives the disk of a file system's state, and `tells` the
--- free space that it may return for a directory.
+-- Both queues were read and merged into these memtables. Then reserved files were made or deleted, as the settings
+-- want. The builder has a result for each file of the queues. `disk` gives the disk of a file system's state. `tells`
+-- gives the free space that the file system may return for a directory.
 pub record ReadsLog {F : Type 0} (disk : F → Disk) (tells : F → List ℕ → ℕ → Type 0) (config : Config)
     (tables : MemTables) (b : DualPipesBuilder) (old new : F) : Type 0 where
   pub append : MemTableRecoverContext

@@ -1,4 +1,4 @@
--- A file is replaced: its new bytes are written to a temporary file, which is then renamed to its path.
+-- A file is replaced: the new bytes are written to a temporary file, which is then renamed over the file.
 use Rattle.std.specs.Prelude.{◌≡◌, ℕ, ◌⊎◌, Some, None, List}
 use Rattle.std.specs.declared.io.ErrorKind.{ErrorKind}
 use Rattle.raft_log_fs.specs.Disk.{Disk, at_rest}
@@ -11,7 +11,7 @@ use Rattle.raft_log_fs.specs.declared.handle.Handle.{Handle}
 abbrev pub IsAtRest : List ℕ → List ℕ → Disk → Type 0
 IsAtRest path bytes d = HasNamed path (λ file. file ≡ at_rest bytes) d
 
--- the path names the same file as before, unchanged; or none, as before
+-- the path names the same file as before, unchanged; or it named none, and still names none
 pub record StaysAt (path : List ℕ) (old new : Disk) : Type 0 where
   pub named : new.names path ≡ old.names path
   pub file : (id : ℕ) → old.names path ≡ Some id → new.files id ≡ old.files id
@@ -21,7 +21,7 @@ pub record MakesFile (path bytes : List ℕ) (old new : Disk) : Type 0 where
   pub made : IsAtRest path bytes new
   pub others : TouchesOnlyNames (λ other. other ≡ path) old new
 
--- which call failed when a file was made: its creation, the write of its bytes, or the sync after it
+-- which call failed while a file was made: its creation, the write of its bytes, or the sync after the write
 pub data UnmadeBy (path bytes : List ℕ) (kind : ErrorKind) (old new : Disk) : Type 0 where
   not_created : FailsToCreate path kind old new → UnmadeBy path bytes kind old new
   not_written : (handle : Handle) (begun : Disk) → Creates path handle.file old begun
@@ -44,14 +44,15 @@ pub record Replaces (temporary path bytes : List ℕ) (old new : Disk) : Type 0 
   pub free : new.names temporary ≡ None
   pub others : TouchesOnlyNames (IsEither temporary path) old new
 
--- which call failed when a file was replaced: one that makes the temporary file, or the rename
+-- which call failed while a file was replaced: one that makes the temporary file, or the rename
 pub data UnreplacedBy (temporary path bytes : List ℕ) (kind : ErrorKind) (old new : Disk) : Type 0 where
   unmade : UnmadeBy temporary bytes kind old new → UnreplacedBy temporary path bytes kind old new
   unnamed : (made : Disk) → MakesFile temporary bytes old made → FailsToRename temporary path kind made new
       → UnreplacedBy temporary path bytes kind old new
 
--- Why replacing a file fails. `path` names the old file unchanged, or the whole new one. Nothing else changed, except
--- under the temporary path.
+-- Why replacing a file fails, and what is left. `path` names the same file as before, unchanged, or none as before. Or
+-- it names the whole new file. Apart from `path` and the temporary path, no name changed, and no file with another
+-- name.
 pub record FailsToReplace (temporary path bytes : List ℕ) (kind : ErrorKind) (old new : Disk) : Type 0 where
   pub whole : StaysAt path old new ⊎ IsAtRest path bytes new
   pub others : TouchesOnlyNames (IsEither temporary path) old new

@@ -22,7 +22,7 @@ use Rattle.raft_log_open.specs.declared.placed_file.PlacedFile.{PlacedFile}
 
 -- Looking.
 
--- the file that has this path, open for reading, or none if no file has it
+-- the file that has this path, open for reading; `None` if no file has the path
 abbrev pub FindsAt : List ℕ → Disk → Option Handle → Type 0
 FindsAt path d None = d.names path ≡ None
 FindsAt path d (Some handle) = IsOpened path ReadOnly handle d
@@ -35,17 +35,17 @@ FailsToLookAt path d _ = ⊥
 
 -- Clearing.
 
--- the directory has no temporary file: it had none, or that was deleted
+-- the directory has no temporary file: it had none, or the file was deleted
 abbrev pub ClearsOne : List ℕ → Disk → Disk → Type 0
 ClearsOne directory old new = ((old.names (temporary_in directory) ≡ None) × (new ≡ old))
     ⊎ Deletes (temporary_in directory) old new
 
--- each of these directories was cleared of a temporary file, in order
+-- in each of these directories, in order, the temporary file was deleted if there was one
 abbrev pub ClearsAll : List (List ℕ) → Disk → Disk → Type 0
 ClearsAll [] old new = new ≡ old
 ClearsAll (directory ∷ more) old new = (mid : Disk) × ClearsOne directory old mid × ClearsAll more mid new
 
--- why clearing a directory of a temporary file fails: memory ran out, the file could not be looked up, or its deletion
+-- why deleting a directory's temporary file fails: memory ran out, the file couldn't be looked up, or the deletion
 -- failed
 pub data FailsToClearOne (directory : List ℕ) (error : Error) (old new : Disk) : Type 0 where
   short : error ≡ errors.Memory → new ≡ old → FailsToClearOne directory error old new
@@ -54,7 +54,7 @@ pub data FailsToClearOne (directory : List ℕ) (error : Error) (old new : Disk)
   undeleted : (kind : ErrorKind) → error ≡ errors.Io kind
       → FailsToDelete (temporary_in directory) kind old new → FailsToClearOne directory error old new
 
--- clearing one of the directories failed; those before it were cleared
+-- deleting the temporary file of one of the directories failed; the directories before it have none now
 pub record FailsToClearAll (directories : List (List ℕ)) (error : Error) (old new : Disk) : Type 0 where
   pub before : List (List ℕ)
   pub directory : List ℕ
@@ -74,7 +74,8 @@ IsApart file = string_bytes file.path ≡ string_bytes file.temporary → ⊥
 abbrev pub listed_as : PlacedFile → Handle → ListedFile
 listed_as file handle = record { id = file.id; handle = handle; is_last = file.is_last }
 
--- the file isn't rewritten, and nothing changed: no file has its path, or it doesn't count as padded (`NeedsNothing`)
+-- The file isn't rewritten, and nothing changed. Either no file has its path, or the file doesn't count as padded
+-- (`NeedsNothing`).
 pub data LeavesAlone (file : PlacedFile) (old new : Disk) : Type 0 where
   absent : old.names (string_bytes file.path) ≡ None → new ≡ old → LeavesAlone file old new
   plain : (handle : Handle) → IsOpened (string_bytes file.path) ReadOnly handle old
@@ -88,8 +89,10 @@ pub record WritesAnew (file : PlacedFile) (old new : Disk) : Type 0 where
   pub needs : NeedsBytes old (listed_as file handle) bytes
   pub replaces : Replaces (string_bytes file.temporary) (string_bytes file.path) bytes old new
 
--- Why writing a file without padding fails, and the disk after it. If the file wasn't opened or read, nothing changed.
--- If it has padding and replacing it failed, its path names the old file unchanged, or the whole new one.
+-- Why writing a file without padding fails, and the disk after that.
+-- - `unopened`, `unread`: the file wasn't opened or read. Nothing changed.
+-- - `unreplaced`: the file has padding, and replacing it failed. Its path names the old file unchanged, or the whole
+--   new one.
 pub data FailsToUnpadOne (file : PlacedFile) (error : Error) (old new : Disk) : Type 0 where
   unopened : FailsToLookAt (string_bytes file.path) old error → new ≡ old → FailsToUnpadOne file error old new
   unread : (handle : Handle) → IsOpened (string_bytes file.path) ReadOnly handle old
@@ -106,15 +109,15 @@ pub data FailsToUnpadOne (file : PlacedFile) (error : Error) (old new : Disk) : 
 abbrev pub AreApart : List PlacedFile → Type 0
 AreApart files = (file : PlacedFile) → Contains files file → IsApart file
 
--- the files were written without padding or left alone, in order; `written` lists those that were written
+-- each file was written without padding or left alone, in order; `written` lists the files that were written
 abbrev pub UnpadsAll : List PlacedFile → List FileId → Disk → Disk → Type 0
 UnpadsAll [] written old new = (written ≡ []) × (new ≡ old)
 UnpadsAll (file ∷ files) written old new = (mid : Disk)
     × ((LeavesAlone file old mid × UnpadsAll files written mid new)
     ⊎ ((more : List FileId) × (written ≡ file.id ∷ more) × WritesAnew file old mid × UnpadsAll files more mid new))
 
--- Writing one of the files without padding failed, after the files before it were done. Or the file was written, and
--- memory ran out for its id in the list of written files.
+-- Writing one of the files without padding failed, after the files before it were written or left alone. Or that file
+-- was written, and memory ran out for its id in the list of written files.
 pub record FailsToUnpadAll (files : List PlacedFile) (error : Error) (old new : Disk) : Type 0 where
   pub before : List PlacedFile
   pub file : PlacedFile

@@ -25,7 +25,7 @@ use Rattle.raft_log_operator.specs.Tasks.{kept_settings}
 use Rattle.raft_log_operator.specs.declared.fault.CommandFault.{CommandFault}
 use Rattle.raft_log_operator.specs.declared.fault.CommandFault.TheVariants.{Log}
 
--- the settings for a purge: those for reading a log, but Append is past its threshold once it has a second file
+-- the settings for a purge: those of `kept_settings`, but Append is past its threshold once it has a second file
 abbrev pub purge_settings : Place → Settings
 purge_settings place =
     record (kept_settings place) { purge_threshold = (kept_settings place).target_file_size }
@@ -76,8 +76,9 @@ pub data FailsByForce (error : Error) (s t : EngineState) : Type 0 where
   unfreed : (copied : MemTables) (between : EngineState) → RewritesAppend None None copied s between
       → StopsPurging between t error → FailsByForce error s t
 
--- Why the purges fail: that of the expired files failed; or it succeeded, and the one by force that was requested
--- failed.
+-- Why the purges fail:
+-- - `undeleted`: the purge of the expired files failed.
+-- - `unforced`: that purge succeeded, a purge by force was requested, and the purge by force failed.
 pub data FailsToPurgeEngine (pins : LogPipes → Option ℕ → Type 0) (thresholds : Thresholds) (force : Bool)
     (error : Error) (s t : EngineState) : Type 0 where
   undeleted : StopsPurgingExpired s t error → FailsToPurgeEngine pins thresholds force error s t
@@ -91,7 +92,10 @@ pub record PurgesAndCloses (pins : LogPipes → Option ℕ → Type 0) (threshol
   pub purges : PurgesEngine pins thresholds force groups s purged
   pub closes : ClosesSettled purged.pipes d
 
--- Why it fails: the purges failed, and the engine was closed in any case; or the close after the purges failed.
+-- Why purging and closing fails:
+-- - `unpurged`: the purges failed. If the engine has failed, the disk is as the purges left it. Otherwise the engine
+--   was closed.
+-- - `unclosed`: the purges succeeded, and the close failed.
 pub data FailsToPurgeAndClose (pins : LogPipes → Option ℕ → Type 0) (thresholds : Thresholds) (force : Bool)
     (error : Error) (s : EngineState) (d : Disk) : Type 0 where
   unpurged : (stopped : EngineState) → FailsToPurgeEngine pins thresholds force error s stopped
@@ -103,7 +107,7 @@ pub data FailsToPurgeAndClose (pins : LogPipes → Option ℕ → Type 0) (thres
 
 -- A closed log.
 
--- The log was opened by the settings for a purge. Its engine's state is `s`, and no block is cached.
+-- The log was opened with the settings for a purge. Its engine's state is `s`, and no block is cached.
 pub record OpensToPurge {F : Type 0} (disk : F → Disk) (tells : F → List ℕ → ℕ → Type 0) (place : Place)
     (old : F) (s : EngineState) : Type 0 where
   pub config : Config

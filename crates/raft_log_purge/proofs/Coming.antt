@@ -7,9 +7,7 @@ use Rattle.raft_log_model_laws.specs.Item.{Item, Tagged}
 use Rattle.raft_log_model_laws.specs.Item.Item.{Run, Clean, Compact, Put, Del}
 use Rattle.raft_log_model_laws.specs.Groups.{of_group}
 use Rattle.raft_log_model_laws.specs.Renamed.{renamed}
-use Rattle.raft_log_model_laws.proofs.Cases.{at_bool}
-use Rattle.raft_log_model_laws.proofs.Tests.{from_same_key}
-use Rattle.raft_log_model_laws.proofs.RenamedLaws.{of_group_renamed}
+use Rattle.raft_log_model_laws.proofs.Public.{at_bool, from_same_key, of_group_renamed}
 use Rattle.raft_log_record_items.specs.declared.entry.EntryIndex.{EntryIndex}
 use Rattle.raft_log_record_items.specs.declared.item.LogItem.{LogItem}
 use Rattle.raft_log_record_items.specs.Placed.{written_entry}
@@ -22,7 +20,7 @@ use Rattle.raft_log_memtable_index.specs.Shown.{Shown, all_stepped, stepped}
 use Rattle.raft_log_record_base.specs.declared.errors.Error.{Error}
 use Rattle.raft_log_engine_laws.specs.EngineState.{EngineState, has_failed}
 use Rattle.raft_log_engine_laws.specs.Writing.{NotWritten, Writes, items_at}
-use Rattle.raft_log_engine_laws.proofs.Renaming.{placed_items}
+use Rattle.raft_log_engine_laws.proofs.Public.{placed_items}
 use Rattle.raft_log_purge.specs.Marks.{CameOf, said_in}
 use Rattle.raft_log_purge.specs.Laws.{MarksComeOfBatches}
 use Rattle.raft_log_purge.proofs.Within.{Among, contained}

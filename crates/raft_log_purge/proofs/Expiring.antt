@@ -14,17 +14,15 @@ use Rattle.raft_log_dual_pipes.specs.Calls.{SyncsQueue}
 use Rattle.raft_log_purge_copy.specs.raft_log_block_cache.specs.declared.block_cache.BlockCache.{BlockCache}
 use Rattle.raft_log_purge_copy.specs.raft_log_engine_laws.specs.EngineState.{LogDirectories, LogMap, EngineState, has_failed, shows}
 use Rattle.raft_log_purge_copy.specs.raft_log_engine_laws.specs.Holding.{Represents}
-use Rattle.raft_log_purge_copy.specs.raft_log_engine_laws.proofs.Settling.{settled_held}
+use Rattle.raft_log_purge_copy.specs.raft_log_engine_laws.proofs.Public.{settled_held}
 use Rattle.raft_log_purge_policy.specs.declared.thresholds.Thresholds.{Thresholds}
 use Rattle.raft_log_purge_policy.specs.declared.rounds.Rounds.{Rounds}
 use Rattle.raft_log_purge_policy.specs.Picking.{count_of}
 use Rattle.raft_log_purge_policy.specs.Surveying.{Surveys, SurveysIfTold}
 use Rattle.raft_log_purge_policy.specs.declared.survey.Survey.{Survey}
 use Rattle.raft_log_purge_policy.specs.declared.watermarks.Watermarks.{Watermarks}
-use Rattle.raft_log_purge_copy.proofs.PartExits.{later_on, same_later}
+use Rattle.raft_log_purge_copy.proofs.Public.{later_on, owed_too_much, purge_reason_after, reason_after, same_later}
 use Rattle.raft_log_purge_copy.specs.Owed.{OwesSame}
-use Rattle.raft_log_purge_copy.proofs.Owing.{owed_too_much}
-use Rattle.raft_log_purge_copy.proofs.Reasons.{purge_reason_after, reason_after}
 use Rattle.raft_log_purge.specs.RewriteQueue.{FailsToRewriteRewrite, RewritesRewrite}
 use Rattle.raft_log_purge.specs.declared.expired_files.PurgeCounts.{PurgeCounts}
 use Rattle.raft_log_purge.specs.Append.{FailsToRewriteAppend}

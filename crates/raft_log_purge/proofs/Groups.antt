@@ -7,10 +7,8 @@ use Rattle.raft_log_record_items.specs.Items.{put_item}
 use Rattle.raft_log_record_frames.specs.Marking.{mark_key, mark_value}
 use Rattle.raft_log_record_batches.specs.Batch.{max_entries_len}
 use Rattle.raft_log_record_batches.specs.Entries.{bytes_len, entries_items, joined}
-use Rattle.raft_log_record_batches.proofs.Entries.{joined-length}
+use Rattle.raft_log_record_batches.proofs.Public.{joined-length, no_record_is_longer, record_bound-append, record_bound-entries}
 use Rattle.raft_log_record_batches.specs.Bounds.{key_value_len, record_bound}
-use Rattle.raft_log_record_batches.proofs.BoundLemmas.{record_bound-append, record_bound-entries}
-use Rattle.raft_log_record_batches.proofs.Lengths.{no_record_is_longer}
 use Rattle.raft_log_engine_laws.specs.EngineState.{LogMap}
 use Rattle.raft_log_purge_copy.specs.Entries.{AreEntryBytes}
 use Rattle.raft_log_purge_copy.specs.Lengths.{AreOnePiece, IsOneMark}

@@ -9,9 +9,7 @@ use Rattle.raft_log_model_laws.specs.Meaning.{Content, says, write}
 use Rattle.raft_log_model_laws.specs.Meaning.Slot.{Index, Key}
 use Rattle.raft_log_model_laws.specs.Meaning.Content.{Entry, Value}
 use Rattle.raft_log_model_laws.specs.Groups.{appended}
-use Rattle.raft_log_model_laws.proofs.Cases.{at_bool}
-use Rattle.raft_log_model_laws.proofs.Tests.{from_same_key}
-use Rattle.raft_log_model_laws.proofs.Words.{unwrap_or_option_or}
+use Rattle.raft_log_model_laws.proofs.Public.{at_bool, from_same_key, unwrap_or_option_or}
 use Rattle.raft_log_record_batches.specs.Batch.{max_entries_len}
 use Rattle.raft_log_purge.specs.Lengths.{AreShortRuns, IsShortRun, puts_of}
 use Rattle.raft_log_purge.specs.Laws.{KnownPairsGrow}

@@ -8,7 +8,7 @@ use Rattle.std.specs.Ordering.{is_eq, nat_cmp}
 use Rattle.std.specs.declared.cmp.Ordering.TheVariants.{Less}
 use Rattle.std.proofs.lemmas.Bool.{false≢true}
 use Rattle.std.proofs.lemmas.Map.Text.{is_eq-slice_cmp}
-use Rattle.raft_log_model_laws.proofs.Tests.{same_key}
+use Rattle.raft_log_model_laws.proofs.Public.{same_key}
 use Rattle.raft_log_engine_laws.specs.EngineState.{LogMap}
 use Rattle.raft_log_purge_copy.specs.Lengths.{AreValuesIn}
 use Rattle.raft_log_purge.specs.Lengths.{AreKnown}

@@ -1,3 +1,4 @@
+pub mod Public
 pub mod Coming
 pub mod Expiring
 pub mod Free

@@ -3,7 +3,7 @@ use Rattle.std.proofs.Common.{◌==◌, ◌+◌, ◌<◌, ◌^◌, ℕ, Bool, if
 use Rattle.std.proofs.lemmas.List.Sums.{sum_by-cons}
 use Rattle.raft_log_model_laws.specs.Item.Item.{Put}
 use Rattle.raft_log_model_laws.specs.Item.Record.{Plain}
-use Rattle.raft_log_model_laws.proofs.Cases.{at_bool}
+use Rattle.raft_log_model_laws.proofs.Public.{at_bool}
 use Rattle.raft_log_purge.specs.Lengths.{AreShortRuns, pairs_bound, puts_of}
 use Rattle.raft_log_purge.specs.Laws.{OneValueIsModest}
 use Rattle.raft_log_purge.proofs.Known.{known_logs_are_modest}

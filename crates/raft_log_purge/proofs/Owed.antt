@@ -6,8 +6,7 @@ use Rattle.std.proofs.lemmas.List.Sums.{sum_by-cons}
 use Rattle.raft_log_model_laws.specs.Item.{Item}
 use Rattle.raft_log_model_laws.specs.Item.Item.{Run, Clean, Compact, Put, Del}
 use Rattle.raft_log_model_laws.specs.Groups.{of_group}
-use Rattle.raft_log_model_laws.proofs.Cases.{at_bool, eq_true, from_eq_true}
-use Rattle.raft_log_model_laws.proofs.Tests.{same_key}
+use Rattle.raft_log_model_laws.proofs.Public.{at_bool, eq_true, from_eq_true, same_key}
 use Rattle.raft_log_machine_laws.specs.Whereabouts.{top}
 use Rattle.raft_log_record_items.specs.declared.entry.EntryIndex.{EntryIndex}
 use Rattle.raft_log_record_items.specs.declared.item.LogItem.{LogItem}

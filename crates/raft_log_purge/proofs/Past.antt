@@ -1,11 +1,11 @@
 -- All groups are rewritten, and the files behind which nothing lies go.
-use Rattle.std.proofs.Common.{◌≡◌, ◌⊎◌, ◌+◌, ◌^◌, ◌<◌, ◌≤◌, ℕ, max, Bool, true, false, List, [], Option, Some, None, is_some, inl, inr, refl, sym, subst, ◌∙◌, arith}
+use Rattle.std.proofs.Common.{◌≡◌, ◌⊎◌, ◌+◌, ◌<◌, ℕ, max, Bool, true, false, List, [], Option, Some, None, is_some, inl, inr, refl, sym, subst, ◌∙◌, arith}
 use Rattle.std.specs.Prelude.{Result, Ok, Err, IfErr, OnErr, OnOk}
 use Rattle.std.specs.BTreeMap.{get}
 use Rattle.std.specs.Ordering.{nat_cmp}
 use Rattle.std.proofs.lemmas.Bool.{false≢true}
-use Rattle.raft_log_model_laws.proofs.Cases.{at_bool}
-use Rattle.raft_log_machine_laws.proofs.TruthRaises.{no_word}
+use Rattle.raft_log_model_laws.proofs.Public.{at_bool}
+use Rattle.raft_log_machine_laws.proofs.Public.{no_word}
 use Rattle.raft_log_fs.specs.Causes.{IsLater}
 use Rattle.raft_log_record_base.specs.declared.errors.Error.{Error}
 use Rattle.raft_log_record_base.specs.declared.errors.Error.TheVariants as errors
@@ -13,7 +13,7 @@ use Rattle.raft_log_record_base.specs.declared.pipe_log.LogQueue.TheVariants.{Ap
 use Rattle.raft_log_machine_laws.specs.Calls.Which.{InAppend, InRewrite}
 use Rattle.raft_log_memtable_index.specs.Shown.{Shown}
 use Rattle.raft_log_memtable.specs.Files.{IsLeastInAppend}
-use Rattle.raft_log_memtable.proofs.Leasts.{front_is_least}
+use Rattle.raft_log_memtable.proofs.Public.{front_is_least}
 use Rattle.raft_log_memtables.specs.declared.group_table.GroupTable.{GroupTable}
 use Rattle.raft_log_memtables.specs.declared.mem_tables.MemTables.{MemTables}
 use Rattle.raft_log_memtables.specs.Tables.{has_table, shown_in, shown_of}
@@ -24,11 +24,9 @@ use Rattle.raft_log_dual_pipes.specs.Numbers.{EndsNumbersBelow}
 use Rattle.raft_log_purge_copy.specs.raft_log_block_cache.specs.declared.block_cache.BlockCache.{BlockCache}
 use Rattle.raft_log_purge_copy.specs.raft_log_engine_laws.specs.EngineState.{LogDirectories, LogMap, EngineState, sense, shows}
 use Rattle.raft_log_purge_copy.specs.raft_log_engine_laws.specs.Holding.{Represents, IsRecoverableAs}
-use Rattle.raft_log_purge_copy.specs.raft_log_engine_laws.proofs.Keeping.{holds_runs}
+use Rattle.raft_log_purge_copy.specs.raft_log_engine_laws.proofs.Public.{failed_sync, holds_runs, raise_refused, raised, settled_held, sync_settles_log}
 use Rattle.raft_log_purge_copy.specs.raft_log_engine_laws.specs.Settled.{HoldsSettled}
 use Rattle.raft_log_purge_copy.specs.raft_log_engine_laws.specs.Raising.{AppendMayBegin, PurgeLeavesHeld}
-use Rattle.raft_log_purge_copy.specs.raft_log_engine_laws.proofs.Settling.{failed_sync, settled_held, sync_settles_log}
-use Rattle.raft_log_purge_copy.specs.raft_log_engine_laws.proofs.Raising.{raise_refused, raised}
 use Rattle.raft_log_purge_policy.specs.Watermarks.{first_at}
 use Rattle.raft_log_dual_pipes.specs.LastFile.{last_of}
 use Rattle.raft_log_memtables.specs.Walking.{IsLeastOf}
@@ -36,13 +34,7 @@ use Rattle.raft_log_purge_copy.specs.Groups.{Rewrites, RewritesGroups, StopsAtGr
 use Rattle.raft_log_purge_copy.specs.Moving.{IsRewrittenTo}
 use Rattle.raft_log_purge_copy.specs.Rewriting.{OweNothing}
 use Rattle.raft_log_purge_copy.specs.Syncing.{CountsEach}
-use Rattle.raft_log_purge_copy.specs.Reasons.{HasFileReason}
-use Rattle.raft_log_purge_copy.proofs.Grouping.{among, part_same, part_wider, rewritten_is_past}
-use Rattle.raft_log_purge_copy.proofs.Leasts.{queue_may_begin}
-use Rattle.raft_log_purge_copy.proofs.PartExits.{alive_ok, later_on, same_later, tells_err}
-use Rattle.raft_log_purge_copy.proofs.Spanned.{within_span}
-use Rattle.raft_log_purge_copy.proofs.Reasons.{memory_is_none, memory_reason, purge_reason, reason_after, sync_reason, tells_nothing}
-use Rattle.raft_log_purge_copy.proofs.Staying.{stays_on, stays_same, sync_stays}
+use Rattle.raft_log_purge_copy.proofs.Public.{alive_ok, among, later_on, memory_is_none, memory_reason, part_same, part_wider, purge_reason, queue_may_begin, reason_after, rewritten_is_past, stays_on, sync_reason, sync_stays, tells_err, tells_nothing, within_span}
 use Rattle.raft_log_purge.proofs.OneFile.{purge_stays}
 use Rattle.raft_log_purge.specs.Append.{AreRewrittenTo, FailsToLoseTo, LosesTo, RewritesAll, RewritesSynced, RewritesThese, beginning}
 
@@ -150,18 +142,6 @@ module _ (test : ℕ → Bool) (gate : ℕ) (s copied : EngineState) (r : Rewrit
 
 -- Files go.
 
-nothing_lost : (gate : ℕ) (error : Error) (s : EngineState) → (error ≡ errors.Failed → ⊥) → (gate < last_of InAppend s.pipes → HasFileReason error s s) → FailsToLoseTo gate error s s
-nothing_lost gate error s other reason = record {
-  tells = λ lived. tells_nothing error s.pipes lived other;
-  later = same_later s.pipes.disk;
-  remains = λ past owes home m h. inl (settled_held home s m h);
-  cause = λ low home log h. reason low;
-}
-
--- for want of a number behind the gate
-pub none_behind : (gate : ℕ) (s : EngineState) → 2 ^ 64 ≤ gate + 1 → FailsToLoseTo gate errors.NumberRange s s
-none_behind gate s high = nothing_lost gate errors.NumberRange s (λ is. let never : ⊥ = cc in never) (λ low. (InAppend, omega (arith, high, low)))
-
 -- what lies behind both lies behind the greater
 behind_both : (v : Shown) (a b n : ℕ) → n ≡ max a b → IsLeastInAppend v a → IsLeastInAppend v b → IsLeastInAppend v n
 behind_both v a b n is low high = (
@@ -186,20 +166,6 @@ module _ (gate least seq : ℕ) (m : MemTables) (v : LogPipes) (old : BlockCache
       let front = λ (k : ℕ). front_is_least h.state.append.files.last h.state.rewrite.files.last (shown_of m k) (h.rises k) in
       let low = queue_may_begin Append (last_of InAppend v) least m is_least h.meant.orderly front owes g in
       (owes g, behind_both (shown_of m g) (gate + 1) least seq is (rewritten_is_past gate (shown_of m g) (past g) (front g)) low.1)
-
-  -- nothing is to go
-  pub none_to_lose : seq ≤ first_at InAppend v → LosesTo gate m before before
-  none_to_lose low = record {
-    least = least;
-    is = is_least;
-    same = refl;
-    counts = refl;
-    alive = λ lived. lived;
-    later = same_later v.disk;
-    stays = stays_same v;
-    begins = λ home log h. omega (arith, is, low);
-    keeps = λ past owes home log h. h;
-  }
 
   module _ (w : LogPipes) (new : BlockCache) (none : new.place ≡ None) (later : IsLater v.disk w.disk) where
     begins_there : first_at InAppend v < seq → PurgesQueue InAppend seq v w → (home : LogDirectories) (log : LogMap) → HoldsSettled home before log → first_at InAppend w ≡ beginning gate least v

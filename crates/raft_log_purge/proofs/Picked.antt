@@ -12,7 +12,7 @@ use Rattle.raft_log_record_frames.specs.Meaning.{tagged_items}
 use Rattle.raft_log_machine_laws.specs.Calls.Which.{InAppend, InRewrite}
 use Rattle.raft_log_machine_laws.specs.Whereabouts.{OwesNothing}
 use Rattle.raft_log_memtable_index.specs.Shown.{Shown, whereabouts}
-use Rattle.raft_log_memtable.proofs.Leasts.{front_is_least}
+use Rattle.raft_log_memtable.proofs.Public.{front_is_least}
 use Rattle.raft_log_memtables.specs.declared.mem_tables.MemTables.{MemTables}
 use Rattle.raft_log_memtables.specs.Owing.{AreOwed, AreOwedAt}
 use Rattle.raft_log_memtables.specs.Tables.{shown_of}
@@ -25,9 +25,7 @@ use Rattle.raft_log_purge_copy.specs.raft_log_engine_laws.specs.EngineState.{Log
 use Rattle.raft_log_purge_copy.specs.raft_log_engine_laws.specs.Holding.{Represents}
 use Rattle.raft_log_purge_copy.specs.raft_log_engine_laws.specs.Settled.{HoldsSettled}
 use Rattle.raft_log_purge_copy.specs.raft_log_engine_laws.specs.Raising.{AppendMayBegin}
-use Rattle.raft_log_purge_copy.specs.raft_log_engine_laws.proofs.Keeping.{holds_runs}
-use Rattle.raft_log_purge_copy.specs.raft_log_engine_laws.proofs.Settling.{failed_sync, settled_held, sync_settles_log}
-use Rattle.raft_log_purge_copy.specs.raft_log_engine_laws.proofs.Raising.{raise_refused, raised}
+use Rattle.raft_log_purge_copy.specs.raft_log_engine_laws.proofs.Public.{failed_sync, holds_runs, raise_refused, raised, settled_held, sync_settles_log}
 use Rattle.raft_log_purge_policy.specs.Watermarks.{first_at}
 use Rattle.raft_log_dual_pipes.specs.LastFile.{last_of}
 use Rattle.raft_log_purge_copy.specs.Groups.{StopsRewriting}
@@ -36,11 +34,7 @@ use Rattle.raft_log_purge_copy.specs.Moving.{IsRewrittenTo}
 use Rattle.raft_log_purge_copy.specs.Parts.{PartIsRefused}
 use Rattle.raft_log_purge_copy.specs.Lengths.{OwesTooMuch}
 use Rattle.raft_log_purge_copy.specs.Rewriting.{OweNothing}
-use Rattle.raft_log_purge_copy.proofs.Grouping.{among, part_wider}
-use Rattle.raft_log_purge_copy.proofs.Leasts.{queue_may_begin}
-use Rattle.raft_log_purge_copy.proofs.PartExits.{alive_ok, later_on, none_owed as none_unmarked, same_later, tells_err}
-use Rattle.raft_log_purge_copy.proofs.Spanned.{within_span}
-use Rattle.raft_log_purge_copy.proofs.Reasons.{memory_is_none, memory_reason, purge_reason, purge_reason_after, reason_after, reason_of_files, sync_reason, tells_nothing}
+use Rattle.raft_log_purge_copy.proofs.Public.{alive_ok, among, later_on, memory_is_none, memory_reason, none_owed as none_unmarked, part_wider, purge_reason, purge_reason_after, queue_may_begin, reason_after, reason_of_files, same_later, sync_reason, tells_err, tells_nothing, within_span}
 use Rattle.raft_log_purge.specs.Append.{RewritesSynced, up_to}
 use Rattle.raft_log_purge.specs.Expired.{DeletesFirst, FailsToLoseBelow, FailsToPurgeAppend, LosesBelow, RewritesPicked}
 use Rattle.raft_log_purge.proofs.Past.{left_or_held}

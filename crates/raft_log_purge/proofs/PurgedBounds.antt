@@ -4,7 +4,7 @@ use Rattle.raft_log_record_base.specs.declared.errors.Error.{Error}
 use Rattle.raft_log_record_base.specs.declared.errors.Error.TheVariants as errors
 use Rattle.raft_log_record_items.specs.declared.item.LogItem.{LogItem}
 use Rattle.raft_log_record_batches.specs.Bounds.{record_bound}
-use Rattle.raft_log_record_batches.proofs.Lengths.{no_record_is_longer}
+use Rattle.raft_log_record_batches.proofs.Public.{no_record_is_longer}
 use Rattle.raft_log_engine_laws.specs.EngineState.{LogDirectories, LogMap, EngineState}
 use Rattle.raft_log_purge_copy.specs.Reasons.{HasPurgeReason}
 use Rattle.raft_log_purge.specs.Lengths.{AreModest}

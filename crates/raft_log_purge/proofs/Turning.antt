@@ -4,8 +4,8 @@ use Rattle.std.specs.Prelude.{Result, Ok, Err, IfErr, OnErr, OnOk}
 use Rattle.std.specs.BTreeMap.{get}
 use Rattle.std.specs.Ordering.{nat_cmp}
 use Rattle.std.proofs.lemmas.Bool.{false≢true}
-use Rattle.raft_log_model_laws.proofs.Cases.{at_bool}
-use Rattle.raft_log_machine_laws.proofs.TruthRaises.{no_word}
+use Rattle.raft_log_model_laws.proofs.Public.{at_bool}
+use Rattle.raft_log_machine_laws.proofs.Public.{no_word}
 use Rattle.raft_log_fs.specs.Causes.{IsLater}
 use Rattle.raft_log_file_writer.specs.LogQueue.{LogFiles}
 use Rattle.raft_log_record_base.specs.declared.errors.Error.{Error}
@@ -16,7 +16,7 @@ use Rattle.raft_log_purge_copy.specs.raft_log_active_file.specs.declared.record.
 use Rattle.raft_log_memtable_index.specs.declared.group_files.GroupFiles.{GroupFiles}
 use Rattle.raft_log_memtable_index.specs.Shown.{IsOrderly, Shown}
 use Rattle.raft_log_memtable.specs.Files.{ArePast}
-use Rattle.raft_log_memtable.proofs.Leasts.{begins_past}
+use Rattle.raft_log_memtable.proofs.Public.{begins_past}
 use Rattle.raft_log_memtables.specs.declared.group_table.GroupTable.{GroupTable}
 use Rattle.raft_log_memtables.specs.declared.mem_tables.MemTables.{MemTables}
 use Rattle.raft_log_memtables.specs.Tables.{has_table, shown_in, shown_of}
@@ -28,23 +28,16 @@ use Rattle.raft_log_dual_pipes.specs.Numbers.{EndsNumbers}
 use Rattle.raft_log_purge_copy.specs.raft_log_block_cache.specs.declared.block_cache.BlockCache.{BlockCache}
 use Rattle.raft_log_purge_copy.specs.raft_log_engine_laws.specs.EngineState.{LogDirectories, LogMap, EngineState, sense, shows}
 use Rattle.raft_log_purge_copy.specs.raft_log_engine_laws.specs.Holding.{Represents}
-use Rattle.raft_log_purge_copy.specs.raft_log_engine_laws.proofs.Keeping.{holds_runs}
+use Rattle.raft_log_purge_copy.specs.raft_log_engine_laws.proofs.Public.{failed_sync, holds_runs, rewrite_rotates, settled_held, sync_settles_log, turn_refused}
 use Rattle.raft_log_purge_copy.specs.raft_log_engine_laws.specs.Settled.{HoldsSettled}
 use Rattle.raft_log_purge_copy.specs.raft_log_engine_laws.specs.Quiet.{TurnLeavesHeld}
-use Rattle.raft_log_purge_copy.specs.raft_log_engine_laws.proofs.Settling.{failed_sync, rewrite_rotates, settled_held, sync_settles_log, turn_refused}
 use Rattle.raft_log_memtables.specs.Walking.{IsLeastOf}
 use Rattle.raft_log_purge_copy.specs.Syncing.{CountsEach}
 use Rattle.raft_log_purge_copy.specs.Files.{FailsToLoseFiles, LosesFiles, RemainsSettled}
 use Rattle.raft_log_purge_copy.specs.Stale.{written_file}
-use Rattle.raft_log_purge_copy.proofs.Grouping.{among}
-use Rattle.raft_log_purge_copy.proofs.PartExits.{alive_ok, later_on, same_later, tells_err}
-use Rattle.raft_log_purge_copy.proofs.Spanned.{limited_reason}
-use Rattle.raft_log_purge_copy.proofs.Reasons.{memory_is_none, memory_reason, reason_after, reason_of_files, sync_reason, tells_nothing, turn_reason}
+use Rattle.raft_log_purge_copy.proofs.Public.{alive_ok, among, from_lower, last_is, last_told, later_on, least_from, limited_reason, memory_is_none, memory_reason, reason_after, reason_of_files, same_later, sync_reason, synced_last, tells_err, tells_nothing, turn_reason, IsLeft}
 use Rattle.raft_log_purge_copy.specs.Restated.{IsRestatedFrom, Restates, RestatesEach, StopsRestating, last_file}
 use Rattle.raft_log_purge.specs.RewriteQueue.{FailsToRewriteRewrite, RestatesAll, RewritesRewrite, every, first_file}
-use Rattle.raft_log_purge_copy.proofs.Each.{from_lower}
-use Rattle.raft_log_purge_copy.proofs.Holding.{IsLeft, last_is, last_told, synced_last}
-use Rattle.raft_log_purge_copy.proofs.GroupMoving.{least_from}
 
 -- All groups.
 
@@ -127,16 +120,16 @@ turned_or_left home m t errors.NumberRange h = inl h
 turned_or_left home m t errors.Failed h = inr (refl, h)
 turned_or_left home m t _ h = absurd h
 
-lost_or_left : (home : LogDirectories) (m : LogMap) (t : EngineState) (error : Error) → RemainsSettled home m t error → IsLeft home m error t
+pub lost_or_left : (home : LogDirectories) (m : LogMap) (t : EngineState) (error : Error) → RemainsSettled home m t error → IsLeft home m error t
 lost_or_left home m t errors.Failed h = inr (refl, h)
 lost_or_left home m t _ h = inl (settled_held home t m h)
 
 -- Rewrite didn't go on
-pub not_turned : (error : Error) (s : EngineState) (w : LogPipes) → TellsFailure {A = Unit {0}} (Err error) w → IsLater s.pipes.disk w.disk → FailsToRotateQueue InRewrite error s.pipes w → EndsNumbers InRewrite error s.pipes
+pub not_turned : {A : Type 0} (error : Error) (s : EngineState) (w : LogPipes) → TellsFailure {A = A} (Err error) w → IsLater s.pipes.disk w.disk → FailsToRotateQueue InRewrite error s.pipes w → EndsNumbers InRewrite error s.pipes
     → FailsToRewriteRewrite error s (record s { pipes = w })
-not_turned error s w tells later call ends = record {
+not_turned {A} error s w tells later call ends = record {
   counts = refl;
-  tells = λ lived. tells_err {A = Unit {0}} error w tells;
+  tells = λ lived. tells_err {A = A} error w tells;
   later = later;
   remains = λ home m h. turned_or_left home m (record s { pipes = w }) error (turn_refused InRewrite home s (record s { pipes = w }) m [] error h (record { tables = refl; cache = inl refl }) call);
   cause = λ home m h. reason_of_files home m error s (record s { pipes = w }) (turn_reason InRewrite home error s (record s { pipes = w }) h.state h.runs call ends);
@@ -146,11 +139,11 @@ module _ (s : EngineState) (turned : LogPipes) (turns : RotatesQueue InRewrite s
   abbrev behind : EngineState
   behind = record s { pipes = turned }
 
-  held_behind : (home : LogDirectories) (m : LogMap) → Represents home s m [] → Represents home behind m []
-  held_behind home m h = settled_held home behind m (rewrite_rotates home s behind m h (record { tables = refl; cache = inl refl }) turns)
+  pub held_turned : (home : LogDirectories) (m : LogMap) → Represents home s m [] → Represents home behind m []
+  held_turned home m h = settled_held home behind m (rewrite_rotates home s behind m h (record { tables = refl; cache = inl refl }) turns)
 
   -- the next file is behind the former last one
-  next_file : (home : LogDirectories) (m : LogMap) → Represents home s m [] → last_file s + 1 ≤ last_file behind
+  pub next_file : (home : LogDirectories) (m : LogMap) → Represents home s m [] → last_file s + 1 ≤ last_file behind
   next_file home m h =
       let q = h.state in
       let (files, goes, runs, step) = turns (sense home) q h.runs in
@@ -164,8 +157,8 @@ module _ (s : EngineState) (turned : LogPipes) (turns : RotatesQueue InRewrite s
     counts = stops.counts;
     tells = λ lived. stops.tells lives;
     later = later_on s.pipes.disk turned.disk t.pipes.disk later stops.later;
-    remains = λ home m h. stops.remains home m (held_behind home m h);
-    cause = λ home m h. reason_after home m error s behind t later (stops.cause home m (held_behind home m h));
+    remains = λ home m h. stops.remains home m (held_turned home m h);
+    cause = λ home m h. reason_after home m error s behind t later (stops.cause home m (held_turned home m h));
   }
 
   module _ (restated : EngineState) (all : RestatesAll behind restated) where
@@ -173,7 +166,7 @@ module _ (s : EngineState) (turned : LogPipes) (turns : RotatesQueue InRewrite s
     to_restated = later_on s.pipes.disk turned.disk restated.pipes.disk later all.later
 
     settled_there : (home : LogDirectories) (m : LogMap) → Represents home s m [] → HoldsSettled home restated m
-    settled_there home m h = all.settles home m (held_behind home m h)
+    settled_there home m h = all.settles home m (held_turned home m h)
 
     same_counts : restated.counts ≡ s.counts
     same_counts = ap (λ (e : EngineState). e.counts) all.same ∙ all.restates.counts
@@ -192,15 +185,15 @@ module _ (s : EngineState) (turned : LogPipes) (turns : RotatesQueue InRewrite s
     lies_behind : (home : LogDirectories) (m : LogMap) → Represents home s m [] → (g : ℕ) → IsRestatedFrom (last_file s + 1) (s.tables g) (restated.tables g)
     lies_behind home m h g =
         subst (λ (e : EngineState). IsRestatedFrom (last_file s + 1) (s.tables g) (e.tables g)) (sym all.same)
-        (from_lower (last_file s + 1) (last_file behind) (s.tables g) (all.restated.tables g) (next_file home m h) (all.restates.from home m (held_behind home m h) g refl))
+        (from_lower (last_file s + 1) (last_file behind) (s.tables g) (all.restated.tables g) (next_file home m h) (all.restates.from home m (held_turned home m h) g refl))
 
     -- and so does the least file that is in use
     least_past : (m : MemTables) (least : ℕ) → shown_of m ≡ restated.tables → IsLeastOf Rewrite (written_file Rewrite restated.pipes) m least → (home : LogDirectories) (log : LogMap) → Represents home s log [] → last_file s < least
     least_past m least tabled is home log h = elim is.exact [
       | inl limit ↦ (
           let one = next_file home log h in
-          let two = all.restates.rises home log (held_behind home log h) in
-          let three = synced_last home all.restated log restated.pipes (all.restates.holds home log (held_behind home log h)) all.syncs in
+          let two = all.restates.rises home log (held_turned home log h) in
+          let three = synced_last home all.restated log restated.pipes (all.restates.holds home log (held_turned home log h)) all.syncs in
           omega (arith, limit, one, two, three)
           )
       | inr found ↦ (

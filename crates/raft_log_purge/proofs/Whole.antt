@@ -13,23 +13,17 @@ use Rattle.raft_log_dual_pipes.specs.Calls.{FailsToRotateQueue, FailsToSyncQueue
 use Rattle.raft_log_dual_pipes.specs.Numbers.{EndsNumbers}
 use Rattle.raft_log_purge_copy.specs.raft_log_engine_laws.specs.EngineState.{LogDirectories, LogMap, EngineState, has_failed}
 use Rattle.raft_log_purge_copy.specs.raft_log_engine_laws.specs.Holding.{Represents, IsRecoverableAs}
-use Rattle.raft_log_purge_copy.specs.raft_log_engine_laws.proofs.Keeping.{holds_runs}
-use Rattle.raft_log_purge_copy.specs.raft_log_engine_laws.proofs.Calling.{synced_all}
-use Rattle.raft_log_purge_copy.specs.raft_log_engine_laws.proofs.Refusing.{unsynced_left}
+use Rattle.raft_log_purge_copy.specs.raft_log_engine_laws.proofs.Public.{append_rotates, holds_runs, settled_held, synced_all, turn_refused, unsynced_left}
 use Rattle.raft_log_purge_copy.specs.raft_log_engine_laws.specs.Settled.{HoldsSettled}
 use Rattle.raft_log_purge_copy.specs.raft_log_engine_laws.specs.Quiet.{TurnLeavesHeld}
-use Rattle.raft_log_purge_copy.specs.raft_log_engine_laws.proofs.Settling.{append_rotates, settled_held, turn_refused}
 use Rattle.raft_log_dual_pipes.specs.LastFile.{last_of}
 use Rattle.raft_log_purge_copy.specs.Groups.{StopsRewriting}
 use Rattle.raft_log_purge_copy.specs.Marks.{CarriesMarks}
 use Rattle.raft_log_purge_copy.specs.Moving.{IsRewrittenTo}
 use Rattle.raft_log_purge_copy.specs.Parts.{PartIsRefused, Remains}
 use Rattle.raft_log_purge_copy.specs.Rewriting.{OweNothing}
-use Rattle.raft_log_purge_copy.proofs.Grouping.{owe_then}
-use Rattle.raft_log_purge_copy.proofs.PartExits.{alive_ok, later_on, same_later, tells_err}
-use Rattle.raft_log_purge_copy.proofs.Reasons.{purge_reason_after, reason_after, reason_of_files, sync_reason, turn_reason}
+use Rattle.raft_log_purge_copy.proofs.Public.{alive_ok, later_on, owe_then, purge_reason_after, reason_after, reason_of_files, same_later, stays_on, sync_reason, tells_err, turn_reason}
 use Rattle.raft_log_purge.specs.Append.{AreRewrittenTo, FailsToLoseTo, FailsToRewriteAppend, GoesOnBehindMarks, HasOneFile, LosesTo, PassesGate, RewritesAll, RewritesAndLoses, RewritesAppend, RewritesSynced, StopsGoingOn, ends_after, gate_of, up_to}
-use Rattle.raft_log_purge_copy.proofs.Staying.{stays_on}
 use Rattle.raft_log_purge.proofs.Past.{every}
 use Rattle.raft_log_purge.proofs.OneFile.{begins_low, one_is_left, turned}
 

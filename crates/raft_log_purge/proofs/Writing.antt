@@ -4,7 +4,7 @@ use Rattle.raft_log_record_base.specs.declared.errors.Error.{Error}
 use Rattle.raft_log_record_base.specs.declared.errors.Error.TheVariants as errors
 use Rattle.raft_log_record_batches.specs.Batch.{Batch}
 use Rattle.raft_log_record_batches.specs.Bounds.{batch_bound}
-use Rattle.raft_log_record_batches.proofs.Lengths.{no_record_is_longer}
+use Rattle.raft_log_record_batches.proofs.Public.{no_record_is_longer}
 use Rattle.raft_log_engine_laws.specs.EngineState.{EngineState}
 use Rattle.raft_log_engine_laws.specs.Writing.{NotWritten}
 use Rattle.raft_log_purge.specs.Lengths.{HasLog}

@@ -1,6 +1,6 @@
--- A rewrite of Append: all that groups have in its files up to the gate, the last file to be rewritten, is copied to
--- Rewrite. Then these files leave Append's live range. `s` and `t` are the engine's states before and after a step, `m`
--- the memtables.
+-- A rewrite of Append. The gate is the last file of Append to be rewritten: all that groups have in Append's files up
+-- to the gate is copied to Rewrite. Then these files leave Append's live range. `s` and `t` are the engine's states
+-- before and after a step, `m` the memtables.
 use Rattle.std.specs.Prelude.{◌≡◌, ◌⊎◌, ◌↔◌, ◌<◌, ◌==◌, IsTrue, ℕ, suc, min, max, Bool, true, false, List, [], Option, Some, None, MatchBool}
 use Rattle.std.specs.List.{list_any}
 use Rattle.raft_log_model_laws.specs.Groups.{taken}
@@ -117,15 +117,14 @@ ends_after step (Some n) = n == step
 abbrev pub RewritesAndLoses : ℕ → MemTables → EngineState → EngineState → Type 0
 RewritesAndLoses gate m s t = (mid : EngineState) × RewritesAll gate s mid × LosesTo gate m mid t
 
--- What is done after the owed tombstones were written:
--- - nothing, if the rewrite is to end after step 1, which is the writing of the tombstones
--- - else all groups are rewritten, which is step 2
--- - then files leave Append's live range, unless the rewrite is to end after step 2
+-- What is done after step 1, which writes the owed tombstones:
+-- - Step 2 rewrites all groups, unless the rewrite is to end after step 1.
+-- - Step 3 takes files out of Append's live range, unless the rewrite is to end after step 1 or 2.
 abbrev pub GoesOnBehindMarks : Option ℕ → ℕ → MemTables → EngineState → EngineState → Type 0
 GoesOnBehindMarks exit gate m s t = MatchBool (ends_after 1 exit) (t ≡ s)
     (MatchBool (ends_after 2 exit) (RewritesAll gate s t) (RewritesAndLoses gate m s t))
 
--- Append was rewritten. It was synced, rotated if its active file was the gate, and the owed tombstones were written.
+-- Append was rewritten. It was synced, and rotated if its active file was the gate. The owed tombstones were written.
 -- Then all groups were rewritten and files left the live range, unless `exit` requested an earlier end. The log has the
 -- same contents, nothing is pending, and no tombstone is owed. If neither a watermark nor an earlier end was requested,
 -- Append has one file left.

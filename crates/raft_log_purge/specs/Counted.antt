@@ -33,7 +33,7 @@ pub record CountsIfPast (thresholds : Thresholds) (before : MemTables) (old new 
   pub first : CountsIf past before old counted
   pub kept : KeepsCounts thresholds before counted new s t
 
--- Rewrite was rewritten. Before that, the counts were updated with what was live there; after it, they were reset
+-- Rewrite was compacted. Before that, the counts were updated with what was live there; after it, they were reset
 -- (`reset_counts`).
 pub record CountsAndResets (before : MemTables) (old new : PurgeCounts) : Type 0 where
   pub counted : PurgeCounts
@@ -41,8 +41,8 @@ pub record CountsAndResets (before : MemTables) (old new : PurgeCounts) : Type 0
   pub stats : new.stats ≡ reset_counts counted.stats
   pub rounds : new.rounds ≡ old.rounds
 
--- The counts after a rewrite of Rewrite failed. They were updated before the rewrite. Which counts are left after that
--- depends on the step that failed (`StopsAtRewrite`).
+-- The counts after a compaction of Rewrite failed. They were updated before the compaction. Which counts are left after
+-- that depends on the step that failed (`StopsAtRewrite`).
 pub record CountsAndKeeps (before : MemTables) (old new : PurgeCounts) (s t : EngineState) : Type 0 where
   pub counted : PurgeCounts
   pub first : CountsStanding before old counted

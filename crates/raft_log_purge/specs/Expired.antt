@@ -1,5 +1,5 @@
--- A purge of Append, if its files are together larger than the threshold. `s` and `t` are the engine's states before
--- and after a step.
+-- A purge of Append, if its files are together larger than the threshold. To rewrite a group means to copy to Rewrite
+-- what the group has in Append's files up to the gate. `s` and `t` are the engine's states before and after a step.
 use Rattle.std.specs.Prelude.{◌≡◌, ◌⊎◌, ◌↔◌, IsTrue, ℕ, max, Bool, true, false, List, [], Option, Some, None}
 use Rattle.raft_log_fs.specs.Causes.{IsLater}
 use Rattle.raft_log_record_base.specs.declared.errors.Error.{Error}
@@ -31,16 +31,18 @@ use Rattle.raft_log_purge.specs.Append.{RewritesSynced, StaysOrIsLeftSettled, up
 
 -- The groups.
 
--- for each group, the count of purges in a row that asked for it was updated for one more purge (`round_behind`)
+-- for each group, the count of purges in a row that asked the caller to compact it was updated for one more purge
+-- (`round_behind`)
 abbrev pub CountsRound : Watermarks → MemTables → Rounds → Rounds → Type 0
 CountsRound marks m old new =
     (g : ℕ) → count_of new g ≡ round_behind (asks_at marks m g) (count_of old g)
 
--- What a purge of Append picks, by the tables `m` and the watermarks `marks`. `old` has for each group the count of
--- purges in a row that asked for it. `restated` says whether this purge has compacted Rewrite.
+-- What a purge of Append picks, by the tables `m`. The watermarks `marks` are two files of Append, with which the purge
+-- compares the files of each group. `old` has for each group how many purges in a row asked the caller to compact it.
+-- `restated` says whether this purge has compacted Rewrite.
 -- - `answered`: the groups that the purge returns to its caller.
 -- - `rewritten`: the groups that the purge rewrites itself.
--- - `rounds`, `owed`: the counts with this purge, and all tombstones that are owed.
+-- - `rounds`: the counts after this purge; `owed`: all tombstones that are owed.
 pub record PicksGroups (marks : Watermarks) (restated : Bool) (m : MemTables) (old : Rounds)
     (picked : PickedGroups) : Type 0 where
   pub answered : ListsGroups (answers_at (Some marks) restated m) picked.answered.items
@@ -105,7 +107,8 @@ pub record RewritesPicked (test : ℕ → Bool) (gate : ℕ) (held : Option ℕ)
 
 -- The whole.
 
--- Append was purged, and `groups` are returned. Each group's count of purges in a row that asked for it was updated.
+-- Append was purged, and `groups` are returned. For each group, the count of purges in a row that asked the caller to
+-- compact it was updated.
 -- - `deletes`: If no tombstone was owed, files left the live range before anything was written.
 -- - `rewrites`: Then the groups that the rules pick were rewritten, and after that files left the live range.
 -- The rules use the tables `before` and the files before the purge.
@@ -120,8 +123,8 @@ pub record PurgesAppend (held : Option ℕ) (restated : Bool) (before after : Me
   pub rewrites : RewritesPicked (rewrites_at (watermarks_of s.pipes) (count_of old) before)
       (watermarks_of s.pipes).rewrite held after freed t
 
--- Nothing was done to Append, and the counts are unchanged. `groups` are those that have more than 32 entries in
--- Rewrite, if Rewrite was rewritten (`restated`); else there are none.
+-- Nothing was done to Append, and the counts are unchanged. If Rewrite was compacted (`restated`), `groups` are those
+-- that have more than 32 entries there; else there are none.
 pub record LeavesAppend (restated : Bool) (before : MemTables) (old new : Rounds) (groups : List ℕ)
     (s t : EngineState) : Type 0 where
   pub answered : ListsGroups (answers_at None restated before) groups
@@ -135,8 +138,9 @@ PurgesIfPast thresholds held restated before after old new groups s t =
     (TakesAppend thresholds s.pipes × PurgesAppend held restated before after old new groups s t)
     ⊎ ((TakesAppend thresholds s.pipes → ⊥) × LeavesAppend restated before old new groups s t)
 
--- A purge of Append failed with `error`. If no batch was pending, `HasPurgeReason` gives the reason. Then the log has
--- the same contents, or the engine has failed and its files can be opened with them.
+-- A purge of Append failed with `error`. If no batch was pending:
+-- - `HasPurgeReason` gives the reason.
+-- - The log has the same contents, or the engine has failed and its files can be opened with them.
 pub record FailsToPurgeAppend (error : Error) (s t : EngineState) : Type 0 where
   pub tells : has_failed s ≡ false → IsTrue (has_failed t) ↔ (error ≡ errors.Failed)
   pub later : IsLater s.pipes.disk t.pipes.disk

@@ -21,8 +21,8 @@ use Rattle.raft_log_purge.specs.Append.{FailsToRewriteAppend}
 use Rattle.raft_log_purge.specs.Expired.{PurgesIfPast}
 use Rattle.raft_log_purge.specs.Garbage.{CountsRefused}
 
--- Rewrite was rewritten exactly if it was past its threshold and enough of it was garbage; the flag says whether it
--- was. The counts were `old` and are `new` now. The tables were `before` and are `after` now.
+-- Rewrite was compacted exactly if it was past its threshold and enough of it was garbage; the flag says whether it was
+-- compacted. The counts were `old` and are `new` now. The tables were `before` and are `after` now.
 abbrev pub RewritesIfPast : Thresholds → GlobalStats → GlobalStats → MemTables → MemTables → Bool → EngineState
     → EngineState → Type 0
 RewritesIfPast thresholds old new before after true s t =
@@ -30,7 +30,7 @@ RewritesIfPast thresholds old new before after true s t =
 RewritesIfPast thresholds old new before after false s t =
     (TakesRewrite thresholds old s.pipes → ⊥) × (after ≡ before) × (t ≡ s) × (new ≡ old)
 
--- Append was synced, and then Rewrite was rewritten, whatever its size. The log has the same contents, and nothing is
+-- Append was synced, and then Rewrite was compacted, whatever its size. The log has the same contents, and nothing is
 -- pending in either queue.
 pub record SyncsAndRewrites (m : MemTables) (s t : EngineState) : Type 0 where
   pub synced : LogPipes
@@ -41,7 +41,7 @@ pub record SyncsAndRewrites (m : MemTables) (s t : EngineState) : Type 0 where
   pub settles : (home : LogDirectories) (log : LogMap) (pending : List LogRecordValue) → Represents home s log pending
       → HoldsSettled home t (taken log pending)
 
--- Expired files were purged, and `groups` are returned. Append was synced, Rewrite was rewritten if that was due, and
+-- Expired files were purged, and `groups` are returned. Append was synced, Rewrite was compacted if that was due, and
 -- then Append was purged if that was due. Append keeps all files from the first pinned one (`held`) on. The log has the
 -- same contents, and no batch is pending.
 pub record PurgesExpired (hold_back : LogPipes → Option ℕ → Type 0) (thresholds : Thresholds)
@@ -63,8 +63,8 @@ pub record PurgesExpired (hold_back : LogPipes → Option ℕ → Type 0) (thres
   pub holds : (home : LogDirectories) (log : LogMap) (pending : List LogRecordValue) → Represents home s log pending
       → Represents home t (taken log pending) []
 
--- A purge of expired files, or a rewrite of Rewrite, failed, and `HasPurgeReason` gives the reason. Afterwards one of
--- two is true:
+-- A purge of expired files, or a compaction of Rewrite, failed, and `HasPurgeReason` gives the reason. Afterwards one
+-- of two is true:
 -- - The log has the same contents, and no batch is pending any more.
 -- - The engine has failed, and its files can be opened with these contents. The batches that were pending are durable
 --   or still pending.
@@ -75,14 +75,14 @@ FailsToPurgeExpired error s t = FailsToRewriteAppend error s t
 
 -- The counts of Rewrite, `old` before and `new` after a failure. `before` are the tables before it. One of two is true:
 -- - Tables and counts are unchanged, as after a failed sync of Append.
--- - Append was synced, and the rewrite of Rewrite failed (`CountsRefused`).
+-- - Append was synced, and the compaction of Rewrite failed (`CountsRefused`).
 abbrev pub StopsAtRewrite : MemTables → GlobalStats → GlobalStats → EngineState → EngineState → Type 0
 StopsAtRewrite before old new s t = ((t.tables ≡ s.tables) × (new ≡ old))
     ⊎ ((synced : LogPipes) × SyncsQueue InAppend s.pipes synced
     × CountsRefused before old new (record s { pipes = synced }) t)
 
--- The purge of Append failed, after Append was synced and Rewrite was rewritten if that was due. The counts of Rewrite
--- are those after the rewrite (`RewritesIfPast`).
+-- The purge of Append failed, after Append was synced and Rewrite was compacted if that was due. The counts of Rewrite
+-- are those after the compaction (`RewritesIfPast`).
 pub record StopsAtAppend (thresholds : Thresholds) (before : MemTables) (old new : GlobalStats) (s : EngineState)
     : Type 0 where
   pub synced : LogPipes
@@ -94,8 +94,8 @@ pub record StopsAtAppend (thresholds : Thresholds) (before : MemTables) (old new
   pub rewrites : RewritesIfPast thresholds old new before between restated
       (record s { pipes = synced }) (shows pipes between cache)
 
--- The counts after a purge failed. The counts of purges in a row that asked for a group are unchanged. The counts of
--- Rewrite depend on the step that failed.
+-- The counts after a purge failed. The counts of purges in a row that asked the caller to compact a group are
+-- unchanged. The counts of Rewrite depend on the step that failed.
 pub record KeepsCounts (thresholds : Thresholds) (before : MemTables) (old new : PurgeCounts) (s t : EngineState)
     : Type 0 where
   pub rounds : new.rounds ≡ old.rounds

@@ -1,5 +1,5 @@
--- The counts of Rewrite after a rewrite of it failed. What was restated (copied) before the failure has an old copy,
--- which is garbage.
+-- The counts of Rewrite after a compaction of Rewrite failed. What was restated (copied) before the failure has an old
+-- copy, which is garbage.
 use Rattle.std.specs.Prelude.{◌≡◌, ◌⊎◌, ◌<◌, ◌≤◌, ℕ, List, [], ◌∷◌, Option, Some, None}
 use Rattle.raft_log_record_base.specs.declared.pipe_log.LogQueue.TheVariants.{Rewrite}
 use Rattle.raft_log_machine_laws.specs.Calls.Which.{InRewrite}
@@ -40,8 +40,8 @@ pub record CountsGarbage (file : ℕ) (v : ℕ → Shown) (groups : List ℕ) (o
   pub past : CountsPast file v groups count
   pub stats : new ≡ deleted Rewrite count (added Rewrite count old)
 
--- A rewrite of Rewrite got as far as its sync: Rewrite rotated, all groups were restated, and Rewrite was synced. The
--- tables are those after these steps. The counts were reset (`reset_counts`).
+-- A compaction of Rewrite got as far as its sync: Rewrite rotated, all groups were restated, and Rewrite was synced.
+-- The tables are those after these steps. The counts were reset (`reset_counts`).
 pub record ResetsCounts (old new : GlobalStats) (s t : EngineState) : Type 0 where
   pub turned : LogPipes
   pub turns : RotatesQueue InRewrite s.pipes turned
@@ -50,7 +50,7 @@ pub record ResetsCounts (old new : GlobalStats) (s t : EngineState) : Type 0 whe
   pub tables : t.tables ≡ restated.tables
   pub stats : new ≡ reset_counts old
 
--- The counts after a rewrite of Rewrite failed; `before` are the tables before it. One of three is true:
+-- The counts after a compaction of Rewrite failed; `before` are the tables before it. One of three is true:
 -- - The counts are unchanged, and so are the tables.
 -- - The number of restated entries and values was added to what was written, and to the garbage. What a group has
 --   counts as restated if all of it is after the file that was active at the start (`CountsPast`).

@@ -30,14 +30,14 @@ BoundedBatchesAreNotFull = (b : Batch) (error : Error) (s t : EngineState) → H
 abbrev pub ModestLogsMakeRecords : Type 0
 ModestLogsMakeRecords = (m : LogMap) → AreModest m → HasLongGroup m → ⊥
 
--- The groups of a log's contents are modest in size, if all their keys and values are known (`AreKnown`). The known
--- ones of each group must take less than 2 ^ 54 bytes together, by the bound `pairs_bound`.
+-- The groups of a log's contents are modest in size, if all their keys and values are known (`AreKnown`). Those known
+-- of each group must take less than 2 ^ 54 bytes together, by the bound `pairs_bound`.
 abbrev pub KnownLogsAreModest : Type 0
 KnownLogsAreModest = (m : LogMap) (known : ℕ → List (List ℕ × List ℕ)) → AreKnown m known
     → ((g : ℕ) → pairs_bound (known g) < 2 ^ 54) → AreModest m
 
--- For an empty log, no keys need be known. A batch whose runs of entries are short adds the keys and values that it
--- puts.
+-- How the known keys and values (`AreKnown`) follow the log. For an empty log, none need be known. After a batch whose
+-- runs of entries are short, the keys and values that it puts are known too.
 pub record KnownPairsGrow : Type 0 where
   pub none : AreKnown (λ g s. None) (λ g. [])
   pub more : (m : LogMap) (known : ℕ → List (List ℕ × List ℕ)) (said : LogRecordValue) → AreKnown m known
@@ -55,8 +55,8 @@ MarksTakeNoMore = (items : List LogItem) (v : ℕ → Shown) (b : Batch) → Cam
     → batch_bound b ≤ record_bound items []
 
 -- From which items the owed tombstones came:
--- - If no tombstone is owed, there are no such items.
--- - A batch that is written adds its items.
+-- - If no tombstone is owed, no items are needed.
+-- - A batch that is written adds its items to those needed.
 -- - A batch that isn't written adds none, unless the engine fails.
 -- - A call that makes no further tombstone owed, such as a purge, adds none.
 pub record MarksComeOfBatches : Type 0 where

@@ -33,7 +33,7 @@ pub record AreModest (m : LogMap) : Type 0 where
 
 -- What is known of the contents `m`:
 -- - No entry has an index of 2 ^ 52 or above, or more bytes than a batch may have.
--- - `known` has each key of a group with its value in the group's list, perhaps with others.
+-- - For each group, the list `known` has all keys of the group with their values, and perhaps other pairs.
 pub record AreKnown (m : LogMap) (known : ℕ → List (List ℕ × List ℕ)) : Type 0 where
   pub entries : (g i : ℕ) (bytes : List ℕ) → m g (Index i) ≡ Some (Entry bytes)
       → (i < 2 ^ 52) × (length bytes ≤ max_entries_len)

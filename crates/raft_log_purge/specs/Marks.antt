@@ -10,7 +10,7 @@ use Rattle.raft_log_record_items.specs.declared.item.LogItem.{LogItem}
 use Rattle.raft_log_record_frames.specs.Meaning.{tagged_items}
 use Rattle.raft_log_memtable_index.specs.Shown.{Shown}
 
--- the items of group `g` among these, without the group
+-- those of these items that are of group `g`, each without its group's number
 abbrev pub said_in : List LogItem → ℕ → List (Item EntryIndex (List ℕ))
 said_in items g = of_group g (tagged_items (λ e. e) items)
 

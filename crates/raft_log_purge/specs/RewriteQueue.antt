@@ -1,5 +1,6 @@
--- A rewrite of Rewrite: what is live there is written to new records, and the old files leave its live range. `s` and
--- `t` are the engine's states before and after, `m` the memtables after.
+-- A compaction of Rewrite, which names of definitions call a rewrite. What is live in Rewrite is written to new
+-- records, and the old files leave Rewrite's live range. `s` and `t` are the engine's states before and after, `m` the
+-- memtables after.
 use Rattle.std.specs.Prelude.{◌≡◌, ◌↔◌, ◌+◌, ◌-◌, ◌<◌, IsTrue, ℕ, max, Bool, true, false, []}
 use Rattle.raft_log_fs.specs.Causes.{IsLater}
 use Rattle.raft_log_record_base.specs.declared.errors.Error.{Error}
@@ -41,12 +42,12 @@ pub record RestatesAll (s t : EngineState) : Type 0 where
 abbrev pub first_file : EngineState → ℕ
 first_file s = (pipe_at InRewrite (files_of s.pipes)).first_seq
 
--- Rewrite was rewritten. It rotated, all groups were restated, and it was synced. Then files left its live range. If no
--- batch was pending:
+-- Rewrite was compacted: it rotated, all groups were restated, and Rewrite was synced. Then files left Rewrite's live
+-- range. If no batch was pending:
 -- - `settles`: the log has the same contents, and nothing is pending in either queue.
 -- - `begins`: the live range begins at the lowest file in use (`loses.least`), or where it began if that is later.
 -- - `past`: the live range begins after the file that was active at the start.
--- - `from`: all that a group has in Rewrite is in files after that one.
+-- - `from`: all that a group has in Rewrite is in files after the one that was active at the start.
 pub record RewritesRewrite (m : MemTables) (s t : EngineState) : Type 0 where
   pub turned : LogPipes
   pub turns : RotatesQueue InRewrite s.pipes turned
@@ -65,8 +66,9 @@ pub record RewritesRewrite (m : MemTables) (s t : EngineState) : Type 0 where
       → IsRestatedFrom (last_file s + 1) (s.tables g) (t.tables g)
   pub settles : (home : LogDirectories) (log : LogMap) → Represents home s log [] → HoldsSettled home t log
 
--- A rewrite of Rewrite failed with `error`. If no batch was pending, `GivesReason` gives the reason. Then the log has
--- the same contents, or the engine has failed and its files can be opened with them.
+-- A compaction of Rewrite failed with `error`. If no batch was pending:
+-- - `GivesReason` gives the reason.
+-- - The log has the same contents, or the engine has failed and its files can be opened with them.
 pub record FailsToRewriteRewrite (error : Error) (s t : EngineState) : Type 0 where
   pub counts : t.counts ≡ s.counts
   pub tells : has_failed s ≡ false → IsTrue (has_failed t) ↔ (error ≡ errors.Failed)
@@ -74,7 +76,7 @@ pub record FailsToRewriteRewrite (error : Error) (s t : EngineState) : Type 0 wh
   pub remains : StaysOrIsLeft error s t
   pub cause : GivesReason error s t
 
--- the counts after Rewrite was rewritten: what was counted as garbage no longer counts as written, nor as garbage
+-- the counts after Rewrite was compacted: what was counted as garbage no longer counts as written, nor as garbage
 abbrev pub reset_counts : GlobalStats → GlobalStats
 reset_counts s = record s {
   rewrite_entries = s.rewrite_entries - s.deleted_rewrite_entries;

@@ -40,8 +40,8 @@ use std::alloc::Global;
 /// Ends after step 1 or 2 if `exit_after_step` is that number. Afterwards the map is the same, nothing is pending, and
 /// no tombstone is owed.
 ///
-/// Fails as a sync, a rotation, `rewrite_marks`, `rewrite_groups` or `purge_to` does. If it fails, the map is kept,
-/// after `Failed` by the files.
+/// Fails as a sync, a rotation, `rewrite_marks`, `rewrite_groups` or `purge_to` does. If it fails, the map is kept;
+/// after `Failed`, the files keep it.
 pub fn rewrite_append_queue<P: PipeLog, L: Log>(
     alloc: Global,
     rt: &L,

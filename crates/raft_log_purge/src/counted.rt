@@ -60,7 +60,7 @@ pub fn purge_and_count<P: PipeLog, L: Log>(
     Ok(answered)
 }
 
-/// Syncs Append and rewrites Rewrite as `sync_and_rewrite` does. Before that, the counts are brought to what is live in
+/// Syncs Append and compacts Rewrite as `sync_and_rewrite` does. Before that, the counts are brought to what is live in
 /// Rewrite. Whether it succeeds or fails, they are then as `sync_and_rewrite` leaves them.
 pub fn rewrite_and_count<P: PipeLog, L: Log>(
     alloc: Global,

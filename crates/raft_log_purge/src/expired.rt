@@ -75,8 +75,8 @@ pub struct PickedGroups {
 /// walk over the groups.
 ///
 /// Fails with `Memory` before anything is done, or as `write_tombstones`, `rewrite_groups`, a sync or `purge_to` does.
-/// If it fails, no round is counted. Whether it succeeds or fails, the map is kept if nothing of Append was pending,
-/// after `Failed` by the files.
+/// If it fails, the purge isn't counted among those in a row that asked the caller to compact a group. Whether it
+/// succeeds or fails, the map is kept if nothing of Append was pending; after `Failed`, the files keep it.
 pub fn purge_append<P: PipeLog, L: Log>(
     alloc: Global,
     rt: &L,
@@ -112,7 +112,7 @@ pub fn purge_append<P: PipeLog, L: Log>(
     )
 }
 
-/// If Append is past its threshold, what a purge of it has to know of all groups, unless Rewrite is rewritten before.
+/// If Append is past its threshold, what a purge of it has to know of all groups, unless Rewrite is compacted before.
 /// `None` also if memory ran out.
 pub(crate) fn survey_if_past<P: PipeLog>(
     alloc: Global,
@@ -180,7 +180,7 @@ fn purge_by_rules<P: PipeLog, L: Log>(
 
 /// Picks groups by the rules, and takes the owed tombstones: from a survey made before, or from one walk over the
 /// groups.
-fn pick_groups(
+pub fn pick_groups(
     alloc: Global,
     tables: &MemTables,
     watermarks: &Watermarks,
@@ -213,7 +213,7 @@ fn pick_groups(
 /// has to be written to Rewrite first.
 ///
 /// Fails as a sync or `delete_unreferenced_files` does. If it fails, the map is kept.
-fn delete_before_writing<P: PipeLog, L: Log>(
+pub fn delete_before_writing<P: PipeLog, L: Log>(
     alloc: Global,
     rt: &L,
     pipes: &mut P,
@@ -238,7 +238,7 @@ fn delete_before_writing<P: PipeLog, L: Log>(
 
 /// Writes the owed tombstones, rewrites these groups up to a file, syncs Rewrite, and takes files out of Append's
 /// live range. Returns how many entries and values are live in Rewrite then.
-fn rewrite_picked<P: PipeLog, L: Log>(
+pub fn rewrite_picked<P: PipeLog, L: Log>(
     alloc: Global,
     rt: &L,
     pipes: &mut P,

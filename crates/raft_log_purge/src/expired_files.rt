@@ -89,7 +89,7 @@ impl PurgeCounts {
     }
 
     /// Brings the counts to what is live in Rewrite, if that is wanted.
-    pub(crate) fn count_if(&mut self, wanted: bool, tables: &MemTables)
+    pub fn count_if(&mut self, wanted: bool, tables: &MemTables)
         ensures { CountsIf wanted tables.now self.old self.new }
     {
         if wanted {
@@ -137,19 +137,19 @@ impl PurgeCounts {
 
 /// Purges both queues if they are past their thresholds. Afterwards the map is the same, and nothing is pending.
 /// - Syncs Append.
-/// - Rewrites Rewrite if it is past its threshold and enough of it is garbage.
+/// - Compacts Rewrite if it is past its threshold and enough of it is garbage.
 /// - Purges Append if it is past its threshold. Writes the owed tombstones, rewrites the groups that the rules pick,
 ///   and takes files that no listener pins out of its live range.
 ///
 /// If Append was purged, returns the groups that the caller is asked to compact, and how much is live in Rewrite now.
-/// If Rewrite was rewritten, also returns the groups that have many entries there. The groups are in rising order.
+/// If Rewrite was compacted, also returns the groups that have many entries there. The groups are in rising order.
 ///
 /// `known` is a survey of these tables and rounds, or `None`. If it is given, and Rewrite isn't rewritten, it spares a
 /// walk over the groups.
 ///
 /// Fails as one of its steps does: a sync, a rotation, a write of tombstones or copies, or a deletion. If it fails, the
-/// map is kept, after `Failed` by the files, and no round is counted. If Rewrite was rewritten in part, the old copies
-/// are counted as garbage.
+/// map is kept; after `Failed`, the files keep it. The purge isn't counted among those in a row that asked the caller
+/// to compact a group. If Rewrite was compacted in part, the old copies are counted as garbage.
 pub fn purge_expired_files<P: PipeLog, L: Log>(
     alloc: Global,
     rt: &L,
@@ -183,7 +183,7 @@ pub fn purge_expired_files<P: PipeLog, L: Log>(
     )
 }
 
-/// Rewrites Rewrite if that is past its threshold and enough of it is garbage. Returns whether Rewrite was rewritten.
+/// Compacts Rewrite if that is past its threshold and enough of it is garbage. Returns whether Rewrite was compacted.
 fn purge_rewrite<P: PipeLog, L: Log>(
     alloc: Global,
     rt: &L,
@@ -212,11 +212,11 @@ fn purge_rewrite<P: PipeLog, L: Log>(
     Ok(true)
 }
 
-/// Syncs Append, and rewrites Rewrite, whatever its size is: what is live there is written again, and its old files
+/// Syncs Append, and compacts Rewrite, whatever its size is: what is live there is written again, and its old files
 /// leave its live range. Afterwards the map is the same, and nothing is pending in either queue.
 ///
-/// Fails as one of its steps does: a sync, a rotation, a write, or a deletion. If it fails, the map is kept, after
-/// `Failed` by the files. The counts are then as `rewrite_rewrite_queue` leaves them.
+/// Fails as one of its steps does: a sync, a rotation, a write, or a deletion. If it fails, the map is kept; after
+/// `Failed`, the files keep it. The counts are then as `rewrite_rewrite_queue` leaves them.
 pub fn sync_and_rewrite<P: PipeLog, L: Log>(
     alloc: Global,
     rt: &L,

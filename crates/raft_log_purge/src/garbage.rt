@@ -1,4 +1,4 @@
-//! Counts what a failed rewrite of Rewrite leaves: the old copies of a group that was restated are garbage.
+//! Counts what a failed compaction of Rewrite leaves: the old copies of a group that was restated are garbage.
 
 ghost use Rattle.raft_log_memtables.specs.Tables.{shown_of};
 ghost use Rattle.raft_log_purge.specs.Garbage.{CountsGarbage, CountsPast, StandsPast};
@@ -9,12 +9,7 @@ use raft_log_record_base::{FileSeq, LogQueue};
 
 /// Counts what these groups have live in Rewrite after this file: adds it to what was written, and as much to the
 /// garbage.
-pub(crate) fn count_restated(
-    stats: &mut GlobalStats,
-    tables: &MemTables,
-    groups: &[u64],
-    file: FileSeq,
-)
+pub fn count_restated(stats: &mut GlobalStats, tables: &MemTables, groups: &[u64], file: FileSeq)
     ensures { CountsGarbage file (shown_of tables.now) groups.now stats.old stats.new }
 {
     let count = count_past(tables, groups, file);

@@ -10,7 +10,7 @@ pub mod bounds;
 pub mod counted;
 pub mod expired;
 pub mod expired_files;
-mod garbage;
+pub mod garbage;
 pub mod laws;
 pub mod rewrite_queue;
 

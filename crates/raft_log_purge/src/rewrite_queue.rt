@@ -1,4 +1,4 @@
-//! Rewrite is rewritten: what is live there is written again, and its old files leave its live range.
+//! Rewrite is compacted: what is live there is written again, and its old files leave its live range.
 
 ghost use Rattle.std.specs.Prelude.{◌≡◌, ◌≤◌, IfErr, OnErr, OnOk};
 ghost use Rattle.raft_log_purge_copy.specs.raft_log_engine_laws.specs.EngineState.{shows};
@@ -19,14 +19,14 @@ use raft_log_purge_copy::restating::compact_rewrite_groups;
 use raft_log_record_base::{LogQueue, Result};
 use std::alloc::Global;
 
-/// Rewrites Rewrite: rotates it, restates all groups, syncs it, and subtracts the garbage from the counts. Then its
+/// Compacts Rewrite: rotates it, restates all groups, syncs it, and subtracts the garbage from the counts. Then its
 /// files below the lowest one in use leave its live range. `number` is the number of the next atomic group, and is
 /// counted up.
 ///
 /// The map is kept only if nothing of Append is pending: the caller has synced it.
 ///
 /// Fails with `Memory` before anything is done, or as a rotation, `compact_rewrite_groups`, a sync or
-/// `delete_stale_files` does. If it fails, the map is kept too, after `Failed` by the files. If all groups were
+/// `delete_stale_files` does. If it fails, the map is kept too; after `Failed`, the files keep it. If all groups were
 /// restated and synced, the garbage is subtracted from the counts. Else the old copies of the groups that were restated
 /// are counted as garbage. What was written of a group that wasn't restated isn't counted.
 pub fn rewrite_rewrite_queue<P: PipeLog, L: Log>(

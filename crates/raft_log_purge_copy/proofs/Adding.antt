@@ -6,7 +6,7 @@ use Rattle.std.specs.Ordering.{nat_cmp}
 use Rattle.raft_log_model_laws.specs.Item.{Item, Tagged}
 use Rattle.raft_log_model_laws.specs.Item.Item.{Run, Clean, Compact, Put, Del}
 use Rattle.raft_log_model_laws.specs.Groups.{of_group}
-use Rattle.raft_log_model_laws.proofs.Cases.{at_bool, from_eq_true}
+use Rattle.raft_log_model_laws.proofs.Public.{at_bool, from_eq_true}
 use Rattle.raft_log_extents.specs.declared.place.Place.{Place}
 use Rattle.raft_log_memtable_index.specs.declared.group_files.GroupFiles.{GroupFiles}
 use Rattle.raft_log_memtable_index.specs.Replayed.{Replayed}
@@ -19,7 +19,7 @@ use Rattle.raft_log_memtables.specs.Joining.{noted_in}
 use Rattle.raft_log_memtables.specs.Rewriting.{TakesRewritten, all_rewritten, rewritten_item}
 use Rattle.raft_log_memtables.specs.Tables.{ShowsSame, raw_of, replayed_of, shown_in, shown_of}
 use Rattle.raft_log_engine_laws.specs.EngineState.{EngineState}
-use Rattle.raft_log_engine_laws.proofs.Taking.{shows_read}
+use Rattle.raft_log_engine_laws.proofs.Public.{shows_read}
 use Rattle.raft_log_purge_copy.specs.Groups.{RewritesPart}
 use Rattle.raft_log_purge_copy.specs.Owed.{AddsNoMarks, OweNoMore, OwesNoMore}
 

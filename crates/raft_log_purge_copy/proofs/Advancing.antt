@@ -4,7 +4,7 @@ use Rattle.std.proofs.lemmas.List.{length-map}
 use Rattle.raft_log_model_laws.specs.Item.{Item}
 use Rattle.raft_log_model_laws.specs.Item.Item.{Run}
 use Rattle.raft_log_model_laws.specs.Groups.{of_group}
-use Rattle.raft_log_model_laws.proofs.Cases.{eq_true, if_false, if_true}
+use Rattle.raft_log_model_laws.proofs.Public.{eq_true, if_false, if_true}
 use Rattle.raft_log_record_items.specs.declared.entry.EntryIndex.{EntryIndex}
 use Rattle.raft_log_record_items.specs.declared.item.LogItemContent.TheVariants as contents
 use Rattle.raft_log_record_items.specs.Items.{item_of}
@@ -16,7 +16,7 @@ use Rattle.raft_log_extents.specs.Entries.{place_of}
 use Rattle.raft_log_memtable_index.specs.Shown.{Shown}
 use Rattle.raft_log_memtable_index.specs.Bridge.{moved_run}
 use Rattle.raft_log_memtables.specs.Rewriting.{all_rewritten}
-use Rattle.raft_log_memtables.proofs.Copies.{run_moves}
+use Rattle.raft_log_memtables.proofs.Public.{run_moves}
 use Rattle.raft_log_engine_laws.specs.EngineState.{EngineState}
 use Rattle.raft_log_engine_laws.specs.Writing.{items_at}
 use Rattle.raft_log_purge_copy.specs.Copies.{MovesCopies}

@@ -12,8 +12,7 @@ use Rattle.raft_log_dual_pipes.specs.Calls.{FailsToSyncQueue}
 use Rattle.raft_log_block_cache.specs.declared.block_cache.BlockCache.{BlockCache}
 use Rattle.raft_log_engine_laws.specs.EngineState.{LogDirectories, LogMap, EngineState, shows}
 use Rattle.raft_log_engine_laws.specs.Holding.{Represents}
-use Rattle.raft_log_engine_laws.proofs.Keeping.{holds_runs}
-use Rattle.raft_log_engine_laws.proofs.Settling.{failed_sync, settled_held, sync_settles_log}
+use Rattle.raft_log_engine_laws.proofs.Public.{failed_sync, holds_runs, settled_held, sync_settles_log}
 use Rattle.raft_log_purge_copy.specs.Parts.{Remains, StaysInFile}
 use Rattle.raft_log_purge_copy.specs.Syncing.{MaySync, StaysAlive}
 use Rattle.raft_log_purge_copy.specs.Copies.{FailsToCopy, MovesCopies, WritesCopies}

@@ -4,7 +4,7 @@ use Rattle.std.specs.Prelude.{Result, Ok, Err, IfErr, OnOk}
 use Rattle.std.specs.BTreeMap.{get}
 use Rattle.std.specs.Ordering.{nat_cmp}
 use std.Path.{fun_ext}
-use Rattle.raft_log_model_laws.proofs.Cases.{at_bool, from_eq_true}
+use Rattle.raft_log_model_laws.proofs.Public.{at_bool, from_eq_true}
 use Rattle.raft_log_machine_laws.specs.Whereabouts.{RunStands}
 use Rattle.raft_log_record_base.specs.declared.errors.Error.{Error}
 use Rattle.raft_log_record_base.specs.declared.errors.Error.TheVariants as errors
@@ -34,9 +34,7 @@ use Rattle.raft_log_engine_laws.specs.Whole.{batches_of, parts_moved}
 use Rattle.raft_log_engine_laws.specs.Restating.{RestatesGroup, entries_of_pieces, said_of_group}
 use Rattle.raft_log_engine_laws.specs.Ending.{files_of_group}
 use Rattle.raft_log_engine_laws.specs.Taking.{MovedParts, NotesFiles}
-use Rattle.raft_log_engine_laws.proofs.Ending.{end_refused, end_taken}
-use Rattle.raft_log_engine_laws.proofs.Restating.{restated_whole}
-use Rattle.raft_log_engine_laws.proofs.Taking.{end_over_tables, nothing_moved, shows_read}
+use Rattle.raft_log_engine_laws.proofs.Public.{end_over_tables, end_refused, end_taken, nothing_moved, restated_whole, shows_read}
 use Rattle.raft_log_purge_copy.specs.Entries.{AreEntryBytes}
 use Rattle.raft_log_purge_copy.specs.Reasons.{HasReason}
 use Rattle.raft_log_purge_copy.proofs.Copying.{same_but_pipes}
@@ -287,11 +285,6 @@ not_ended_then (Err e) g number done parts pairs b s v w old new cache has one l
 pub these_restated : (r : Result (Unit {0}) Error) (g : ℕ) (es : List EntryIndex) (pairs : List (List ℕ × List ℕ)) (s t : EngineState) → StandsInRewrite g es pairs s → OnOk r (RestatesThese g es pairs s t) → OnOk r (RestatesOne g s t)
 these_restated (Ok x) g es pairs s t stands done = done stands
 these_restated (Err e) g es pairs s t stands done = tt
-
-pub these_not_restated : (r : Result (Unit {0}) Error) (g : ℕ) (es : List EntryIndex) (pairs : List (List ℕ × List ℕ)) (s t : EngineState) → StandsInRewrite g es pairs s → IfErr r (λ error. FailsToRestateThese g es pairs error s t)
-    → IfErr r (λ error. FailsToRestate error s t)
-these_not_restated (Ok x) g es pairs s t stands fails = tt
-these_not_restated (Err e) g es pairs s t stands fails = fails stands
 
 pub restated_then : (r : Result (Unit {0}) Error) (g : ℕ) (es : List EntryIndex) (pairs : List (List ℕ × List ℕ)) (s t : EngineState) → (StandsInRewrite g es pairs s → OnOk r (RestatesOne g s t)) → OnOk r (RestatesThese g es pairs s t)
 restated_then (Ok x) g es pairs s t done = done

@@ -20,7 +20,7 @@ use Rattle.raft_log_memtable_index.specs.Shown.{Shown}
 use Rattle.raft_log_memtables.specs.declared.mem_tables.MemTables.{MemTables}
 use Rattle.raft_log_memtables.specs.Rewriting.{MayMove, TakesRewritten, all_rewritten}
 use Rattle.raft_log_memtables.specs.Tables.{ShowsSame, counts, shown_of}
-use Rattle.raft_log_memtables.proofs.Moved.{written_may_move}
+use Rattle.raft_log_memtables.proofs.Public.{written_may_move}
 use Rattle.raft_log_dual_pipes.specs.Pipes.{LogPipes}
 use Rattle.raft_log_dual_pipes.specs.Calls.{AppendsTo, FailsToAppendTo, TellsFailure}
 use Rattle.raft_log_dual_pipes.specs.Numbers.{EndsNumbersAt}
@@ -28,7 +28,7 @@ use Rattle.raft_log_dual_pipes.specs.PipeCalls.{PipeFailsToAppend}
 use Rattle.raft_log_block_cache.specs.declared.block_cache.BlockCache.{BlockCache}
 use Rattle.raft_log_engine_laws.specs.EngineState.{LogDirectories, LogMap, EngineState, shows}
 use Rattle.raft_log_engine_laws.specs.Rewriting.{CountsAlone}
-use Rattle.raft_log_engine_laws.proofs.Copying.{copies_refused, copies_written}
+use Rattle.raft_log_engine_laws.proofs.Public.{copies_refused, copies_written}
 use Rattle.raft_log_purge_copy.specs.Parts.{IsRecordMade, Remains}
 use Rattle.raft_log_purge_copy.specs.Refusals.{IsOverlong, IsUnmade, IsUnrecorded}
 use Rattle.raft_log_purge_copy.specs.Reasons.{HasReason}

@@ -2,7 +2,7 @@
 use Rattle.std.proofs.Common.{◌≡◌, ℕ, zero, suc, ◌+◌, ◌<◌, ◌≤◌, ◌==◌, ◌||◌, Bool, true, false, List, [], ◌∷◌, ◌++◌, length, take, get_or, inl, inr, refl, sym, ap, subst, ◌∙◌, arith}
 use Rattle.std.proofs.lemmas.Bool.{false≢true}
 use Rattle.std.proofs.lemmas.List.{take_all, take_more}
-use Rattle.raft_log_model_laws.proofs.Cases.{at_bool, eq_true}
+use Rattle.raft_log_model_laws.proofs.Public.{at_bool, eq_true}
 use Rattle.raft_log_record_base.specs.declared.errors.Error.{Error}
 use Rattle.raft_log_extents.specs.declared.place.Place.{Place}
 use Rattle.raft_log_memtable_index.specs.Shown.{Shown}

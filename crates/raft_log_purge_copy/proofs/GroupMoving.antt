@@ -3,7 +3,7 @@ use Rattle.std.proofs.Common.{◌≡◌, ℕ, zero, suc, ◌+◌, ◌-◌, ◌<�
 use Rattle.std.proofs.lemmas.Bool.{false≢true}
 use Rattle.std.proofs.lemmas.List.{take_at}
 use Rattle.raft_log_machine_laws.specs.Whereabouts.{top}
-use Rattle.raft_log_machine_laws.proofs.TruthRaises.{no_word}
+use Rattle.raft_log_machine_laws.proofs.Public.{no_word}
 use Rattle.raft_log_extents.specs.declared.place.Place.{Place}
 use Rattle.raft_log_memtable_index.specs.declared.group_files.GroupFiles.{GroupFiles}
 use Rattle.raft_log_memtable_index.specs.Shown.{IsOrderly, KeyValue, Shown}
@@ -11,12 +11,12 @@ use Rattle.raft_log_memtable_index.specs.Noted.{IsLeastInRewrite, noting, place_
 use Rattle.raft_log_memtable_index.specs.Listing.{ListsAll, asked_bytes, rewritten_values}
 use Rattle.raft_log_engine_laws.specs.raft_log_memtable.specs.Moves.{rewritten_at, rewritten_to}
 use Rattle.raft_log_engine_laws.specs.raft_log_memtable.specs.Files.{ArePast, IsLeastRewritten, noted_after}
-use Rattle.raft_log_engine_laws.specs.raft_log_memtable.proofs.Leasts.{begins_past, notes_past}
+use Rattle.raft_log_engine_laws.specs.raft_log_memtable.proofs.Public.{begins_past, notes_past}
 use Rattle.raft_log_block_cache.specs.Stored.{Each}
 use Rattle.raft_log_engine_laws.specs.Parts.{WrittenPart}
 use Rattle.raft_log_engine_laws.specs.Whole.{all_places, filed_in, parts_moved}
 use Rattle.raft_log_engine_laws.specs.Restating.{HoldsRewritten}
-use Rattle.raft_log_engine_laws.proofs.Whole.{all_filed, all_parts, first_pieces_move, one_part}
+use Rattle.raft_log_engine_laws.proofs.Public.{all_filed, all_parts, first_pieces_move, one_part}
 use Rattle.raft_log_purge_copy.proofs.KeyCopies.{EachOf, after, each_after, each_listed, shown_after}
 use Rattle.raft_log_purge_copy.specs.Pieces.{put_items}
 use Rattle.raft_log_purge_copy.specs.Owed.{OwesSame}

@@ -20,7 +20,7 @@ use Rattle.raft_log_block_cache.specs.Blocks.{AreUnread, IsOfLog, ReadsEntries}
 use Rattle.raft_log_engine_laws.specs.EngineState.{LogDirectories, LogMap, EngineState}
 use Rattle.raft_log_engine_laws.specs.Holding.{Represents}
 use Rattle.raft_log_engine_laws.specs.Fetching.{AreEntriesOf}
-use Rattle.raft_log_engine_laws.proofs.Fetching.{all_told, all_untold}
+use Rattle.raft_log_engine_laws.proofs.Public.{all_told, all_untold}
 use Rattle.raft_log_engine_laws.specs.Parts.{HoldsInGroup, UnendedGroup}
 use Rattle.raft_log_record_items.specs.declared.raw_message.RawMessage.{RawMessage}
 use Rattle.raft_log_purge_copy.specs.Entries.{AreEntryBytes, as_bytes}
@@ -167,8 +167,3 @@ pub unbuilt_is_none : (g : ℕ) (u : LogPipes) (es : List EntryIndex) (pairs : L
 unbuilt_is_none g u es pairs old new error (inl unread) = unread_is_none u es old new error unread
 unbuilt_is_none g u es pairs old new error (inr (xs, reads, inl why)) = unmade_is_none error (entries_unmade error 0 (indexes_of es) (map (λ x. x.bytes) xs) why)
 unbuilt_is_none g u es pairs old new error (inr (xs, reads, inr why)) = unmade_is_none error (keys_unmade error g pairs why)
-
-pub read_len : (v : Shown) (es : List EntryIndex) (reading : List ℕ → Option RawMessage) (e : EngineState) (old new : BlockCache) (xs : List RawMessage) → ReadsEntries reading e.pipes es old new xs → length xs ≡ length es
-read_len v [] reading e old new xs (same, none) = ap length none
-read_len v (x ∷ es) reading e old new [] never = absurd never
-read_len v (x ∷ es) reading e old new (y ∷ xs) (next, one, rest) = (let more = read_len v es reading e next new xs rest in omega (arith, more))

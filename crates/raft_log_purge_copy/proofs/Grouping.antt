@@ -4,14 +4,14 @@ use Rattle.std.specs.List.{list_any}
 use Rattle.std.proofs.lemmas.Bool.{false≢true}
 use Rattle.std.proofs.lemmas.List.{length-drop, take_all, take_more}
 use Rattle.raft_log_model_laws.specs.Meaning.Slot.{Index}
-use Rattle.raft_log_model_laws.proofs.Cases.{at_bool, eq_true, from_le_false}
+use Rattle.raft_log_model_laws.proofs.Public.{at_bool, eq_true, from_le_false}
 use Rattle.raft_log_record_base.specs.declared.errors.Error.{Error}
 use Rattle.raft_log_extents.specs.declared.place.Place.{Place}
 use Rattle.raft_log_extents.specs.Counts.{passing}
 use Rattle.raft_log_memtable_index.specs.Shown.{Shown}
 use Rattle.raft_log_memtable_index.specs.Noted.{file_at, place_file}
 use Rattle.raft_log_engine_laws.specs.raft_log_memtable.specs.Files.{FrontIsLeast, IsLeastInAppend}
-use Rattle.raft_log_engine_laws.specs.raft_log_memtable.proofs.Leasts.{place_there}
+use Rattle.raft_log_engine_laws.specs.raft_log_memtable.proofs.Public.{place_there}
 use Rattle.raft_log_engine_laws.specs.EngineState.{EngineState, has_failed}
 use Rattle.raft_log_engine_laws.specs.Raising.{AppendMayBegin}
 use Rattle.raft_log_record_batches.specs.Entries.{indexes_of}

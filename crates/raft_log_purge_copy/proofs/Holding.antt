@@ -17,17 +17,14 @@ use Rattle.raft_log_machine_laws.specs.Calls.Which.{InRewrite}
 use Rattle.raft_log_dual_pipes.specs.Own.{log_layout}
 use Rattle.raft_log_dual_pipes.specs.Queues.{SaysRecord}
 use Rattle.raft_log_dual_pipes.specs.Steps.{next_log}
-use Rattle.raft_log_block_cache.proofs.Keeping.{calls_keep_bytes}
+use Rattle.raft_log_block_cache.proofs.Public.{calls_keep_bytes}
 use Rattle.raft_log_dual_pipes.specs.Pipes.{LogPipes, RunsOn, LogRecordValue, State}
 use Rattle.raft_log_dual_pipes.specs.Calls.{AppendsTo, FailsToSyncQueue, SyncsQueue}
 use Rattle.raft_log_engine_laws.specs.EngineState.{LogDirectories, LogMap, EngineState, said_by, sense}
 use Rattle.raft_log_engine_laws.specs.Holding.{Represents, IsRecoverableAs}
-use Rattle.raft_log_engine_laws.proofs.Keeping.{holds_runs}
+use Rattle.raft_log_engine_laws.proofs.Public.{begin_refused, failed_sync, holds_runs, middle_refused, part_begins, part_goes_on, record_taken, says_part, settled_held, sync_keeps, sync_leaves_open, IsTaken}
 use Rattle.raft_log_engine_laws.specs.Rewriting.{RewriteLeaves}
-use Rattle.raft_log_engine_laws.proofs.Rewriting.{IsTaken, record_taken}
-use Rattle.raft_log_engine_laws.proofs.Settling.{failed_sync, settled_held, sync_keeps}
 use Rattle.raft_log_engine_laws.specs.Parts.{HoldsInGroup, IsGroupPart, UnendedGroup, begun_by, gone_on_by, said_items}
-use Rattle.raft_log_engine_laws.proofs.Writing.{begin_refused, middle_refused, part_begins, part_goes_on, says_part, sync_leaves_open}
 use Rattle.raft_log_purge_copy.specs.Reasons.{HasReason}
 use Rattle.raft_log_purge_copy.specs.Refusals.{IsOverlong}
 use Rattle.raft_log_purge_copy.specs.Stale.{written_file}
@@ -122,10 +119,6 @@ unwritten_reason home e m b error w h says long (inr (inr r)) =
 -- a part of a group says that it is one
 pub part_speaks : (home : LogDirectories) (number : ℕ) (status : AtomicGroupStatus) (b : Batch) → IsGroupPart number status b → Speaks home b
 part_speaks home number status b part = (Part (part_of number status) (said_items b), says_part home number status b part)
-
--- the part of a group
-abbrev group_part : (number : ℕ) (status : AtomicGroupStatus) (b : Batch) → Type 0
-group_part number status b = IsGroupPart number status b
 
 -- Records of a group.
 

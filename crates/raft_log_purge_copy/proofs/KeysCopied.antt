@@ -6,7 +6,7 @@ use Rattle.std.specs.List.Sorted.{IsStrictlySortedBy}
 use Rattle.std.proofs.lemmas.List.{take_more}
 use Rattle.raft_log_model_laws.specs.Item.{Item}
 use Rattle.raft_log_model_laws.specs.Groups.{of_group}
-use Rattle.raft_log_model_laws.proofs.Cases.{at_bool, eq_true}
+use Rattle.raft_log_model_laws.proofs.Public.{at_bool, eq_true}
 use Rattle.raft_log_fs.specs.Causes.{IsLater}
 use Rattle.raft_log_record_base.specs.declared.errors.Error.{Error}
 use Rattle.raft_log_record_base.specs.declared.errors.Error.TheVariants as errors
@@ -16,7 +16,6 @@ use Rattle.raft_log_record_items.specs.Items.{put_item}
 use Rattle.raft_log_record_items.specs.Placed.{written}
 use Rattle.raft_log_record_frames.specs.Marking.{has_mark_key, mark_key}
 use Rattle.raft_log_record_frames.specs.Meaning.{tagged_items}
-use Rattle.raft_log_record_batches.specs.declared.log_batch.BatchState.TheVariants.{Filling}
 use Rattle.raft_log_record_batches.specs.Batch.{Batch, Puts, block_place}
 use Rattle.raft_log_record_batches.specs.Key.{IsMarkRefusal}
 use Rattle.raft_log_extents.specs.declared.place.Place.{Place}
@@ -67,9 +66,6 @@ keys_none m g gate es none is = by (get nat_cmp m.groups g) none
     by (Some t) same = absurd (let never : ⊥ = cc in never)
 
 -- A batch of them.
-
-pub is_empty_batch : (g : ℕ) (b : Batch) → b.state ≡ Filling → b.entries ≡ [] → b.items ≡ [] → IsKeysBatch g [] b
-is_empty_batch g b state bare none = record { state = state; none = bare; items = none; plain = subst AreNoMarks (sym none) tt }
 
 plain_push : (xs : List LogItem) (x : LogItem) → AreNoMarks xs → has_mark_key x ≡ false → AreNoMarks (xs ++ x ∷ [])
 plain_push [] x all none = (none, tt)

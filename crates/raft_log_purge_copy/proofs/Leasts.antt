@@ -5,8 +5,8 @@ use Rattle.std.specs.List.{list_any}
 use Rattle.std.specs.BTreeMap.{get}
 use Rattle.std.specs.Ordering.{nat_cmp}
 use Rattle.std.proofs.lemmas.List.{take_more}
-use Rattle.raft_log_model_laws.proofs.Cases.{at_bool, if_false, if_true, le_false}
-use Rattle.raft_log_machine_laws.proofs.TruthRaises.{no_word}
+use Rattle.raft_log_model_laws.proofs.Public.{at_bool, if_false, if_true, le_false}
+use Rattle.raft_log_machine_laws.proofs.Public.{no_word}
 use Rattle.raft_log_record_base.specs.declared.errors.Error.{Error}
 use Rattle.raft_log_record_base.specs.declared.errors.Error.TheVariants as errors
 use Rattle.raft_log_record_base.specs.declared.pipe_log.LogQueue.{LogQueue}
@@ -19,7 +19,7 @@ use Rattle.raft_log_memtable_index.specs.LeastFiles.{file_of_value, least_over, 
 use Rattle.raft_log_memtable_index.specs.Keys.{held_in, slot_at, value_of}
 use Rattle.raft_log_engine_laws.specs.raft_log_memtable.specs.Files.{FrontIsLeast, IsLeastInAppend, first_place, min_file}
 use Rattle.raft_log_engine_laws.specs.raft_log_memtable.specs.Table.{Raw, shown}
-use Rattle.raft_log_engine_laws.specs.raft_log_memtable.proofs.Leasts.{front_is_least, least_in_append, least_in_rewrite, nothing_in_rewrite, place_there}
+use Rattle.raft_log_engine_laws.specs.raft_log_memtable.proofs.Public.{front_is_least, least_in_append, least_in_rewrite, nothing_in_rewrite, place_there}
 use Rattle.raft_log_memtables.specs.declared.group_table.GroupTable.{GroupTable}
 use Rattle.raft_log_memtables.specs.declared.mem_tables.MemTables.{MemTables}
 use Rattle.raft_log_memtables.specs.Tables.{shown_in, shown_of}
@@ -32,11 +32,11 @@ use Rattle.raft_log_dual_pipes.specs.Pipes.{LogPipes, RunsOn, State, files_of, w
 use Rattle.raft_log_dual_pipes.specs.Calls.{FailsToPurgeQueue, PurgesQueue, TellsFailure}
 use Rattle.raft_log_dual_pipes.specs.Numbers.{EndsNumbersBelow}
 use Rattle.raft_log_block_cache.specs.declared.block_cache.BlockCache.{BlockCache}
-use Rattle.raft_log_block_cache.proofs.KeptBlocks.{none_kept}
+use Rattle.raft_log_block_cache.proofs.Public.{none_kept}
 use Rattle.raft_log_engine_laws.specs.EngineState.{LogDirectories, LogMap, EngineState, sense, shows}
 use Rattle.raft_log_engine_laws.specs.Settled.{HoldsSettled}
 use Rattle.raft_log_engine_laws.specs.Raising.{MayBegin, PurgeLeavesHeld}
-use Rattle.raft_log_engine_laws.proofs.Raising.{raise_refused, raised}
+use Rattle.raft_log_engine_laws.proofs.Public.{raise_refused, raised}
 use Rattle.raft_log_purge_copy.specs.Files.{FailsToLoseFiles, LosesFiles, MayLoseFiles, RemainsSettled}
 use Rattle.raft_log_purge_copy.proofs.PartExits.{alive_ok, same_later, tells_err}
 use Rattle.raft_log_purge_copy.proofs.Spanned.{lose_reason}

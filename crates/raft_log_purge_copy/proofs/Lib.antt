@@ -1,3 +1,4 @@
+pub mod Public
 pub mod Building
 pub mod Recording
 pub mod Handing

@@ -3,13 +3,12 @@ use Rattle.std.proofs.Common.{◌≡◌, ◌⊎◌, ℕ, ◌<◌, zero, suc, ◌
 use Rattle.raft_log_model_laws.specs.Item.{Item}
 use Rattle.raft_log_model_laws.specs.Item.Item.{Run, Clean, Compact, Put, Del}
 use Rattle.raft_log_model_laws.specs.Groups.{of_group}
-use Rattle.raft_log_model_laws.proofs.Cases.{at_bool, eq_true, if_true}
+use Rattle.raft_log_model_laws.proofs.Public.{at_bool, eq_true, if_true}
 use Rattle.raft_log_record_base.specs.declared.errors.Error.{Error}
 use Rattle.raft_log_record_base.specs.declared.errors.Error.TheVariants as errors
 use Rattle.raft_log_record_items.specs.declared.entry.EntryIndex.{EntryIndex}
 use Rattle.raft_log_record_items.specs.declared.op_type.OpType.{OpType}
 use Rattle.raft_log_record_items.specs.declared.op_type.OpType.TheVariants as ops
-use Rattle.raft_log_record_items.specs.declared.key_value.KeyValue.{KeyValue}
 use Rattle.raft_log_record_items.specs.declared.item.LogItem.{LogItem}
 use Rattle.raft_log_record_items.specs.declared.item.LogItemContent.{LogItemContent}
 use Rattle.raft_log_record_items.specs.declared.item.LogItemContent.TheVariants as contents
@@ -141,10 +140,3 @@ pub item_unmarked : (items : List LogItem) (i : ℕ) (d x : LogItem) (error : Er
 item_unmarked items i d x errors.Memory lt is why = tt
 item_unmarked items i d x (errors.InvalidArgument text) lt is why = no_mark_at items i d lt (subst (λ (y : LogItem). IsNoMark y.content) is (one_of_none x why))
 item_unmarked items i d x _ lt is why = absurd why
-
--- a value, or entries
-pub value_unmarked : (x : LogItem) (pair : KeyValue) → x.content ≡ contents.Kv pair → pair.op_type ≡ ops.Put → HasNoMark (x ∷ [])
-value_unmarked x pair is put = inl (subst IsNoMark (sym is) (subst IsNoDeletion (sym put) tt))
-
-pub entries_unmarked : (x : LogItem) (es : List EntryIndex) → x.content ≡ contents.EntryIndexes es → HasNoMark (x ∷ [])
-entries_unmarked x es is = inl (subst IsNoMark (sym is) tt)

@@ -2,8 +2,8 @@
 use Rattle.std.proofs.Common.{◌≡◌, ◌⊎◌, ℕ, zero, suc, ◌+◌, ◌-◌, ◌<◌, ◌≤◌, ◌&&◌, Bool, true, false, if◌then◌else◌, List, [], ◌∷◌, ◌++◌, length, take, drop, Option, Some, None, nat_le, inl, inr, refl, sym, ap, ap₂, ◌∙◌, arith}
 use Rattle.std.proofs.lemmas.List.{length-drop, length-take, length-append}
 use Rattle.std.proofs.lemmas.Bool.{false≢true}
-use Rattle.raft_log_model_laws.proofs.Cases.{at_bool, le_true}
-use Rattle.raft_log_machine_laws.proofs.TruthRaises.{no_word}
+use Rattle.raft_log_model_laws.proofs.Public.{at_bool, le_true}
+use Rattle.raft_log_machine_laws.proofs.Public.{no_word}
 use Rattle.raft_log_extents.specs.declared.place.Place.{Place}
 use Rattle.raft_log_extents.specs.Counts.{passing}
 use Rattle.raft_log_memtable_index.specs.Shown.{KeyValue, Shown}

@@ -3,15 +3,14 @@ use Rattle.std.proofs.Common.{◌≡◌, ◌⊎◌, ℕ, zero, suc, ◌+◌, ◌
 use Rattle.std.proofs.lemmas.List.{length-drop, length-take, take_all}
 use Rattle.std.specs.BTreeMap.{get}
 use Rattle.std.specs.Ordering.{nat_cmp}
-use Rattle.raft_log_model_laws.proofs.Cases.{at_bool}
-use Rattle.raft_log_record_base.specs.declared.errors.Error.{Error}
+use Rattle.raft_log_model_laws.proofs.Public.{at_bool}
 use Rattle.raft_log_record_base.specs.declared.errors.Error.TheVariants as errors
 use Rattle.raft_log_record_items.specs.declared.entry.EntryIndex.{EntryIndex}
 use Rattle.raft_log_extents.specs.declared.place.Place.{Place}
 use Rattle.raft_log_extents.specs.Counts.{fitting, passing, sized}
 use Rattle.raft_log_extents.specs.Entries.{entry_of, place_of, queue_of}
 use Rattle.raft_log_memtable_index.specs.Shown.{IsOrderly, Shown}
-use Rattle.raft_log_engine_laws.specs.raft_log_memtable.specs.Reads.{FetchRefused, entries_from, fetched, places_between}
+use Rattle.raft_log_engine_laws.specs.raft_log_memtable.specs.Reads.{entries_from, fetched, places_between}
 use Rattle.raft_log_engine_laws.specs.raft_log_memtable.specs.Table.{Raw, shown}
 use Rattle.raft_log_memtables.specs.declared.group_table.GroupTable.{GroupTable}
 use Rattle.raft_log_memtables.specs.declared.mem_tables.MemTables.{MemTables}
@@ -83,13 +82,6 @@ next_found m g gate begin end n t old mid new is orderly from to none found coun
     subst (λ (v : Shown). AreNext gate v new) (sym (raw_shown m g t is))
     (subst (AreNext gate (shown t)) (sym cut_off)
     (next_of (shown t) gate begin end n mid orderly from to (found ∙ ap (λ (l : List EntryIndex). l ++ fetched (shown t) begin end (Some max_piece)) none) count))
-
--- they are there: only for want of memory they aren't fetched
-pub next_refused : (v : Shown) (begin end : ℕ) (error : Error) → begin ≡ v.first + v.rewritten → end ≡ v.first + length v.places → FetchRefused v begin end error → error ≡ errors.Memory
-next_refused v begin end error from to (some, inl (is, none)) = absurd (omega (arith, some, from, to, none))
-next_refused v begin end error from to (some, inr (inl (is, more, low))) = absurd (omega (arith, low, from))
-next_refused v begin end error from to (some, inr (inr (inl (is, low, high)))) = absurd (omega (arith, high, to))
-next_refused v begin end error from to (some, inr (inr (inr (is, low, high)))) = is
 
 -- Where none comes next, none passes the gate.
 

@@ -7,9 +7,8 @@ use Rattle.raft_log_model_laws.specs.Item.Item.{Put, Run}
 use Rattle.raft_log_model_laws.specs.Item.Record.{Plain}
 use Rattle.raft_log_model_laws.specs.Groups.{of_group}
 use Rattle.raft_log_model_laws.specs.Renamed.{renamed}
-use Rattle.raft_log_model_laws.proofs.Cases.{at_bool, from_eq_true}
-use Rattle.raft_log_model_laws.proofs.RenamedLaws.{of_group_renamed}
-use Rattle.raft_log_machine_laws.proofs.TruthRaises.{no_word}
+use Rattle.raft_log_model_laws.proofs.Public.{at_bool, from_eq_true, of_group_renamed}
+use Rattle.raft_log_machine_laws.proofs.Public.{no_word}
 use Rattle.raft_log_record_base.specs.declared.errors.Error.{Error}
 use Rattle.raft_log_record_base.specs.declared.pipe_log.FileBlockHandle.{FileBlockHandle}
 use Rattle.raft_log_record_items.specs.declared.entry.EntryIndex.{EntryIndex}
@@ -34,14 +33,11 @@ use Rattle.raft_log_engine_laws.specs.EngineState.{LogDirectories, IsLaidOut, Lo
 use Rattle.raft_log_engine_laws.specs.Holding.{Represents}
 use Rattle.raft_log_engine_laws.specs.Writing.{items_at}
 use Rattle.raft_log_engine_laws.specs.Rewriting.{CountsAlone, HasCopies, SaysAt, moved_to}
-use Rattle.raft_log_engine_laws.proofs.Copying.{copies_refused, copies_written}
-use Rattle.raft_log_engine_laws.proofs.Rewriting.{bytes_of, record_taken, says_marked}
+use Rattle.raft_log_engine_laws.proofs.Public.{bytes_of, copies_refused, copies_written, in_one_copies, nothing_moved, record_taken, says_marked}
 use Rattle.raft_log_engine_laws.specs.Parts.{WrittenPart}
 use Rattle.raft_log_engine_laws.specs.Restating.{puts}
 use Rattle.raft_log_engine_laws.specs.Taking.{MovedParts}
 use Rattle.raft_log_engine_laws.specs.Whole.{AreFiledCopies, Filed, filed_copies, filed_in, in_one}
-use Rattle.raft_log_engine_laws.proofs.Restating.{in_one_copies}
-use Rattle.raft_log_engine_laws.proofs.Taking.{nothing_moved}
 use Rattle.raft_log_purge_copy.specs.Entries.{AreEntryBytes}
 use Rattle.raft_log_purge_copy.proofs.Copying.{same_but_pipes}
 use Rattle.raft_log_purge_copy.specs.Reasons.{HasReason}

@@ -23,7 +23,7 @@ use Rattle.raft_log_extents.specs.Entries.{place_of}
 use Rattle.raft_log_memtable_index.specs.Shown.{Shown}
 use Rattle.raft_log_memtable_index.specs.Bridge.{IsMeant, Located, in_queue, located, read}
 use Rattle.raft_log_memtables.specs.Rewriting.{AreCopies, IsCopy}
-use Rattle.raft_log_memtables.proofs.Ready.{by_group, same_or_apart}
+use Rattle.raft_log_memtables.proofs.Public.{by_group, same_or_apart}
 use Rattle.raft_log_memtables.specs.Views.{AreMeant}
 use Rattle.raft_log_engine_laws.specs.EngineState.{LogMap}
 use Rattle.raft_log_engine_laws.specs.Writing.{items_at}

@@ -34,10 +34,8 @@ use Rattle.raft_log_dual_pipes.specs.PipeCalls.{PipeFailsToAppend}
 use Rattle.raft_log_block_cache.specs.declared.block_cache.BlockCache.{BlockCache}
 use Rattle.raft_log_engine_laws.specs.EngineState.{LogDirectories, LogMap, EngineState, shows}
 use Rattle.raft_log_engine_laws.specs.Holding.{Represents}
-use Rattle.raft_log_engine_laws.proofs.Keeping.{holds_runs}
+use Rattle.raft_log_engine_laws.proofs.Public.{failed_sync, holds_runs, marks_refused, marks_written, settled_held, sync_settles_log}
 use Rattle.raft_log_engine_laws.specs.Rewriting.{RewriteLeaves, SaysOwed}
-use Rattle.raft_log_engine_laws.proofs.Settling.{failed_sync, settled_held, sync_settles_log}
-use Rattle.raft_log_engine_laws.proofs.Rewriting.{marks_refused, marks_written}
 use Rattle.raft_log_purge_copy.specs.Parts.{IsRecordMade, PartIsRefused, Remains}
 use Rattle.raft_log_purge_copy.specs.Reasons.{HasPurgeReason}
 use Rattle.raft_log_purge_copy.specs.Refusals.{IsUnmade}

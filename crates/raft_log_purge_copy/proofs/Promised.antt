@@ -1,7 +1,6 @@
 -- Room that was promised for entries to move is used, or taken back.
 use Rattle.std.proofs.Common.{◌≡◌, ◌+◌, ◌-◌, ℕ, Bool, true, false, Option, List, if◌then◌else◌, refl, sym, ap, subst, ◌∙◌, arith}
-use Rattle.raft_log_model_laws.proofs.Cases.{at_bool}
-use Rattle.raft_log_model_laws.proofs.RenamedLaws.{of_group_renamed}
+use Rattle.raft_log_model_laws.proofs.Public.{at_bool, of_group_renamed}
 use Rattle.raft_log_model_laws.specs.Groups.{of_group}
 use Rattle.raft_log_model_laws.specs.Item.{Tagged}
 use Rattle.raft_log_record_base.specs.declared.pipe_log.FileBlockHandle.{FileBlockHandle}
@@ -11,13 +10,12 @@ use Rattle.raft_log_record_items.specs.Placed.{written, written_entry}
 use Rattle.raft_log_record_frames.specs.Meaning.{tagged_items}
 use Rattle.raft_log_extents.specs.Entries.{place_of}
 use Rattle.raft_log_engine_laws.specs.raft_log_memtable.specs.Room.{Promise, needs, without_moves}
-use Rattle.raft_log_engine_laws.specs.raft_log_memtable.proofs.Ready.{needs_renamed}
+use Rattle.raft_log_engine_laws.specs.raft_log_memtable.proofs.Public.{needs_renamed}
 use Rattle.raft_log_memtables.specs.declared.mem_tables.MemTables.{MemTables}
 use Rattle.raft_log_memtables.specs.Tables.{has_table, promise_of}
 use Rattle.raft_log_memtables.specs.Batch.{IsTakenBack, mentions}
 use Rattle.raft_log_memtables.specs.Rewriting.{PromisesMoves, TakesRewritten, entries_of, moving}
-use Rattle.raft_log_memtables.proofs.Applied.{items_renamed, written_items}
-use Rattle.raft_log_memtables.proofs.Items.{none_said}
+use Rattle.raft_log_memtables.proofs.Public.{items_renamed, none_said, written_items}
 use Rattle.raft_log_purge_copy.specs.Promised.{PromisesNoMoves}
 
 -- it doesn't matter what stands for an entry

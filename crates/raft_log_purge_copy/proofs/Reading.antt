@@ -2,7 +2,7 @@
 use Rattle.std.proofs.Common.{◌≡◌, ◌⊎◌, ℕ, zero, suc, ◌+◌, ◌-◌, ◌≤◌, if◌then◌else◌, List, [], ◌∷◌, ◌++◌, length, map, take, drop, sum_by, Option, Some, option_map, unwrap_or, nat_le, nat_lt, slice_get, inl, inr, refl, sym, ap, subst, ◌∙◌, arith, append-nil}
 use Rattle.std.proofs.lemmas.List.{length-drop, length-map, length-take}
 use Rattle.std.proofs.lemmas.List.Sums.{sum_by-cons}
-use Rattle.raft_log_model_laws.proofs.Cases.{at_bool}
+use Rattle.raft_log_model_laws.proofs.Public.{at_bool}
 use Rattle.raft_log_record_base.specs.declared.errors.Error.{Error}
 use Rattle.raft_log_record_base.specs.declared.errors.Error.TheVariants as errors
 use Rattle.raft_log_model_laws.specs.Meaning.Slot.{Index}
@@ -30,7 +30,7 @@ use Rattle.raft_log_dual_pipes.specs.Pipes.{LogPipes}
 use Rattle.raft_log_engine_laws.specs.EngineState.{LogDirectories, LogMap, EngineState}
 use Rattle.raft_log_engine_laws.specs.Holding.{Represents, IsRecoverableAs}
 use Rattle.raft_log_engine_laws.specs.Fetching.{AreEntriesOf}
-use Rattle.raft_log_engine_laws.proofs.Fetching.{all_told, all_untold}
+use Rattle.raft_log_engine_laws.proofs.Public.{all_told, all_untold}
 use Rattle.raft_log_engine_laws.specs.Rewriting.{HasCopies}
 use Rattle.raft_log_record_items.specs.declared.raw_message.RawMessage.{RawMessage}
 use Rattle.raft_log_purge_copy.specs.Parts.{Remains}

@@ -9,15 +9,15 @@ use Rattle.std.proofs.lemmas.Bool.{false≢true}
 use Rattle.raft_log_model_laws.specs.Meaning.Slot.{Key}
 use Rattle.raft_log_model_laws.specs.Meaning.Content.{Value}
 use Rattle.raft_log_model_laws.specs.Renamed.{renamed_content}
-use Rattle.raft_log_model_laws.proofs.Cases.{at_bool}
+use Rattle.raft_log_model_laws.proofs.Public.{at_bool}
 use Rattle.raft_log_machine_laws.specs.Whereabouts.{top}
-use Rattle.raft_log_machine_laws.proofs.TruthRaises.{no_word}
+use Rattle.raft_log_machine_laws.proofs.Public.{no_word}
 use Rattle.raft_log_model_laws.specs.Item.Record.{Plain}
 use Rattle.std.specs.Int.{from_le_bytes, w32}
 use Rattle.raft_log_record_checksum.specs.Checksum.{crc32_of}
 use Rattle.raft_log_fs.specs.Causes.{Fails, IsLater}
 use Rattle.raft_log_fs.specs.Disk.{Disk}
-use Rattle.raft_log_fs.proofs.CauseLaws.{fails_after, later_same, later_then}
+use Rattle.raft_log_fs.proofs.Public.{fails_after, later_same, later_then}
 use Rattle.raft_log_record_base.specs.declared.codec.error.Error.{Error as CodecError}
 use Rattle.raft_log_record_base.specs.declared.errors.Error.{Error}
 use Rattle.raft_log_record_base.specs.declared.errors.Error.TheVariants as errors
@@ -36,7 +36,7 @@ use Rattle.raft_log_file_pipe.specs.Reading.{IsReadRefused}
 use Rattle.raft_log_file_pipe.specs.declared.pipe_files.PipeFiles.{PipeFiles}
 use Rattle.raft_log_record_batches.specs.Batch.{Batch}
 use Rattle.raft_log_record_batches.specs.Entries.{IsEntriesRefusal, IsIndexRun, RisesFrom, entries_items, joined}
-use Rattle.raft_log_record_batches.proofs.Entries.{joined-length}
+use Rattle.raft_log_record_batches.proofs.Public.{joined-length}
 use Rattle.raft_log_memtable_index.specs.Shown.{KeyValue}
 use Rattle.raft_log_memtable_index.specs.Bridge.{Located, bytes_held}
 use Rattle.raft_log_memtable_index.specs.Listing.{ListsAll, asked_bytes, is_asked}
@@ -57,7 +57,7 @@ use Rattle.raft_log_engine_laws.specs.EngineState.{LogDirectories, LogMap, Engin
 use Rattle.raft_log_engine_laws.specs.Holding.{Represents}
 use Rattle.raft_log_engine_laws.specs.Fetching.{IsOneUntold, IsUntold}
 use Rattle.raft_log_engine_laws.specs.Rewriting.{CountsAlone}
-use Rattle.raft_log_engine_laws.proofs.Rewriting.{bytes_of, says_marked}
+use Rattle.raft_log_engine_laws.proofs.Public.{bytes_of, says_marked}
 use Rattle.raft_log_record_items.specs.declared.raw_message.RawMessage.{RawMessage}
 use Rattle.raft_log_purge_copy.specs.Entries.{AreEntryBytes, as_bytes}
 use Rattle.raft_log_purge_copy.specs.Lengths.{AreOfGroup, AreOnePiece, AreValuesIn, IsOneMark, OwesTooMuch}

@@ -4,8 +4,7 @@ use Rattle.std.specs.Prelude.{Result, Ok, Err, OnOk}
 use Rattle.std.proofs.lemmas.List.{take_all, take_more}
 use Rattle.raft_log_model_laws.specs.Item.{Tagged}
 use Rattle.raft_log_model_laws.specs.Groups.{of_group}
-use Rattle.raft_log_model_laws.proofs.Records.{of_group_append}
-use Rattle.raft_log_model_laws.proofs.RenamedLaws.{of_group_renamed}
+use Rattle.raft_log_model_laws.proofs.Public.{of_group_append, of_group_renamed}
 use Rattle.raft_log_record_base.specs.declared.pipe_log.FileBlockHandle.{FileBlockHandle}
 use Rattle.raft_log_record_items.specs.declared.entry.EntryIndex.{EntryIndex}
 use Rattle.raft_log_record_items.specs.declared.item.LogItem.{LogItem}
@@ -14,17 +13,16 @@ use Rattle.raft_log_record_frames.specs.Meaning.{tagged_items}
 use Rattle.raft_log_record_batches.specs.Batch.{Batch, block_place}
 use Rattle.raft_log_extents.specs.Entries.{place_of}
 use Rattle.raft_log_engine_laws.specs.raft_log_memtable.specs.Room.{needs}
-use Rattle.raft_log_engine_laws.specs.raft_log_memtable.proofs.Ready.{needs-append, needs_renamed}
+use Rattle.raft_log_engine_laws.specs.raft_log_memtable.proofs.Public.{needs-append, needs_renamed}
 use Rattle.raft_log_memtables.specs.declared.mem_tables.MemTables.{MemTables}
 use Rattle.raft_log_memtables.specs.Rewriting.{GroupsStay, MayMove, PromisesMoves, TakesRewritten, entries_of}
 use Rattle.raft_log_memtables.specs.Tables.{ShowsSame, promise_of}
-use Rattle.raft_log_memtables.proofs.Applied.{items_renamed, written_items}
-use Rattle.raft_log_memtables.proofs.Moved.{more_may_move}
+use Rattle.raft_log_memtables.proofs.Public.{items_renamed, more_may_move, written_items}
 use Rattle.raft_log_dual_pipes.specs.Pipes.{LogPipes}
 use Rattle.raft_log_engine_laws.specs.Parts.{WrittenPart}
 use Rattle.raft_log_engine_laws.specs.Taking.{MovedParts}
 use Rattle.raft_log_engine_laws.specs.Whole.{parts_moved}
-use Rattle.raft_log_engine_laws.proofs.Taking.{one_part_moves}
+use Rattle.raft_log_engine_laws.proofs.Public.{one_part_moves}
 use Rattle.raft_log_purge_copy.specs.declared.parts.RestatedPart.{RestatedPart}
 use Rattle.raft_log_purge_copy.specs.GroupParts.{ArePartsKept, items_of_all}
 use Rattle.raft_log_purge_copy.specs.Records.{WritesToRewrite}
@@ -51,12 +49,6 @@ parts_left [] i d x lt is = absurd (omega (arith, lt))
 parts_left (y ∷ ys) zero d x lt is = ap (λ (p : RestatedPart). p ∷ ys) (sym is)
 parts_left (y ∷ ys) (suc i) d x lt is =
     parts_left ys i d x (omega (arith, lt)) is ∙ ap (λ (n : ℕ). x ∷ drop n (y ∷ ys)) (let same : suc (i + 1) ≡ suc i + 1 = omega arith in same)
-
-pub none_left : (parts : List RestatedPart) (i : ℕ) → length parts ≤ i → drop i parts ≡ []
-none_left [] zero all = refl
-none_left [] (suc i) all = refl
-none_left (y ∷ ys) zero all = absurd (omega (arith, all))
-none_left (y ∷ ys) (suc i) all = none_left ys i (omega (arith, all))
 
 -- Room.
 
@@ -136,10 +128,6 @@ stay_then l m n items (Err x) stay promises = tt
 -- the tables took the parts
 abbrev pub TakesParts : List RestatedPart → MemTables → MemTables → Type 0
 TakesParts parts old new = (ps : List WrittenPart) → ArePartsKept parts ps → MovedParts None ps old new
-
-pub none_taken : (m : MemTables) → TakesParts [] m m
-none_taken m [] kept g = refl
-none_taken m (p ∷ ps) kept g = absurd kept
 
 -- the last of kept parts
 record LastKept (xs : List RestatedPart) (x : RestatedPart) (ps : List WrittenPart) : Type 0 where

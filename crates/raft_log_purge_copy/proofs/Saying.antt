@@ -5,7 +5,7 @@ use Rattle.raft_log_model_laws.specs.Item.{Item, Tagged}
 use Rattle.raft_log_model_laws.specs.Item.Item.{Put, Run}
 use Rattle.raft_log_model_laws.specs.Item.Record.{Part}
 use Rattle.raft_log_model_laws.specs.Groups.{of_group}
-use Rattle.raft_log_model_laws.proofs.Cases.{eq_true, if_false, if_true}
+use Rattle.raft_log_model_laws.proofs.Public.{eq_true, if_false, if_true}
 use Rattle.raft_log_record_base.specs.declared.pipe_log.FileBlockHandle.{FileBlockHandle}
 use Rattle.raft_log_record_items.specs.declared.entry.EntryIndex.{EntryIndex}
 use Rattle.raft_log_record_items.specs.declared.item.LogItem.{LogItem}

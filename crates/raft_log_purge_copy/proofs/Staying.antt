@@ -11,7 +11,7 @@ use Rattle.raft_log_dual_pipes.specs.Pipes.{LogPipes, RunsOn, State}
 use Rattle.raft_log_dual_pipes.specs.Calls.{AppendsTo, SyncsQueue}
 use Rattle.raft_log_engine_laws.specs.EngineState.{LogDirectories, sense}
 use Rattle.raft_log_engine_laws.specs.Rewriting.{CountsAlone}
-use Rattle.raft_log_engine_laws.proofs.Rewriting.{bytes_of, says_marked}
+use Rattle.raft_log_engine_laws.proofs.Public.{bytes_of, says_marked}
 use Rattle.raft_log_purge_copy.specs.Parts.{StaysInFile, append_file}
 
 -- the file that Append is written in is the last one of its span

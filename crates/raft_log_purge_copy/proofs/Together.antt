@@ -3,7 +3,7 @@ use Rattle.std.proofs.Common.{◌≡◌, ◌+◌, ◌-◌, ◌<◌, ◌≤◌, �
 use Rattle.std.specs.Prelude.{Err, Ok, OnErr, OnOk, Result}
 use Rattle.std.proofs.lemmas.Bool.{false≢true}
 use Rattle.std.proofs.lemmas.List.{take_all}
-use Rattle.raft_log_model_laws.proofs.Cases.{at_bool, from_eq_true}
+use Rattle.raft_log_model_laws.proofs.Public.{at_bool, from_eq_true}
 use Rattle.raft_log_record_base.specs.declared.pipe_log.FileBlockHandle.{FileBlockHandle}
 use Rattle.raft_log_record_items.specs.declared.item.LogItem.{LogItem}
 use Rattle.raft_log_record_items.specs.Placed.{written, written_entry}
@@ -17,8 +17,7 @@ use Rattle.raft_log_memtables.specs.declared.mem_tables.MemTables.{MemTables}
 use Rattle.raft_log_memtables.specs.Batch.{IsTakenBack, mentions}
 use Rattle.raft_log_memtables.specs.Rewriting.{PromisesMoves, TakesRewritten, entries_of, moving}
 use Rattle.raft_log_memtables.specs.Tables.{has_table, promise_of}
-use Rattle.raft_log_memtables.proofs.Applied.{written_items}
-use Rattle.raft_log_memtables.proofs.Items.{none_said}
+use Rattle.raft_log_memtables.proofs.Public.{none_said, written_items}
 use Rattle.raft_log_purge_copy.specs.declared.parts.RestatedPart.{RestatedPart}
 use Rattle.raft_log_purge_copy.specs.GroupParts.{ArePartsKept, SayPieces, items_of_all}
 use Rattle.raft_log_purge_copy.specs.Pieces.{IsPiece, put_items, run_items}

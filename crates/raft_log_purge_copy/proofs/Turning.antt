@@ -16,12 +16,9 @@ use Rattle.raft_log_dual_pipes.specs.Calls.{FailsToRotateQueue, FailsToSyncQueue
 use Rattle.raft_log_dual_pipes.specs.Numbers.{EndsNumbers}
 use Rattle.raft_log_engine_laws.specs.EngineState.{LogDirectories, LogMap, EngineState}
 use Rattle.raft_log_engine_laws.specs.Holding.{Represents}
-use Rattle.raft_log_engine_laws.proofs.Keeping.{holds_runs}
-use Rattle.raft_log_engine_laws.proofs.Calling.{synced_all}
-use Rattle.raft_log_engine_laws.proofs.Refusing.{unsynced_left}
+use Rattle.raft_log_engine_laws.proofs.Public.{holds_runs, rewrite_rotates, settled_held, settled_rotates, synced_all, turn_refused, unsynced_left}
 use Rattle.raft_log_engine_laws.specs.Settled.{HoldsSettled}
 use Rattle.raft_log_engine_laws.specs.Quiet.{TurnLeavesHeld}
-use Rattle.raft_log_engine_laws.proofs.Settling.{rewrite_rotates, settled_held, settled_rotates, turn_refused}
 use Rattle.raft_log_purge_copy.specs.Parts.{PartIsRefused, Remains}
 use Rattle.raft_log_purge_copy.specs.Marks.{CarriesMarks}
 use Rattle.raft_log_purge_copy.specs.Files.{FailsToLoseFiles, LosesFiles, MayLoseFiles, RemainsSettled}

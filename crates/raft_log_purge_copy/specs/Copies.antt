@@ -35,7 +35,7 @@ WritesCopies gate b s t = ((b.items ≡ []) × (t ≡ s)) ⊎ (((b.items ≡ [])
 -- The batch wasn't written, and the tables are unchanged. If it has no mark of an atomic group, and no batch was
 -- pending:
 -- - Its record would be too long, or the error has a reason that any part of a purge may have.
--- - If its items are copies, the log has the same contents; or the error is `Failed`, and an open finds them.
+-- - If its items are copies, the log has the same contents; or the error is `Failed`, and an open finds these contents.
 pub record FailsToCopy (gate : Option ℕ) (b : Batch) (error : Error) (s t : EngineState) : Type 0 where
   pub same : t ≡ record s { pipes = t.pipes }
   pub tells : has_failed s ≡ false → IsTrue (has_failed t) ↔ (error ≡ errors.Failed)

@@ -18,8 +18,9 @@ use Rattle.raft_log_record_items.specs.declared.raw_message.RawMessage.{RawMessa
 abbrev pub max_piece : ℕ
 max_piece = 131072
 
--- How many of the entries at these locations, from the first on, are copied in one batch: as many as one record may
--- have, and none from the first one on that is in a file after the gate. A record may have one entry, however long.
+-- How many of the entries at these locations are copied in one batch. They are the first ones, as many as one record
+-- may have, and all of them come before the first entry in a file after the gate. A record may have one entry, however
+-- long.
 abbrev pub copied_count : ℕ → List Place → ℕ
 copied_count gate ps = min (sized (Some max_piece) ps) (passing gate ps)
 

@@ -25,8 +25,9 @@ MayLoseFiles InAppend v = (g : ℕ) → OwesNothing (whereabouts (v g))
 MayLoseFiles InRewrite v = Unit {0}
 
 -- `count` files left the queue's live range, and no block is cached. `least` is the lowest file of the queue that any
--- group needs, or `limit` if that is lower. If nothing was pending, the live range begins at `least` now, or where it
--- began if that is later. The log then keeps its contents, if no tombstone is owed or the queue is Rewrite.
+-- group needs, or `limit` if that is lower or no group needs a file. Suppose that nothing was pending. Then the live
+-- range begins at `least` now, or where it began before if that is later. If also no tombstone is owed or the queue is
+-- Rewrite, the log keeps its contents.
 pub record LosesFiles (queue : LogQueue) (limit : ℕ) (m : MemTables) (count : ℕ) (s t : EngineState) : Type 0 where
   pub least : ℕ
   pub is : IsLeastOf queue limit m least
@@ -53,9 +54,9 @@ IsNoLimit queue limit (errors.Other fault) s =
     IsInSpan limit (pipe_at (which_of queue) (files_of s.pipes)) → ⊥
 IsNoLimit queue limit _ s = ⊥
 
--- Taking files below `limit` out of the queue's live range failed: the error says why, or `limit` isn't in that range.
--- A log with nothing pending keeps its contents, or an open finds them if the error is `Failed`. For Append, this
--- requires that no tombstone is owed.
+-- Taking files below `limit` out of the queue's live range failed. Suppose that nothing was pending. Then the error
+-- says why, or `limit` isn't in that range. The log keeps its contents, or if the error is `Failed`, an open finds
+-- them. For Append, the last sentence requires that no tombstone is owed.
 pub record FailsToLoseFiles (queue : LogQueue) (limit : ℕ) (error : Error) (s t : EngineState) : Type 0 where
   pub tells : has_failed s ≡ false → IsTrue (has_failed t) ↔ (error ≡ errors.Failed)
   pub later : IsLater s.pipes.disk t.pipes.disk

@@ -1,4 +1,4 @@
--- The parts of an atomic group of records, by which one Raft group is restated.
+-- The parts of an atomic group of records, by which one Raft group is restated: written again in Rewrite.
 use Rattle.std.specs.Prelude.{◌≡◌, ◌+◌, ◌<◌, ◌≤◌, ℕ, false, List, [], ◌∷◌, ◌++◌, length}
 use Rattle.raft_log_fs.specs.Causes.{IsLater}
 use Rattle.raft_log_record_items.specs.declared.item.LogItem.{LogItem}

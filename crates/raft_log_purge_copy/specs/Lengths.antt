@@ -1,4 +1,4 @@
--- When a record that a purge writes is too long. It has entries and keys of one group, or the owed tombstones.
+-- When a record that a purge writes is too long. The record has entries and keys of one group, or the owed tombstones.
 use Rattle.std.specs.Prelude.{◌≡◌, ◌⊎◌, ◌<◌, ◌≤◌, ◌^◌, ℕ, List, [], ◌∷◌, ◌++◌, length, map, Some}
 use Rattle.std.specs.Cmp.Lexicographic.{slice_cmp}
 use Rattle.std.specs.List.Sorted.{IsStrictlySortedBy}

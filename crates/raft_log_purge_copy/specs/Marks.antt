@@ -21,7 +21,7 @@ abbrev pub showing : LogPipes → (ℕ → Shown) → (ℕ → Bool) → BlockCa
 showing v tables counts cache = record { tables = tables; counts = counts; pipes = v; cache = cache }
 
 -- The tombstones that these tables owe were written to Rewrite; the pipes were `v` before, and are `w` now. If the log
--- had the contents `m` with no batch pending, it has them still, with tables that owe no tombstone any more.
+-- had the contents `m` with no batch pending, it still has them, and the tables owe no tombstone any more.
 pub record WritesMarks (tables : ℕ → Shown) (v w : LogPipes) : Type 0 where
   pub alive : is_failed v ≡ false → is_failed w ≡ false
   pub later : IsLater v.disk w.disk

@@ -44,8 +44,9 @@ ValueMayMove gate old new =
     (new ≡ old) ⊎ ((h : KeyValue) × (old ≡ Some h) × (is_asked (Some gate) h ≡ true)
     × ((n : ℕ) × (new ≡ Some (record { bytes = h.bytes; appended = false; file = n }))))
 
--- From `v` to `w`, some of the group's first entries in Append and some of its values there moved to Rewrite, perhaps
--- none. They were in files up to the gate. All else is unchanged, also the tombstones that the group owes.
+-- From `v` to `w`, a prefix of the group's entries in Append and some of its values in Append moved to Rewrite. There
+-- may be none of either. What moved was in files up to the gate. Everything else is unchanged, also the tombstones that
+-- the group owes.
 pub record IsPartlyRewritten (gate : ℕ) (v w : Shown) : Type 0 where
   pub first : w.first ≡ v.first
   pub all : length w.places ≡ length v.places

@@ -61,6 +61,6 @@ pub record OwesNoMore (v w : Shown) : Type 0 where
 abbrev pub OweNoMore : (ℕ → Shown) → (ℕ → Shown) → Type 0
 OweNoMore v w = (g : ℕ) → OwesNoMore (v g) (w g)
 
--- the call added no owed tombstone: if `v` owes all tombstones that the tables `old` owe, it owes all of `new` too
+-- the call added no owed tombstone: tables `v` that owe all that `old` owes also owe all that `new` owes
 abbrev pub AddsNoMarks : MemTables → MemTables → Type 0
 AddsNoMarks old new = (v : ℕ → Shown) → OweNoMore v (shown_of old) → OweNoMore v (shown_of new)

@@ -1,4 +1,5 @@
--- Why a part of a purge fails. A comment that says *the error says why* means one of these reasons.
+-- Why a part of a purge fails. A comment that says *the error says why* means that the error has one of these reasons
+-- if no batch was pending.
 use Rattle.std.specs.Prelude.{◌≡◌, ◌⊎◌, ℕ, false, List, [], Some}
 use Rattle.raft_log_model_laws.specs.Meaning.Slot.{Key}
 use Rattle.raft_log_model_laws.specs.Meaning.Content.{Value}
@@ -19,7 +20,7 @@ use Rattle.raft_log_engine_laws.specs.Fetching.{IsUntold}
 use Rattle.raft_log_purge_copy.specs.Entries.{as_bytes}
 use Rattle.raft_log_purge_copy.specs.Lengths.{HasLongGroup, OwesTooMuch}
 
--- one of the queues has the last number that a file name can have
+-- the active file of one of the queues has the last number that a file name can have
 abbrev pub EndsItsNumbers : LogPipes → Type 0
 EndsItsNumbers v = (which : Which) × HasLastNumber which v
 
@@ -52,7 +53,7 @@ FailsAtARecord error s t = Fails s.pipes.disk t.pipes.disk × RecordIsRefused er
 -- - `Io`: a record wasn't written, or an entry can't be read
 -- - `TryAgain`: a record wasn't written
 -- - `Failed`: a file system call failed
--- - `NumberRange`: a queue has the last number that a file name can have
+-- - `NumberRange`: a queue's active file has the last number that a file name can have
 -- - `Full`: a record of what one group has would be too long
 -- - `InvalidArgument`: a value would be a mark of an atomic group
 -- - `Memory`: memory ran out
@@ -78,7 +79,7 @@ abbrev pub HasPurgeReason : LogDirectories → LogMap → Error → EngineState 
 HasPurgeReason home m error s t = HasReason home m error s t ⊎ ((error ≡ errors.Full) × OwesTooMuch s.tables)
 
 -- Why rotating a queue, or taking its files out of the live range, failed. `Failed`: a file system call failed.
--- `NumberRange`: a queue has the last number that a file name can have. `Memory`: memory ran out.
+-- `NumberRange`: a queue's active file has the last number that a file name can have. `Memory`: memory ran out.
 abbrev pub HasFileReason : Error → EngineState → EngineState → Type 0
 HasFileReason errors.Failed s t = Fails s.pipes.disk t.pipes.disk
 HasFileReason errors.NumberRange s t = EndsItsNumbers t.pipes

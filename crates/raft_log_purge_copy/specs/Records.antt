@@ -18,7 +18,7 @@ use Rattle.raft_log_purge_copy.specs.Refusals.{IsUnrecorded}
 use Rattle.raft_log_purge_copy.specs.Syncing.{MaySync}
 
 -- The batch's record was written to Rewrite at `block`, perhaps after a sync; the pipes were `v` before, and are `w`
--- now. `items` are the batch's items with the locations of their entries there.
+-- now. `items` are the batch's items with the locations that their entries have in `block`.
 pub record WritesToRewrite (b : Batch) (block : FileBlockHandle) (items : List LogItem) (v w : LogPipes)
     : Type 0 where
   pub synced : LogPipes

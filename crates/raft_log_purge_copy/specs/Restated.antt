@@ -25,10 +25,10 @@ abbrev pub IsNotedFrom : ℕ → Option GroupFiles → Type 0
 IsNotedFrom n None = Unit {0}
 IsNotedFrom n (Some files) = n ≤ files.from
 
--- From `v` to `w` the group was restated: all entries and values that it has in Rewrite are in file `n` and later
--- ones.
+-- From `v` to `w` the group was restated: all entries and values that it has in Rewrite are in file `n` and later ones.
 -- - `noted`: the first file noted for atomic groups isn't lower than before, or is `n` or later.
--- - `past`: if the files noted began after a file `k` below `n`, or ended at or before it, one of the two still holds.
+-- - `past`: suppose that the files noted began after a file `k` below `n`, or ended at `k` or before. Then those noted
+--   now begin after `k`, or end at `k` or before.
 -- - `owes`: the group owes the same tombstones.
 pub record IsRestatedFrom (n : ℕ) (v w : Shown) : Type 0 where
   pub entries : LieFrom n (take w.rewritten w.places)
@@ -51,8 +51,9 @@ abbrev pub StaysOrIsLeft : Error → EngineState → EngineState → Type 0
 StaysOrIsLeft error s t = (home : LogDirectories) (m : LogMap) → Represents home s m []
     → Represents home t m [] ⊎ ((error ≡ errors.Failed) × IsRecoverableAs home t.pipes.disk m [])
 
--- Each group that passes the test was restated; other groups are unchanged. If no batch was pending, the log has the
--- same contents. Then all that these groups have in Rewrite is in the file that was active in `s`, or in later ones.
+-- Each group that passes the test was restated; other groups are unchanged. Suppose that no batch was pending. Then the
+-- log has the same contents, and all that these groups have in Rewrite is in Rewrite's file that was active in `s`, or
+-- in later ones.
 pub record Restates (test : ℕ → Bool) (s t : EngineState) : Type 0 where
   pub others : (g : ℕ) → test g ≡ false → t.tables g ≡ s.tables g
   pub counts : t.counts ≡ s.counts

@@ -35,9 +35,9 @@ pub record TurnsAndLoses (queue : LogQueue) (m : MemTables) (count : ℕ) (s t :
   pub keeps : (home : LogDirectories) (log : LogMap) → HoldsSettled home s log
       → MayLoseFiles (which_of queue) s.tables → HoldsSettled home t log
 
--- The queue's rotation failed, or taking its files out of the live range did; the error says why. A log with nothing
--- pending keeps its contents, or an open finds them if the error is `Failed`. For Append, this requires that no
--- tombstone is owed.
+-- The queue's rotation failed, or taking its files out of the live range did. Suppose that nothing was pending. Then
+-- the error says why. The log keeps its contents, or if the error is `Failed`, an open finds them. For Append, the last
+-- sentence requires that no tombstone is owed.
 pub record FailsToTurn (queue : LogQueue) (error : Error) (s t : EngineState) : Type 0 where
   pub tells : has_failed s ≡ false → IsTrue (has_failed t) ↔ (error ≡ errors.Failed)
   pub later : IsLater s.pipes.disk t.pipes.disk

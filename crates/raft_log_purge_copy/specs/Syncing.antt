@@ -26,8 +26,8 @@ abbrev pub SyncsIfDue : ℕ → ℕ → LogPipes → LogPipes → Type 0
 SyncsIfDue old new v w = ((old < max_unsynced) × (new ≡ old) × (w ≡ v))
     ⊎ ((max_unsynced ≤ old) × (new ≡ 0) × SyncsQueue InRewrite v w)
 
--- how many of the `old` unsynced bytes of Rewrite are left when the next record is written: none if a sync is due, as
--- it comes before the record
+-- how many of the `old` unsynced bytes of Rewrite are left when the next record is written: none if a sync is due,
+-- since the sync comes before the record
 abbrev pub left_unsynced : ℕ → ℕ
 left_unsynced old = if nat_lt old max_unsynced then old else 0
 

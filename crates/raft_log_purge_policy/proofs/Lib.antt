@@ -1,2 +1,3 @@
+pub mod Public
 pub mod Listing
 pub mod Surveying

@@ -1,5 +1,5 @@
 -- What was seen of the groups, table by table.
-use Rattle.std.proofs.Common.{◌≡◌, ◌+◌, ◌-◌, ◌^◌, ℕ, Bool, true, false, if◌then◌else◌, List, [], ◌∷◌, ◌++◌, Some, option_map, refl, sym, ap, subst, ◌∙◌, append_assoc, append-nil}
+use Rattle.std.proofs.Common.{◌≡◌, ◌+◌, ◌-◌, ◌^◌, ℕ, Bool, true, if◌then◌else◌, List, [], ◌∷◌, ◌++◌, Some, option_map, refl, sym, ap, subst, ◌∙◌, append_assoc, append-nil}
 use Rattle.std.specs.Prelude.{min}
 use Rattle.std.specs.List.{filter}
 use Rattle.std.specs.List.Sorted.{IsStrictlySortedBy}
@@ -13,10 +13,7 @@ use Rattle.raft_log_memtables.specs.declared.group_table.GroupTable.{GroupTable}
 use Rattle.raft_log_memtables.specs.declared.mem_tables.MemTables.{MemTables}
 use Rattle.raft_log_memtables.specs.Owing.{AddsOwed}
 use Rattle.raft_log_memtables.specs.Tables.{raw_of}
-use Rattle.raft_log_memtables.proofs.Counting.{AreFound, HasCounted, all_found, counts_none, counts_one_more, each_counted}
-use Rattle.raft_log_memtables.proofs.Groups.{all_known, group_list}
-use Rattle.raft_log_memtables.proofs.Owed.{OwesAll, all_owed, owes_more}
-use Rattle.raft_log_memtables.proofs.Segments.{AllOnce}
+use Rattle.raft_log_memtables.proofs.Public.{all_found, all_known, all_owed, counts_none, counts_one_more, each_counted, group_list, owes_more, AllOnce, AreFound, HasCounted, OwesAll}
 use Rattle.raft_log_purge_policy.specs.declared.picking.GroupLists.{GroupLists}
 use Rattle.raft_log_purge_policy.specs.declared.survey.Survey.{Survey}
 use Rattle.raft_log_purge_policy.specs.declared.watermarks.Watermarks.{Watermarks}
@@ -99,9 +96,3 @@ module _ (marks : Watermarks) (counts : ℕ → ℕ) (restated : Bool) (m : MemT
         owed = all_owed m seen.marks.items rest none once h.owed;
         stands = (group_list true es, all_known es once sorted, each_counted es rest seen.standing none once h.counted);
       }
-
--- a survey that was made before is one of now
-pub still_known : (marks : Watermarks) (counts : ℕ → ℕ) (restated : Bool) (m : MemTables) (seen : Survey) → restated ≡ false → seen.watermarks ≡ marks
-    → Surveys seen.watermarks counts false m seen → Surveys marks counts restated m seen
-still_known marks counts restated m seen not same h =
-    subst (λ (b : Bool). Surveys marks counts b m seen) (sym not) (subst (λ (w : Watermarks). Surveys w counts false m seen) same h)

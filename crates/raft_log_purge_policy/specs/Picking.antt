@@ -22,8 +22,8 @@ abbrev pub asks_in : Watermarks → Option Raw → Bool
 asks_in marks None = false
 asks_in marks (Some t) = asks marks t
 
--- whether the group with this table is rewritten, if `rounds` purges in a row asked for it before; never if there is no
--- table
+-- whether the group with this table is rewritten, if `rounds` purges in a row asked to compact it before; never if
+-- there is no table
 abbrev pub rewrites_in : Watermarks → ℕ → Option Raw → Bool
 rewrites_in marks rounds None = false
 rewrites_in marks rounds (Some t) = rewrites marks rounds t
@@ -32,7 +32,7 @@ rewrites_in marks rounds (Some t) = rewrites marks rounds t
 abbrev pub asks_at : Watermarks → MemTables → ℕ → Bool
 asks_at marks m g = asks_in marks (raw_of m g)
 
--- whether group `g` is rewritten; `counts` says in how many purges in a row each group was asked for before
+-- whether group `g` is rewritten; `counts` gives for each group how many purges in a row asked to compact it before
 abbrev pub rewrites_at : Watermarks → (ℕ → ℕ) → MemTables → ℕ → Bool
 rewrites_at marks counts m g = rewrites_in marks (counts g) (raw_of m g)
 
@@ -52,8 +52,8 @@ answers_in marks restated (Some t) = asks_by marks t || (restated && nat_lt 32 (
 abbrev pub answers_at : Option Watermarks → Bool → MemTables → ℕ → Bool
 answers_at marks restated m g = answers_in marks restated (raw_of m g)
 
--- `picked` lists the groups that a purge of Append up to these watermarks picks. `counts` says in how many purges in a
--- row each group was asked for before; `restated` says whether this purge has compacted Rewrite.
+-- `picked` lists the groups that a purge of Append up to these watermarks picks. `counts` gives for each group how many
+-- purges in a row asked to compact it before. `restated` says whether this purge has compacted Rewrite.
 pub record ListsPicked (marks : Watermarks) (counts : ℕ → ℕ) (restated : Bool) (m : MemTables) (picked : GroupLists)
     : Type 0 where
   pub asked : ListsGroups (asks_at marks m) picked.asked.items

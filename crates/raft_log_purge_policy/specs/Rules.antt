@@ -33,8 +33,9 @@ abbrev pub asks : Watermarks → Raw → Bool
 asks marks t = is_old marks t && is_heavy marks t
 
 -- The group is rewritten if it has an entry or value in Append up to the watermark `rewrite`, and meets one of two
--- conditions. If the caller is asked to compact it, nine purges in a row must have asked before. If not, the group must
--- be light.
+-- conditions:
+-- - The caller is asked to compact it, and nine purges in a row asked before.
+-- - The caller isn't asked to compact it, and it is light.
 abbrev pub rewrites : Watermarks → ℕ → Raw → Bool
 rewrites marks rounds t =
     (if asks marks t then nat_le 9 rounds else is_light marks t) && has_to_rewrite marks t

@@ -14,13 +14,13 @@ use Rattle.raft_log_dual_pipes.specs.LastFile.{last_of}
 abbrev pub first_at : Which → LogPipes → ℕ
 first_at which v = (pipe_at which (files_of v)).first_seq
 
--- The number of the file after `thousandths` thousandths of the files in Append's live range. It is at most that of the
--- last file before the active one.
+-- The number of the first file after this share of Append's live range, in thousandths of its files. It is at most the
+-- number before that of the active file.
 abbrev pub watermark : ℕ → LogPipes → ℕ
 watermark thousandths v = min (seq_at InAppend v thousandths 1000) (last_of InAppend v - 1)
 
--- The watermarks of a purge of Append. Files up to `rewrite`, the file after 70 percent of the live range, are
--- rewritten. Files below `compact`, the file after 20 percent, are old.
+-- The watermarks of a purge of Append. Files up to `rewrite`, the first file after 70 percent of the live range, are
+-- rewritten. Files below `compact`, the first file after 20 percent, are old.
 abbrev pub watermarks_of : LogPipes → Watermarks
 watermarks_of v = record { rewrite = watermark 700 v; compact = watermark 200 v }
 

@@ -94,11 +94,6 @@ regroup : {A E : Type 0} (front : List A) (n : A) (read : Result (List A × List
 regroup {A = A} {E = E} front n (Ok x) = let same : front ++ (n ∷ x.0) ≡ (front ++ n ∷ []) ++ x.0 = simp append_assoc in rw same refl
 regroup front n (Err f) = refl
 
--- nothing is read yet
-pub times_start : {A E : Type 0} (read : Result (List A × List ℕ) E) → with_front [] read ≡ read
-times_start (Ok x) = refl
-times_start (Err e) = refl
-
 -- one more is read
 pub times_go_on : {A E : Type 0} (p : Reader A E) (front : List A) (count i : ℕ) (bytes : List ℕ) (n : A) (after : List ℕ) (total : Result (List A × List ℕ) E) → i < count → p bytes ≡ Ok (n, after)
     → with_front front (times_at p (count - i) bytes) ≡ total → with_front (front ++ n ∷ []) (times_at p (count - (i + 1)) after) ≡ total

@@ -1,3 +1,4 @@
+pub mod Public
 pub mod Fixed
 pub mod Grammar
 mod Answered

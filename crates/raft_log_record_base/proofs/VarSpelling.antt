@@ -1,10 +1,10 @@
 -- The spelling that is written is of the grammar, and none is shorter.
-use Rattle.std.proofs.Common.{◌≡◌, ℕ, ℤ, zero, suc, ◌+◌, ◌-◌, ◌*◌, ◌/◌, ◌%◌, ◌^◌, ◌<◌, ◌≤◌, List, [], ◌∷◌, ◌++◌, length, take, set, refl, sym, ap, subst, ◌∙◌, inl, inr, arith, append_assoc}
+use Rattle.std.proofs.Common.{◌≡◌, ℕ, zero, suc, ◌+◌, ◌-◌, ◌*◌, ◌/◌, ◌%◌, ◌^◌, ◌<◌, ◌≤◌, List, [], ◌∷◌, ◌++◌, length, take, set, refl, sym, ap, subst, ◌∙◌, inl, inr, arith, append_assoc}
 use Rattle.std.proofs.lemmas.Bool.{lt-ltb, le-ltb, cases_lt}
 use Rattle.std.proofs.lemmas.List.{take_more_set}
 use Rattle.std.proofs.lemmas.Nat.{and_mask, or_shifted, or_comm, pow-add}
 use Rattle.std.specs.Prelude.{bit_and, bit_or}
-use Rattle.raft_log_record_base.specs.Number.{IsBase128, IsVarU64, IsVarI64, IsShortest, zigzag, var_bytes_within, var_u64_bytes}
+use Rattle.raft_log_record_base.specs.Number.{IsBase128, IsVarU64, IsShortest, var_bytes_within, var_u64_bytes}
 use Rattle.raft_log_record_base.proofs.Var.{goes_on, power_grows}
 
 last_spelling : (left n : ℕ) → n < 128 → var_bytes_within left n ≡ n ∷ []
@@ -60,9 +60,6 @@ var_u64_shortest n lt = record {
 pub one_byte : (n : ℕ) → n < 128 → var_u64_bytes n ≡ n ∷ []
 unfolding var_u64_bytes
 one_byte n lt = last_spelling 9 n lt
-
-pub var_i64_shortest : (v : ℤ) → zigzag v < 2 ^ 64 → IsShortest IsVarI64 (var_u64_bytes (zigzag v)) v
-var_i64_shortest v lt = let s = var_u64_shortest (zigzag v) lt in record { spelled = s.spelled; shortest = s.shortest }
 
 -- ---- the loop that writes it
 

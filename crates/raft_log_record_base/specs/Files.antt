@@ -37,8 +37,8 @@ abbrev pub version_number : Version → ℕ
 version_number V1 = 1
 version_number V2 = 2
 
--- The signature of records in a file of this format version and file number. In V2 it is the low 32 bits of the file
--- number; V1 has none. It is xored into the checksum of each record's footer.
+-- The signature of the records in a file of this format version and with this file number. In V2 it is the low 32 bits
+-- of the file number. V1 has no signature. The writer xors the signature into the checksum of each record's footer.
 abbrev pub signature : Version → ℕ → Option ℕ
 signature V1 number = None
 signature V2 number = Some (number % 2 ^ 32)
@@ -52,6 +52,6 @@ abbrev pub is_signed : Version → Bool
 is_signed V1 = false
 is_signed V2 = true
 
--- a handle with length 0: file 0 of Append, at offset 0
+-- the location with file 0 of Append, offset 0 and length 0; it is used if there is no block
 abbrev pub no_block : FileBlockHandle
 no_block = record { id = record { queue = Append; seq = 0 }; offset = 0; len = 0 }

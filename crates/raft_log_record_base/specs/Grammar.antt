@@ -1,13 +1,13 @@
--- Grammars: a grammar relates bytes to the value that they spell. The rules here build one grammar from others. After
--- each rule comes the function that reads it from the front of a list.
+-- Grammars: a grammar relates bytes to the value that they spell. The rules here build a grammar from others. After
+-- some rules comes the function that reads such a grammar from the front of a list of bytes.
 use Rattle.std.specs.Prelude.{◌≡◌, ℕ, zero, suc, Bool, List, [], ◌∷◌, ◌++◌, Result, Ok, Err, MatchBool, MatchResult, if◌then◌else◌}
 
--- A function that reads a value from the front of bytes, and returns the value and the remaining bytes, or an error.
+-- a function that reads a value from the front of bytes, and returns the value and the remaining bytes, or an error
 abbrev pub Reader : Type 0 → Type 0 → Type 0
 Reader X E = List ℕ → Result (X × List ℕ) E
 
--- `read` reads the grammar `P`. The bytes that it consumes spell the value that it returns. If bytes begin with a
--- spelling, `read` consumes exactly the spelling and returns its value.
+-- `read` reads the grammar `P`. If it succeeds, the bytes that it consumes spell the value that it returns. If the
+-- bytes begin with a spelling, `read` consumes exactly this spelling and returns its value.
 pub record IsReader {X E : Type 0} (read : Reader X E) (P : List ℕ → X → Type 0) : Type 0 where
   pub takes : (bytes : List ℕ) (y : X × List ℕ) → read bytes ≡ Ok y
       → (text : List ℕ) × P text y.0 × (bytes ≡ text ++ y.1)
@@ -27,7 +27,8 @@ abbrev pub ◌>>=◌ : {A B E : Type 0} → Result A E → (A → Result B E) �
 abbrev pub IsKnown : {A : Type 0} → A → List ℕ → A → Type 0
 IsKnown x bytes y = (bytes ≡ []) × (y ≡ x)
 
--- the bytes are a spelling by `P`, then one by `Q`, which may depend on the value of the first
+-- The bytes are a spelling by `P`, and then a spelling of `y` by `Q`. `Q` may depend on the value of the first
+-- spelling.
 abbrev pub Then : {A B : Type 0} → (List ℕ → A → Type 0) → (A → List ℕ → B → Type 0) → List ℕ → B → Type 0
 Then {A = A} P Q bytes y = (x : A) × (front : List ℕ) × (back : List ℕ)
     × P front x × Q x back y × (bytes ≡ front ++ back)
@@ -61,15 +62,15 @@ Choice b P Q bytes x = MatchBool b (P bytes x) (Q bytes x)
 abbrev pub choice_at : {A E : Type 0} → Bool → Reader A E → Reader A E → Reader A E
 choice_at b p q bytes = if b then p bytes else q bytes
 
--- A decoder returned the value of `reading` and left its remaining bytes as `new`, or failed with its error. If the
--- decoder fails, it consumes nothing of `old`.
+-- A decoder has the same result as `reading`. It returned the same value and left the same remaining bytes (`new`), or
+-- it failed with the same error. If the decoder fails, it consumes nothing of `old`.
 abbrev pub ReadsAs : {X E : Type 0} → Result X E → List ℕ → List ℕ → Result (X × List ℕ) E → Type 0
 ReadsAs (Ok x) old new reading = reading ≡ Ok (x, new)
 ReadsAs (Err e) old new reading = (reading ≡ Err e) × (new ≡ old)
 
--- A decoder of the grammar `P` left `new` of the bytes `old`. The bytes it consumed spell the value that it returned.
--- If `old` begins with a spelling, the decoder consumes exactly that and returns its value. If the decoder fails, it
--- consumes nothing.
+-- A decoder of the grammar `P` left the bytes `new` of the bytes `old`. If it succeeds, the bytes that it consumed
+-- spell the value that it returned. If `old` begins with a spelling, the decoder consumes exactly this spelling and
+-- returns its value. If the decoder fails, it consumes nothing.
 pub record Decodes {X E : Type 0} (P : List ℕ → X → Type 0)
     (result : Result X E) (old new : List ℕ) : Type 0 where
   pub found : MatchResult result (λ x. (text : List ℕ) × P text x × (old ≡ text ++ new)) (λ e. new ≡ old)

@@ -154,8 +154,8 @@ i64_le_bytes v = u64_le_bytes (cast_unsigned w64 v)
 abbrev pub i32_le_bytes : ℤ → List ℕ
 i32_le_bytes v = u32_le_bytes (cast_unsigned w32 v)
 
--- The shortest varint of `n`. The first argument is how many bytes it may have after the first one; if it needs more,
--- the result is no varint of `n`.
+-- The shortest varint of `n`, if it has at most `k` bytes after the first one. `k` is the first argument. If `n` needs
+-- more bytes, the result is no varint of `n`.
 unfoldable pub var_bytes_within : ℕ → ℕ → List ℕ
 var_bytes_within zero n = n ∷ []
 var_bytes_within (suc left) n =
@@ -176,11 +176,11 @@ pub record IsShortest {X : Type 0} (P : List ℕ → X → Type 0) (bytes : List
 
 -- Functions that read a number from the front of bytes.
 
--- reads a number, or fails with a codec's error
+-- reads a number, or fails with an error of the codec
 abbrev pub NumberReader : Type 0 → Type 0
 NumberReader X = Reader X Error
 
--- Reads `size` bytes. If there are fewer, the error is `UnexpectedEof`.
+-- reads `size` bytes; if there are fewer, the error is `UnexpectedEof`
 abbrev pub front_at : ℕ → NumberReader (List ℕ)
 front_at size bytes =
     if nat_lt (length bytes) size then Err (Io UnexpectedEof) else Ok (take size bytes, drop size bytes)
@@ -222,8 +222,9 @@ i64_le_at = mapped_at (cast_signed w64) (low_first_at w64)
 abbrev pub i32_le_at : NumberReader ℤ
 i32_le_at = mapped_at (cast_signed w32) (low_first_at w32)
 
--- Reads a varint with at most `left` bytes after the first. If it has that many, its last byte must be below 2; if not,
--- the error is `InvalidData`. (The tenth byte of a 64-bit number has only bit 63.)
+-- Reads a varint with at most `left` bytes after the first one. If a varint has exactly `left` bytes after the first,
+-- its last byte must be below 2. Otherwise the error is `InvalidData`. (The tenth byte of a 64-bit number has only bit
+-- 63.)
 unfoldable pub var_within : ℕ → NumberReader ℕ
 var_within left [] = Err (Io UnexpectedEof)
 var_within zero (b ∷ bs) = if nat_lt b 2 then Ok (b, bs) else Err (Io InvalidData)
@@ -238,11 +239,12 @@ var_u64_at bytes = var_within 9 bytes
 unfoldable pub var_i64_at : NumberReader ℤ
 var_i64_at = mapped_at from_zigzag var_u64_at
 
--- If the call succeeds, and the writer's contents `old` are known, then `new` are these contents with `bytes` appended.
+-- If the call succeeds, and the writer's contents `old` before it are known, then the contents `new` are `old` with
+-- `bytes` appended.
 abbrev pub AddsTheseBytes : {X E : Type 0} → Result X E → Option (List ℕ) → Option (List ℕ) → List ℕ → Type 0
 AddsTheseBytes result old new bytes = OnOk result (Appends old new bytes)
 
--- A call returned the number that `reading` reads at the front of `bytes`, and how many bytes that takes. If
+-- A call returned the number that `reading` reads at the front of `bytes`, and how many bytes this number takes. If
 -- `reading` fails, the call fails with the same error.
 abbrev pub FindsNumber : {X : Type 0} → Result (X × ℕ) Error → List ℕ → Result (X × List ℕ) Error → Type 0
 FindsNumber (Ok x) bytes reading = (reading ≡ Ok (x.0, drop x.1 bytes)) × (x.1 ≤ length bytes)
@@ -262,7 +264,7 @@ IsShort result = result ≡ Err (Io UnexpectedEof)
 abbrev pub IsInvalid : {X : Type 0} → Result X Error → Type 0
 IsInvalid result = result ≡ Err (Io InvalidData)
 
--- every byte is 128 or more, so in a varint another byte follows each
+-- every byte is 128 or more; in a varint, another byte follows each such byte
 abbrev pub AllGoOn : List ℕ → Type 0
 AllGoOn [] = Unit {0}
 AllGoOn (b ∷ bs) = (128 ≤ b) × AllGoOn bs
@@ -271,8 +273,8 @@ AllGoOn (b ∷ bs) = (128 ≤ b) × AllGoOn bs
 abbrev pub EndsFirst : List ℕ → Type 0
 EndsFirst bytes = AllGoOn bytes × (length bytes ≤ 9)
 
--- `bytes` begins with nine bytes of 128 or more and a tenth above 1: a varint of more than ten bytes, or a number of
--- 2 ^ 64 or more
+-- `bytes` begin with nine bytes of 128 or more, and then a tenth byte above 1. This is a varint of more than ten bytes,
+-- or its number is 2 ^ 64 or more.
 abbrev pub RunsOver : List ℕ → Type 0
 RunsOver bytes = (front : List ℕ) × (tenth : ℕ) × (rest : List ℕ)
     × (bytes ≡ front ++ tenth ∷ rest) × (length front ≡ 9) × AllGoOn front × (1 < tenth)

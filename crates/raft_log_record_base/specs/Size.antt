@@ -1,4 +1,4 @@
--- Sizes in bytes, as text: how they are printed and parsed.
+-- Sizes as text: how a number of bytes is printed, and how the text of a size is parsed.
 use Rattle.std.specs.Prelude.{◌≡◌, ℕ, ◌+◌, ◌-◌, ◌*◌, ◌/◌, ◌%◌, ◌^◌, ◌<◌, List, [], ◌∷◌, ◌++◌, Option, Some, None, Result, Ok, Err, Bool, false, MatchResult, nat_lt, ◌==◌, ◌&&◌, if◌then◌else◌, codes}
 use Rattle.std.specs.Char.{is_ascii_digit}
 use Rattle.std.specs.Fmt.{decimal}
@@ -22,7 +22,8 @@ size_text n =
 
 -- Parsing.
 
--- `n` continued by the decimal digits at the front of the text, and the text that follows them
+-- Reads the decimal digits at the front of the text. The result is the number whose digits are those of `n` and then
+-- these, and the text after these digits.
 unfoldable pub number_in : ℕ → List ℕ → ℕ × List ℕ
 number_in n [] = (n, [])
 number_in n (c ∷ cs) = if is_ascii_digit c then number_in (n * 10 + (c - 48)) cs else (n, c ∷ cs)
@@ -32,7 +33,7 @@ abbrev pub starts_with_digit : List ℕ → Bool
 starts_with_digit [] = false
 starts_with_digit (c ∷ cs) = is_ascii_digit c
 
--- the number of bytes in the unit with this letter, K, M, G, T or P; none for any other letter
+-- the number of bytes in the unit with this letter (K, M, G, T or P), or `None` for any other letter
 abbrev pub power_of : ℕ → Option ℕ
 power_of letter =
     if letter == 75 then Some (2 ^ 10)
@@ -42,8 +43,8 @@ power_of letter =
     else (if letter == 80 then Some (2 ^ 50)
     else None))))
 
--- The number of bytes in the unit with this name. B, or no name, is one byte. K, M, G, T and P may be followed by
--- nothing, B or iB.
+-- The number of bytes in the unit with this name, or `None` if there is no such unit. The empty name and B are one
+-- byte. K, M, G, T and P may be followed by nothing, B or iB.
 unfoldable pub unit_size : List ℕ → Option ℕ
 unit_size [] = Some 1
 unit_size (a ∷ []) = if a == 66 then Some 1 else power_of a
@@ -51,7 +52,7 @@ unit_size (a ∷ b ∷ []) = if b == 66 then power_of a else None
 unit_size (a ∷ b ∷ c ∷ []) = if b == 105 && c == 66 then power_of a else None
 unit_size (a ∷ b ∷ c ∷ d ∷ ds) = None
 
--- `n` times the unit, if there is a unit and the product is below 2 ^ 64
+-- `n` times the unit; the error `UnknownUnit` if there is no unit, or `TooLarge` if the product is 2 ^ 64 or more
 abbrev pub sized : ℕ → Option ℕ → Result ℕ ParseSizeError
 sized n None = Err UnknownUnit
 sized n (Some unit) = if nat_lt (n * unit) (2 ^ 64) then Ok (n * unit) else Err TooLarge
@@ -69,8 +70,8 @@ size_in text =
 abbrev pub GivesSize : Result ReadableSize ParseSizeError → Result ℕ ParseSizeError → Type 0
 GivesSize result size = MatchResult result (λ s. size ≡ Ok s.0) (λ e. size ≡ Err e)
 
--- A call parsed the size in `text`, without the white space at both ends, and returned `result`. The printed form of
--- a size is parsed as the size.
+-- A call parsed the size in `text`, ignored the white space at both ends, and returned `result`. If `text` is the
+-- printed form of a size below 2 ^ 64, the call returned this size.
 pub record ReadsSize (text : List ℕ) (result : Result ReadableSize ParseSizeError) : Type 0 where
   pub exact : GivesSize result (size_in (trim text))
   pub trimmed : IsTrim text (trim text)

@@ -5,7 +5,7 @@ use Rattle.raft_log_record_base.specs.declared.codec.error.Error.TheVariants.{Io
 use Rattle.raft_log_record_base.specs.declared.size.ParseSizeError.{ParseSizeError}
 use Rattle.raft_log_record_base.specs.declared.size.ParseSizeError.TheVariants.{NoNumber, UnknownUnit, TooLarge}
 
--- The text of a codec's error. For an I/O error there is none here, because no contract says how its kind is printed.
+-- The text of an error of the codec. An I/O error has no text here, because no contract says how its kind is printed.
 abbrev pub codec_fault_text : Error → Option (List ℕ)
 codec_fault_text (Io kind) = None
 codec_fault_text KeyLength = Some (codes "wrong length of a key")

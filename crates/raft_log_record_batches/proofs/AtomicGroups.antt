@@ -6,8 +6,7 @@ use Rattle.raft_log_record_frames.specs.declared.status.AtomicGroupStatus.{Atomi
 use Rattle.raft_log_record_frames.specs.declared.marking.Marking.TheVariants.{Unmarked}
 use Rattle.raft_log_record_frames.specs.Marking.{mark_item, marking_of_items}
 use Rattle.raft_log_record_frames.specs.Meaning.{BecomesPart}
-use Rattle.raft_log_record_frames.proofs.Marks.{written_mark}
-use Rattle.raft_log_record_frames.proofs.Meanings.{becomes_part}
+use Rattle.raft_log_record_frames.proofs.Public.{becomes_part, written_mark}
 use Rattle.raft_log_record_batches.specs.Batch.{Batch, with_item, Becomes}
 
 -- a batch without a mark becomes a part of a group by the mark that is added

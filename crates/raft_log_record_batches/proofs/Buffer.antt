@@ -10,7 +10,7 @@ use Rattle.raft_log_record_batches.specs.declared.log_batch.BatchState.TheVarian
 use Rattle.raft_log_record_frames.specs.Record.{signed, block_bytes, footer_bytes, header_bytes, record_len, record_bytes}
 use Rattle.raft_log_record_frames.specs.Made.{HoldsRecordBytes}
 use Rattle.raft_log_record_batches.specs.Batch.{HoldsRecord, HoldsIn, IsMade, batch_bytes, roomy}
-use Rattle.raft_log_record_frames.proofs.Made.{block_more, four_bytes, header-length, record-length}
+use Rattle.raft_log_record_frames.proofs.Public.{block_more, four_bytes, header-length, record-length}
 
 -- room for a header is made in an empty buffer alone
 pub roomy_same : (buffer : List ℕ) → 1 ≤ length buffer → roomy buffer ≡ buffer
@@ -140,11 +140,6 @@ made_long state buffer sum items entries made some h =
     let same = made_roomy state buffer sum items entries made some h in
     let held = made_holds state (roomy buffer) sum items entries made some h in
     omega (arith, ap (λ (l : List ℕ). length l) same, ap (λ (l : List ℕ). length l) held.1.bytes, record-length held.0 items entries)
-
--- an empty batch holds nothing
-pub empty_holds : (signature : Option ℕ) (buffer : List ℕ) (sum : ℕ) (items : List LogItem) (entries : List ℕ) → length items ≡ 0 → HoldsRecord signature buffer sum items entries
-empty_holds signature buffer sum [] entries e = tt
-empty_holds signature buffer sum (x ∷ xs) entries e = absurd (omega arith)
 
 -- the record with another checksum at its end, in a buffer that was written over
 pub signed_populates : (n : ℕ) (next : Option ℕ) (buffer new left : List ℕ) (size : ℕ) (sum : ℕ) (state : BatchState) (items : List LogItem)

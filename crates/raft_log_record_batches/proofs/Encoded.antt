@@ -12,8 +12,7 @@ use Rattle.raft_log_record_frames.specs.Made.{HoldsRecordBytes}
 use Rattle.raft_log_record_batches.specs.Batch.{HoldsIn, IsBatch, IsMade, IsSigned, IsReadyForEach, signature_in}
 use Rattle.raft_log_record_frames.specs.Written.{AreBytes}
 use Rattle.raft_log_record_batches.proofs.Buffer.{made_holds, batch_record as bytes_of_some}
-use Rattle.raft_log_record_frames.proofs.Made.{block_more, record-length}
-use Rattle.raft_log_record_frames.proofs.Written.{written_is_record}
+use Rattle.raft_log_record_frames.proofs.Public.{block_more, record-length, written_is_record}
 
 front_bytes : (a b : List ℕ) → AreBytes (a ++ b) → AreBytes a
 front_bytes [] b h = tt

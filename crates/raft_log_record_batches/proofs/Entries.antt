@@ -8,7 +8,7 @@ use Rattle.std.proofs.lemmas.List.Concat.{length-flat_map, flat_map-append}
 use Rattle.raft_log_record_items.specs.declared.entry.EntryIndex.{EntryIndex}
 use Rattle.raft_log_record_items.specs.Run.{FollowsFrom, IsRun, unplaced_entry}
 use Rattle.raft_log_record_items.specs.Placed.{run_len, laid_run}
-use Rattle.raft_log_record_items.proofs.Places.{inner_get, inner_set, laid_run-append, run-laid}
+use Rattle.raft_log_record_items.proofs.Public.{inner_get, inner_set, laid_run-append, run-laid}
 use Rattle.std.specs.Borrow.{Bor}
 use Rattle.raft_log_record_batches.specs.Entries.{RisesFrom, IsIndexRun, entries_of, joined, bytes_len, slices_bytes, laid_slices}
 

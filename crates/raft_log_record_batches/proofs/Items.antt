@@ -9,7 +9,7 @@ use Rattle.raft_log_record_items.specs.declared.entry.EntryIndex.{EntryIndex}
 use Rattle.raft_log_record_items.specs.declared.item.LogItemContent.{LogItemContent}
 use Rattle.raft_log_record_items.specs.declared.item.LogItemContent.TheVariants as contents
 use Rattle.raft_log_record_items.specs.declared.item.LogItem.{LogItem}
-use Rattle.raft_log_record_items.proofs.ItemPlaces.{laid_out-append}
+use Rattle.raft_log_record_items.proofs.Public.{laid_out-append}
 use Rattle.raft_log_record_items.specs.Placed.{run_len, content_len, entries_len, laid_run, laid_content, laid_out}
 use Rattle.raft_log_record_batches.specs.declared.log_batch.BatchState.{BatchState}
 use Rattle.raft_log_record_batches.specs.declared.log_batch.BatchState.TheVariants.{Filling, Populated, Signed, Written}
@@ -142,10 +142,6 @@ pub some_items : (b : Bool) (xs : List LogItem) → (IsTrue b ↔ (xs ≡ [])) �
 some_items true [] h e = absurd cc
 some_items false [] h e = let told : IsTrue false = h.1 refl in absurd cc
 some_items b (x ∷ xs) h e = omega arith
-
-pub no_items_left : (b : Bool) (xs : List LogItem) → (IsTrue b ↔ (xs ≡ [])) → b ≡ true → length xs ≡ 0
-no_items_left true xs h e = ap (λ (l : List LogItem). length l) (h.0 refl)
-no_items_left false xs h e = absurd cc
 
 -- an item that was added where there was room for it
 pub pushed_items : (old roomy new : ItemBatch) (given item : LogItem) → AddsItems old roomy [] → new ≡ record roomy { items = roomy.items ++ given ∷ [] } → given ≡ item → new.items ≡ old.items ++ item ∷ []

@@ -13,7 +13,7 @@ use Rattle.raft_log_record_items.specs.declared.op_type.OpType.{OpType}
 use Rattle.raft_log_record_items.specs.declared.op_type.OpType.TheVariants as ops
 use Rattle.raft_log_record_items.specs.Writing.{bytes_bytes, command_bytes, content_bytes, entries_bytes, item_bytes, items_bytes, key_value_bytes, lengths_bytes, operation_bytes, value_of}
 use Rattle.raft_log_record_frames.specs.Record.{block_bytes}
-use Rattle.raft_log_record_frames.proofs.Made.{four_bytes}
+use Rattle.raft_log_record_frames.proofs.Public.{four_bytes}
 use Rattle.raft_log_record_frames.specs.ItemBatch.{all_entries, content_entries}
 use Rattle.raft_log_record_batches.specs.Bounds.{key_value_len, keys_values_len, operation_len}
 use Rattle.raft_log_record_batches.specs.Laws.{NoRecordIsLonger}

@@ -1,3 +1,4 @@
+pub mod Public
 pub mod AtomicGroups
 pub mod BoundLemmas
 pub mod Buffer

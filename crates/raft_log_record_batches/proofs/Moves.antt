@@ -17,9 +17,9 @@ use Rattle.raft_log_record_batches.specs.declared.log_batch.BatchState.TheVarian
 use Rattle.raft_log_record_frames.specs.Record.{block_bytes}
 use Rattle.raft_log_record_batches.specs.Batch.{IsBatch, max_entries_len, batch_size, roomy}
 use Rattle.raft_log_record_frames.specs.ItemBatch.{items_size}
-use Rattle.raft_log_record_frames.proofs.Made.{four_bytes}
+use Rattle.raft_log_record_frames.proofs.Public.{four_bytes}
 use Rattle.raft_log_record_batches.proofs.Buffer.{all_entries, in_filling, roomy_same}
-use Rattle.raft_log_record_batches.proofs.Items.{run_len-laid, laid_twice, filling_size, more_bytes, items_added, still_filling}
+use Rattle.raft_log_record_batches.proofs.Items.{run_len-laid, laid_twice, filling_size, more_bytes, items_added}
 
 -- ---- written items have the same bytes, and lie where they lay
 
@@ -138,16 +138,6 @@ merged_seen state state' buffer buffer' new len len' sum sum' items items' e e' 
     let all : take len' (drop 16 buffer') ≡ drop 16 buffer' = all_entries len' buffer' h'.room (in_filling state' buffer' sum' items' (take len' (drop 16 buffer')) e' h'.holds) in
     let there : 1 ≤ length new = omega (arith, ap (λ (l : List ℕ). length l) grown, length-append buffer (drop 16 buffer'), size) in
     ap (λ (l : List ℕ). take (len + len') (drop 16 l)) (roomy_same new there ∙ grown) ∙ more_bytes buffer (drop 16 buffer') len len' size count ∙ ap (λ (l : List ℕ). take len (drop 16 buffer) ++ l) (sym all)
-
--- what is left of a batch that gave all away
-pub emptied : (state : BatchState) (buffer : List ℕ) (sum : ℕ) → state ≡ Filling → length buffer ≡ 16 → IsBatch state buffer 0 sum []
-emptied state buffer sum e size = record {
-  room = omega (arith, size);
-  fits = omega arith;
-  adds = refl;
-  laid = refl;
-  holds = still_filling state buffer (take 0 (drop 16 buffer)) sum [] e size;
-}
 
 -- the bytes behind the header of a buffer, which may have no header yet
 pub behind_room : (buffer : List ℕ) (n : ℕ) → n ≡ min 16 (length buffer) → 16 ≤ length (roomy buffer) → drop n buffer ≡ drop 16 (roomy buffer)

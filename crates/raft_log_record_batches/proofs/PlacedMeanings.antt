@@ -16,14 +16,13 @@ use Rattle.raft_log_record_items.specs.declared.item.LogItem.{LogItem}
 use Rattle.raft_log_record_items.specs.Run.{unplaced}
 use Rattle.raft_log_record_items.specs.Placed.{run_len, content_len, entries_len, laid_run, laid_content, laid_out, written_entry, written_content, written, placed}
 use Rattle.raft_log_record_items.specs.Writing.{plain_operation, plain_content, plain_item}
-use Rattle.raft_log_record_frames.proofs.Made.{block_more}
+use Rattle.raft_log_record_frames.proofs.Public.{block_more, value_again}
 use Rattle.raft_log_record_frames.specs.declared.status.AtomicGroupStatus.{AtomicGroupStatus}
 use Rattle.raft_log_record_frames.specs.declared.marking.Marking.{Marking}
 use Rattle.raft_log_record_frames.specs.declared.marking.Marking.TheVariants.{Unmarked}
 use Rattle.raft_log_record_frames.specs.Marking.{mark_key, mark_of_content, mark_of, content_has_mark_key, has_mark_key, part_or_broken, marking_of, joined_marking, marking_of_items}
 use Rattle.raft_log_record_frames.specs.Meaning.{meaning, tagged, unless_mark, tagged_items, marked, record_of}
 use Rattle.raft_log_record_batches.specs.Places.{entry_bytes, ReadMeansWhatWasAdded}
-use Rattle.raft_log_record_frames.proofs.Meanings.{value_again}
 
 -- ---- the bytes of a run, and more behind them
 

@@ -14,13 +14,12 @@ use Rattle.raft_log_record_items.specs.Writing.{plain_content, plain_item}
 use Rattle.raft_log_record_frames.specs.Record.{block_bytes}
 use Rattle.raft_log_record_base.specs.Number.{u32_le_bytes}
 use Rattle.raft_log_record_checksum.specs.Checksum.{crc32_of}
-use Rattle.raft_log_record_frames.proofs.Made.{block_more, four_bytes}
+use Rattle.raft_log_record_frames.proofs.Public.{all_entries-written, all_lie_in, block_more, four_bytes, run_len-cons}
 use Rattle.raft_log_record_frames.specs.ItemBatch.{content_entries, all_entries, AllLieIn}
 use Rattle.raft_log_record_batches.specs.declared.log_batch.BatchState.{BatchState}
 use Rattle.raft_log_record_batches.specs.Batch.{Batch, IsBatch, Becomes, with_batch, written_at, block_place}
 use Rattle.raft_log_record_batches.specs.Entries.{AddsEntries, entries_of, joined}
 use Rattle.raft_log_record_batches.specs.Places.{entry_bytes, bytes_of_each, AddsBytes, HasBytesInBlock, ReadHasWhatWasAdded}
-use Rattle.raft_log_record_frames.proofs.Placing.{run_len-cons, all_entries-written, all_lie_in}
 use Rattle.raft_log_record_batches.proofs.Moves.{entries_count}
 
 -- ---- bytes cut by the lengths of entries

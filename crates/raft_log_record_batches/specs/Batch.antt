@@ -29,7 +29,8 @@ abbrev pub roomy : List ℕ → List ℕ
 roomy [] = replicate 16 0
 roomy (b ∷ bs) = b ∷ bs
 
--- The batch that these fields represent: `len` bytes of entries follow the 16 bytes for the header in `buffer`.
+-- The batch that these fields represent. In `buffer`, 16 bytes for the header come first, and then `len` bytes of
+-- entries.
 abbrev pub shown : BatchState → ItemBatch → ℕ → Vec ℕ → Batch
 shown state items len buffer =
     record {
@@ -183,14 +184,15 @@ signature_in (Signed signature) = signature
 signature_in Written = None
 
 -- In every file, whatever its signature, the batch has `len` bytes. If the signature is below 2 ^ 32 and the batch
--- isn't empty, these bytes are a record. It has the batch's entries, and its items without their places.
+-- isn't empty, these bytes are a record. The record has the batch's entries, and the batch's items without their
+-- places.
 pub record IsReadyForEach (len : ℕ) (items : List LogItem) (entries : List ℕ) : Type 0 where
   pub size : (signature : Option ℕ) → length (batch_bytes signature items entries) ≡ len
   pub whole : (signature : Option ℕ) → unwrap_or signature 0 < 2 ^ 32 → (items ≡ [] → ⊥)
       → IsRecord signature (batch_bytes signature items entries) (map plain_item items) entries
 
--- Unless the batch is empty, `bytes` is a record with the signature that the batch has. It has the batch's entries, and
--- its items without their places.
+-- Unless the batch is empty, `bytes` are a record with the signature of the batch's state. The record has the batch's
+-- entries, and the batch's items without their places.
 abbrev pub IsRecordOf : Batch → List ℕ → Type 0
 IsRecordOf b bytes =
     (b.items ≡ [] → ⊥) → IsRecord (signature_in b.state) bytes (map plain_item b.items) b.entries

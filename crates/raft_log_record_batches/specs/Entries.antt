@@ -73,7 +73,7 @@ AddsRun index spelling old new group entries =
 abbrev pub bytes_len : List (List ℕ) → ℕ
 bytes_len entries = sum_by (λ e. length e) entries
 
--- each of these messages is decoded from its own encoding
+-- each of these messages is encoded and decoded again without a change
 abbrev pub AreReadBack : {M : Type 0} → (M → List ℕ) → (List ℕ → Option M) → List M → Type 0
 AreReadBack spelling reading messages = All (IsReadBack spelling reading) messages
 
@@ -85,16 +85,16 @@ spelled_len spelling entries = bytes_len (map spelling entries)
 abbrev pub MayHold : Batch → List (List ℕ) → Type 0
 MayHold b entries = length b.entries + bytes_len entries ≤ max_entries_len
 
--- The text of the error if indexes aren't a run with one for each entry. `indexes` and `entries` say how many indexes
--- and entries there are.
+-- The text of the error if the indexes aren't a run with one index for each entry. `indexes` and `entries` are the
+-- numbers of indexes and of entries.
 abbrev pub run_refusal : ℕ → ℕ → List ℕ
 run_refusal indexes entries =
     if indexes == entries
     then codes "entry indexes that don't rise by one, or of which one is 18446744073709551615"
     else decimal indexes ++ codes " indexes for " ++ decimal entries ++ codes " entries"
 
--- Why adding these entries to a batch with `held` bytes of entries fails. The error is `InvalidArgument` if the
--- indexes aren't a run with one for each entry. Otherwise it is `Full`, if the bytes would exceed the limit. It may
+-- Why adding these entries to a batch with `held` bytes of entries fails. The error is `InvalidArgument` if the indexes
+-- aren't a run with one index for each entry. Otherwise it is `Full`, if the bytes would exceed the limit. It may
 -- always be `Memory`.
 abbrev pub IsEntriesRefusal : Error → ℕ → List ℕ → List (List ℕ) → Type 0
 IsEntriesRefusal errors.Memory held indexes entries = Unit {0}

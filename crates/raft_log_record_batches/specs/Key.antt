@@ -6,7 +6,7 @@ use Rattle.raft_log_record_base.specs.declared.errors.Error.TheVariants as error
 use Rattle.raft_log_record_frames.specs.Key.{is_internal}
 use Rattle.raft_log_record_frames.specs.Marking.{mark_key}
 
--- the error's text if a key begins with two underscores, and so is reserved for the log
+-- the error's text for a key that begins with two underscores: the log reserves such keys for itself
 abbrev pub reserved_key : List ℕ
 reserved_key = codes "key prefix `__` reserved for internal usage"
 

@@ -31,16 +31,16 @@ abbrev pub HasBytesInBlock : Batch → Batch → Type 0
 HasBytesInBlock old new =
     bytes_of_each new.items (block_bytes new.entries) ≡ bytes_of_each old.items old.entries
 
--- Reading a written batch back gives each entry's place. In the block that was written, these places have the bytes of
--- the entries that were added.
+-- A written batch that is read back has each entry's place. In the block that was written, these places have the bytes
+-- of the entries that were added.
 abbrev pub ReadHasWhatWasAdded : Type 0
 ReadHasWhatWasAdded =
     (items : List LogItem) (entries : List ℕ) (handle : FileBlockHandle) → laid_out 0 items ≡ items
     → entries_len items ≡ length entries
     → bytes_of_each (placed handle (map plain_item items)) (block_bytes entries) ≡ bytes_of_each items entries
 
--- A batch before it was written, and the same batch read back, give the same record if each entry is replaced by its
--- bytes. Before the write, these are in the batch, and after it at the entry's place in the written block.
+-- Take a batch before it is written, and the same batch read back. Both give the same record, if each entry is replaced
+-- by its bytes. Before the write these bytes are in the batch, and after it at the entry's place in the written block.
 abbrev pub ReadMeansWhatWasAdded : Type 0
 ReadMeansWhatWasAdded =
     (items : List LogItem) (entries : List ℕ) (handle : FileBlockHandle) → laid_out 0 items ≡ items

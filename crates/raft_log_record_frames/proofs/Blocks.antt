@@ -5,7 +5,7 @@ use Rattle.std.proofs.lemmas.Bool.{eq-eqb, eqb-true, ne_eqb, le-ltb, ltb-false}
 use Rattle.std.proofs.lemmas.List.{take_at, drop_at, take-append-drop, length-drop, length-append}
 use Rattle.raft_log_record_checksum.specs.Checksum.{crc32_of}
 use Rattle.raft_log_record_base.specs.Number.{IsU32Le}
-use Rattle.raft_log_record_base.proofs.Grammar.{ok_is, chosen}
+use Rattle.raft_log_record_base.proofs.Public.{chosen, ok_is}
 use Rattle.raft_log_record_base.specs.Fault.{Fault}
 use Rattle.raft_log_record_base.specs.Fault.Fault.{corrupt}
 use Rattle.raft_log_record_frames.specs.Record.{IsBlock, block_of, block_too_short, block_mismatch}

@@ -6,14 +6,14 @@ use Rattle.std.specs.Int.{w32, from_le_bytes}
 use Rattle.std.proofs.lemmas.Bool.{eq-eqb, eqb-true, le-ltb, lt-ltb, ltb-true, ltb-false, ne_eqb}
 use Rattle.std.proofs.lemmas.List.{append-nil, take_at, drop_at, take-append-drop, length-drop, length-append}
 use Rattle.raft_log_record_base.specs.Number.{IsVarU64}
-use Rattle.raft_log_record_base.proofs.Grammar.{done, bind_ok, ok_is, chosen}
+use Rattle.raft_log_record_base.proofs.Public.{bind_ok, chosen, done, ok_is}
 use Rattle.raft_log_record_items.specs.declared.item.LogItem.{LogItem}
 use Rattle.raft_log_record_base.specs.Fault.{Fault}
 use Rattle.raft_log_record_base.specs.Fault.Fault.{corrupt}
 use Rattle.raft_log_record_items.specs.Items.{AreItems}
 use Rattle.raft_log_record_items.specs.Reading.{items_at}
 use Rattle.raft_log_record_base.specs.Grammar.{◌>>=◌}
-use Rattle.raft_log_record_items.proofs.Reading.{are_items}
+use Rattle.raft_log_record_items.proofs.Public.{are_items}
 use Rattle.raft_log_record_items.specs.Placed.{entries_len, placed}
 use Rattle.raft_log_record_frames.specs.Record.{signed, IsFooter, AddsUp, adds_up, whole_of, whole_items, body_of, footer_of, placed_footer_of, footer_too_short, footer_mismatch, bytes_after_items, lengths_mismatch}
 use Rattle.raft_log_record_frames.specs.Frames.{FooterIsRead, PlacedFooterIsRead}

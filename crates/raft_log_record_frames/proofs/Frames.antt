@@ -3,11 +3,11 @@ use Rattle.std.proofs.Common.{◌≡◌, ℕ, ◌+◌, ◌-◌, ◌*◌, ◌≤�
 use Rattle.std.specs.Prelude.{slice_range}
 use Rattle.std.specs.Int.{w64, from_be_bytes}
 use Rattle.std.proofs.lemmas.List.{take_at, drop_at, take-append-drop, length-take-le, length-drop, length-append}
-use Rattle.raft_log_record_base.proofs.Grammar.{ok_is, prefix_free}
+use Rattle.raft_log_record_base.proofs.Public.{ok_is, prefix_free}
 use Rattle.raft_log_record_items.specs.declared.item.LogItem.{LogItem}
 use Rattle.raft_log_record_items.specs.declared.compression.CompressionType.TheVariants as kinds
 use Rattle.raft_log_record_base.specs.Fault.{Fault}
-use Rattle.raft_log_record_items.proofs.Reading.{are_items}
+use Rattle.raft_log_record_items.proofs.Public.{are_items}
 use Rattle.raft_log_record_frames.specs.Record.{IsHeader, IsSoundHeader, IsFrame, AddsUp, header_at, block_of, footer_of}
 use Rattle.raft_log_record_frames.specs.Frames.{OneHeaderAtAPlace, OneFooterAtAPlace, OneBlockOfALength, OneFrameAtAPlace, OneRecordAtAPlace, RecordIsFrameAndBlock, FramesTakeBytes}
 use Rattle.raft_log_record_frames.proofs.Headers.{is_sound_header, header_words, header_again}

@@ -7,7 +7,7 @@ use Rattle.std.proofs.lemmas.List.{take-append-drop, length-take-le}
 use Rattle.raft_log_record_base.specs.Grammar.{◌>>=◌}
 use Rattle.raft_log_record_base.specs.Fault.{Fault}
 use Rattle.raft_log_record_base.specs.Fault.Fault.{corrupt}
-use Rattle.raft_log_record_base.proofs.Grammar.{done, ok_is, bind_ok, chosen}
+use Rattle.raft_log_record_base.proofs.Public.{bind_ok, chosen, done, ok_is}
 use Rattle.raft_log_record_items.specs.declared.item.LogItem.{LogItem}
 use Rattle.raft_log_record_items.specs.declared.compression.CompressionType.{CompressionType}
 use Rattle.raft_log_record_items.specs.declared.compression.CompressionType.TheVariants as kinds

@@ -4,7 +4,7 @@ use Rattle.std.specs.Int.{w64, from_be_bytes}
 use Rattle.std.proofs.lemmas.Bool.{ltb-false, le-ltb, eqb-true, eq-eqb}
 use Rattle.std.proofs.lemmas.List.{take_at, drop_at, take-append-drop, length-take-le, length-drop, length-append}
 use Rattle.raft_log_record_base.specs.Grammar.{IsReader, ◌>>=◌}
-use Rattle.raft_log_record_base.proofs.Grammar.{bind_ok, ok_is, chosen}
+use Rattle.raft_log_record_base.proofs.Public.{bind_ok, chosen, ok_is}
 use Rattle.raft_log_record_items.specs.declared.compression.CompressionType.{CompressionType}
 use Rattle.raft_log_record_items.specs.declared.compression.CompressionType.TheVariants as kinds
 use Rattle.raft_log_record_base.specs.Fault.{Fault}

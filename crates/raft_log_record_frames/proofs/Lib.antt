@@ -1,3 +1,4 @@
+pub mod Public
 pub mod Blocks
 pub mod Footers
 pub mod Frames

@@ -6,7 +6,7 @@ use Rattle.raft_log_record_base.specs.Number.{u32_le_bytes, u64_bytes}
 use Rattle.raft_log_record_checksum.specs.Checksum.{crc32_of}
 use Rattle.raft_log_record_items.specs.declared.item.LogItem.{LogItem}
 use Rattle.raft_log_record_items.specs.Writing.{items_bytes, KeepsFront}
-use Rattle.raft_log_record_items.proofs.Each.{keeps_more}
+use Rattle.raft_log_record_items.proofs.Public.{keeps_more}
 use Rattle.raft_log_record_frames.specs.Record.{signed, block_bytes, footer_bytes, header_bytes, record_len, record_bytes}
 
 -- what stands at the front of a front stands at the front

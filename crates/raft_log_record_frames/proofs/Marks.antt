@@ -6,7 +6,7 @@ use Rattle.std.specs.Int.{w64, from_be_bytes}
 use Rattle.std.proofs.lemmas.Bool.{le-ltb, ltb-false, eqb-true}
 use Rattle.std.proofs.lemmas.List.{take_at, drop_at, take-append-drop, length-append, length-take-le}
 use Rattle.raft_log_record_base.specs.Number.{IsU64, u64_bytes}
-use Rattle.raft_log_record_base.proofs.Grammar.{chosen}
+use Rattle.raft_log_record_base.proofs.Public.{chosen}
 use Rattle.raft_log_record_items.specs.declared.op_type.OpType.{OpType}
 use Rattle.raft_log_record_items.specs.declared.op_type.OpType.TheVariants.{Put, Del}
 use Rattle.raft_log_record_items.specs.declared.item.LogItemContent.{LogItemContent}

@@ -5,7 +5,7 @@ use Rattle.std.proofs.lemmas.Bool.{le-ltb}
 use Rattle.std.proofs.lemmas.List.{length-append}
 use Rattle.raft_log_record_base.specs.declared.codec.error.Error.{Error}
 use Rattle.raft_log_record_base.specs.Number.{high_first_at}
-use Rattle.raft_log_record_base.proofs.Fixed.{fixed_splits}
+use Rattle.raft_log_record_base.proofs.Public.{fixed_splits}
 
 -- eight bytes are not too few for a word
 pub word_there : (bytes : List ℕ) (e : Error) → 8 ≤ length bytes → high_first_at w64 bytes ≡ Err e → ⊥

@@ -1,5 +1,5 @@
--- Laws of records. A frame is what a reader sees if it reads only the header and the footer. A record is a frame whose
--- entry block is valid too. At most one record can begin at an offset. Decoders read back what a writer wrote there.
+-- Laws of records. A frame is a record whose entry block isn't looked at: a reader of a frame reads only the header and
+-- the footer. At most one record can begin at an offset. Decoders read back what a writer wrote.
 use Rattle.std.specs.Prelude.{replicate, ◌⊎◌, ◌≡◌, ◌↔◌, ℕ, ◌+◌, ◌≤◌, List, ◌++◌, length, take, Option, Ok}
 use Rattle.raft_log_record_items.specs.declared.item.LogItem.{LogItem}
 use Rattle.raft_log_record_base.specs.declared.pipe_log.FileBlockHandle.{FileBlockHandle}
@@ -58,8 +58,8 @@ FramesTakeBytes =
 
 -- Readers accept exactly what the grammars allow.
 
--- Reading `bytes` as an entry block succeeds with `entries` if and only if `bytes` is a block of these entries'
--- bytes.
+-- Reading `bytes` as an entry block succeeds with `entries` if and only if `bytes` is an entry block with these bytes
+-- of entries.
 abbrev pub BlockIsRead : Type 0
 BlockIsRead = (bytes entries : List ℕ) → ((block_of bytes ≡ Ok entries) ↔ IsBlock bytes entries)
 
@@ -70,8 +70,8 @@ FooterIsRead =
     (signature : Option ℕ) (len : ℕ) (bytes : List ℕ) (items : List LogItem)
     → ((footer_of signature len bytes ≡ Ok items) ↔ IsFooterOf signature len bytes items)
 
--- Reading `bytes` as a footer with places succeeds if and only if it is a footer of items whose entries fill the block.
--- The result is these items, with their places in the block.
+-- Reading `bytes` as a footer with places succeeds if and only if `bytes` is a footer of some items, and their entries
+-- fill the block. The result is these items, with their places in the block.
 abbrev pub PlacedFooterIsRead : Type 0
 PlacedFooterIsRead =
     (signature : Option ℕ) (block : FileBlockHandle) (bytes : List ℕ) (there : List LogItem)
@@ -80,16 +80,16 @@ PlacedFooterIsRead =
 
 -- What begins at the front of any bytes.
 
--- Reading a frame from `input` succeeds with `front` exactly if the first `front.len` bytes are a frame with the items
--- and the block of `front`.
+-- Reading a frame from `input` succeeds with `front` if and only if `input` begins with this frame. That is, the first
+-- `front.len` bytes of `input` are a frame with the items and the block of `front`.
 abbrev pub FrameIsRead : Type 0
 FrameIsRead =
     (signature : Option ℕ) (input : List ℕ) (front : Front)
     → ((frame_at signature input ≡ Ok front)
     ↔ ((front.len ≤ length input) × IsFrame signature (take front.len input) front.items front.bytes))
 
--- Reading a record from `input` succeeds with `front` exactly if the first `front.len` bytes are a record with the
--- items and the entries of `front`.
+-- Reading a record from `input` succeeds with `front` if and only if `input` begins with this record. That is, the
+-- first `front.len` bytes of `input` are a record with the items and the entries of `front`.
 abbrev pub RecordIsRead : Type 0
 RecordIsRead =
     (signature : Option ℕ) (input : List ℕ) (front : Front)

@@ -1,5 +1,5 @@
--- The list of items in a log batch: what callers see of it, and its approximate size. Also the items that decoding a
--- footer returns, with the places of their entries.
+-- The list of items in a log batch: what callers see of it, and its approximate size. Also the result of decoding a
+-- footer: its items, with the places of their entries.
 use Rattle.std.specs.Prelude.{◌≡◌, ℕ, ◌+◌, ◌-◌, ◌*◌, ◌≤◌, List, [], ◌∷◌, ◌++◌, length, take, drop, map, flat_map, sum_by, All, Option, Some, None, Result, Ok, Err, IfOk, MatchResult}
 use Rattle.raft_log_record_base.specs.declared.errors.Error.{Error}
 use Rattle.raft_log_record_base.specs.declared.errors.Error.TheVariants as errors
@@ -15,7 +15,7 @@ use Rattle.raft_log_record_items.specs.Placed.{laid_out, placed}
 use Rattle.raft_log_record_items.specs.Writing.{items_bytes, plain_item, value_of}
 use Rattle.raft_log_record_frames.specs.Record.{IsFooter, IsFooterOf, AddsUp, placed_footer_of}
 
--- the items, and the capacity: how many items fit without an allocation
+-- the items of a list, and its capacity: how many items fit without an allocation
 pub record ItemBatch : Type 0 where
   pub items : List LogItem
   pub capacity : ℕ
@@ -36,8 +36,8 @@ AddsPut old new group key value = AddsItems old new (put_item group key value �
 abbrev pub HasItemRoom : ItemBatch → ℕ → Type 0
 HasItemRoom b count = length b.items + count ≤ b.capacity
 
--- The items of `other` were added at the end of `old`. `emptied`, which was `other`, now has no items and the same
--- capacity.
+-- The items of `other` were moved to the end of `old`, which gives `new`. `emptied` is the list `other` after that: it
+-- has no items, and the same capacity.
 abbrev pub TakesItems : ItemBatch → ItemBatch → ItemBatch → ItemBatch → Type 0
 TakesItems old new other emptied = AddsItems old new other.items × (emptied ≡ no_items other.capacity)
 
@@ -49,8 +49,10 @@ run_item group entries = record { raft_group_id = group; content = contents.Entr
 abbrev pub command_item : ℕ → Command → LogItem
 command_item group command = record { raft_group_id = group; content = contents.Command command }
 
--- the approximate size of a content in bytes: a run counts 16, plus eight for each entry; a command eight; a key 16,
--- plus the bytes of the key and its value
+-- The approximate size of a content in bytes:
+-- - a run counts 16, plus eight for each entry;
+-- - a command counts eight;
+-- - a key counts 16, plus the bytes of the key and of its value.
 abbrev pub content_size : LogItemContent → ℕ
 content_size (contents.EntryIndexes es) = 16 + 8 * length es
 content_size (contents.Command c) = 8
@@ -75,7 +77,7 @@ AreRead bytes items =
     (block : FileBlockHandle) → AddsUp items block.len
     → placed_footer_of None block bytes ≡ Ok (placed block (map plain_item items))
 
--- the items, in which the entries from item number `first` on get offsets one after another, beginning at `offset`
+-- the items; the entries of the items from position `first` on get offsets one after another, from `offset` on
 abbrev pub laid_from : ℕ → ℕ → List LogItem → List LogItem
 laid_from first offset items = take first items ++ laid_out offset (drop first items)
 
@@ -89,16 +91,16 @@ content_entries (contents.Kv kv) = []
 abbrev pub all_entries : List LogItem → List EntryIndex
 all_entries xs = flat_map (λ x. content_entries x.content) xs
 
--- the entry's place is in the block at `block`, before the four bytes of the block's checksum
+-- the entry's place is in the block at the location `block`, before the four bytes of the block's checksum
 abbrev pub IsEntryInBlock : FileBlockHandle → EntryIndex → Type 0
 IsEntryInBlock block e = (e.entries ≡ Some block) × (e.entry_offset + e.entry_len ≤ block.len - 4)
 
--- each entry of these items has its place in the block at `block`, before the checksum
+-- each entry of these items has its place in the block at the location `block`, before the block's checksum
 abbrev pub AllLieIn : FileBlockHandle → List LogItem → Type 0
 AllLieIn block items = All (IsEntryInBlock block) (all_entries items)
 
--- `bytes` is a footer with this signature, whose entries fill the block at `handle`. `batch` is its items, with their
--- places in that block.
+-- `bytes` is a footer with this signature, and the entries of its items fill the block at `handle`. `batch` is these
+-- items, with their places in that block.
 pub record IsPlacedFooter
     (signature : Option ℕ) (handle : FileBlockHandle) (bytes : List ℕ) (batch : List LogItem) : Type 0 where
   pub items : List LogItem
@@ -106,20 +108,20 @@ pub record IsPlacedFooter
   pub adds_up : AddsUp items handle.len
   pub places : batch ≡ placed handle items
 
--- If the call succeeds, `bytes` is a footer whose entries fill the block, and the call returns its items with their
--- places.
+-- If the call succeeds, `bytes` is a footer, and the entries of its items fill the block. The call returns these items
+-- with their places.
 abbrev pub FindsPlaced : Result ItemBatch Error → Option ℕ → FileBlockHandle → List ℕ → Type 0
 FindsPlaced result signature handle bytes =
     IfOk result (λ batch. IsPlacedFooter signature handle bytes batch.items)
 
--- If `bytes` is a footer of items whose entries fill the block, the call returns these items with their places, or
--- fails with `Memory`.
+-- If `bytes` is a footer of `items`, and their entries fill the block, the call returns these items with their places,
+-- or fails with `Memory`.
 abbrev pub OnlyPlaced : Result ItemBatch Error → Option ℕ → FileBlockHandle → List ℕ → Type 0
 OnlyPlaced result signature handle bytes =
     (items : List LogItem) → IsFooterOf signature handle.len bytes items
     → MatchResult result (λ batch. batch.items ≡ placed handle items) (λ e. e ≡ errors.Memory)
 
--- the call returned the items of `reading`, or failed with its error, or failed with `Memory`
+-- the call returned the items of `reading`, failed with the error of `reading`, or failed with `Memory`
 abbrev pub GivesPlaced : Result ItemBatch Error → Result (List LogItem) Fault → Type 0
 GivesPlaced (Ok batch) reading = reading ≡ Ok batch.items
 GivesPlaced (Err e) reading = FailsOrMemory e reading

@@ -44,7 +44,7 @@ pub record IsMark (item : LogItem) (id : ℕ) (status : AtomicGroupStatus) : Typ
 unfoldable pub mark_value : ℕ → AtomicGroupStatus → List ℕ
 mark_value id status = u64_bytes id ++ status_number status ∷ []
 
--- the mark that is written for this status of atomic group number `id`
+-- the mark for part `status` of atomic group `id`, as it is written
 abbrev pub mark_item : ℕ → AtomicGroupStatus → LogItem
 mark_item id status = put_item 0 mark_key (mark_value id status)
 
@@ -56,7 +56,7 @@ status_of n =
     if n == 0 then Some Begin
     else (if n == 1 then Some Middle else (if n == 2 then Some End else None))
 
--- the status that these bytes encode, if they are one byte
+-- the status that these bytes encode; `None` unless they are one byte that encodes a status
 abbrev pub status_at : List ℕ → Option AtomicGroupStatus
 status_at [] = None
 status_at (b ∷ []) = status_of b
@@ -98,7 +98,7 @@ content_has_mark_key (contents.Kv kv) = puts_mark_key kv.op_type kv.key
 unfoldable pub has_mark_key : LogItem → Bool
 has_mark_key item = (item.raft_group_id == 0) && content_has_mark_key item.content
 
--- the part of an atomic group that a mark names, or `Broken` if there is none
+-- the part of an atomic group that a valid mark names; `Broken` if there is no valid mark
 abbrev pub part_or_broken : Option (ℕ × AtomicGroupStatus) → Marking
 part_or_broken None = Broken
 part_or_broken (Some m) = Part m.0 m.1
@@ -107,14 +107,14 @@ part_or_broken (Some m) = Part m.0 m.1
 unfoldable pub marking_of : LogItem → Marking
 marking_of item = if has_mark_key item then part_or_broken (mark_of item) else Unmarked
 
--- The marking of a batch, from the markings of its first items and of the rest. At most one of the two may be marked,
--- else the batch is `Broken`.
+-- The marking of a batch, from the marking of its first items and that of the others. If both are marked, or one is
+-- `Broken`, the batch is `Broken`.
 abbrev pub joined_marking : Marking → Marking → Marking
 joined_marking Unmarked marking = marking
 joined_marking (Part id status) Unmarked = Part id status
 joined_marking _ _ = Broken
 
--- the marking of a batch with these items: `Broken` if one mark is invalid or there are two marks
+-- the marking of a batch with these items: `Broken` if a mark is invalid, or if there is more than one mark
 abbrev pub marking_of_items : List LogItem → Marking
 marking_of_items [] = Unmarked
 marking_of_items (x ∷ xs) = joined_marking (marking_of x) (marking_of_items xs)
@@ -125,8 +125,8 @@ MarksAreTold =
     (item : LogItem) (id : ℕ) (status : AtomicGroupStatus)
     → ((marking_of item ≡ Part id status) ↔ IsMark item id status)
 
--- A mark has an internal key, which begins with two underscores. Users can't add such keys, so no item of a user is a
--- mark.
+-- A mark has an internal key: one that begins with two underscores. (Users can't add such keys, so no item of a user is
+-- a mark.)
 abbrev pub UserItemsAreNoMarks : Type 0
 UserItemsAreNoMarks =
     (item : LogItem) (id : ℕ) (status : AtomicGroupStatus) → IsMark item id status

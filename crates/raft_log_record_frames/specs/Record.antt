@@ -1,5 +1,5 @@
--- Whole records: a header, the entry block, and the footer with the items. The footer's checksum is signed: xored
--- with the signature of the file, if it has one.
+-- Whole records: a header, the entry block, and the footer with the items. The footer's checksum is signed: it is xored
+-- with the signature of the file, if the file has one.
 use Rattle.std.specs.Prelude.{◌≡◌, ◌⊎◌, ℕ, ◌+◌, ◌-◌, ◌*◌, ◌/◌, ◌%◌, ◌<◌, ◌≤◌, ◌^◌, List, [], ◌∷◌, ◌++◌, length, take, drop, slice_range, Option, Result, Ok, Err, unwrap_or, nat_lt, ◌==◌, if◌then◌else◌, codes, bit_xor, Bool, ◌&&◌, min}
 use Rattle.std.specs.Fmt.{decimal}
 use Rattle.std.specs.Int.{w32, w64, from_be_bytes, from_le_bytes}
@@ -26,7 +26,8 @@ signed signature bytes = bit_xor (crc32_of bytes) (unwrap_or signature 0)
 
 -- Footers.
 
--- `bytes` is a footer in a file with this signature: the items, then their signed checksum, four bytes, little-endian
+-- `bytes` is a footer in a file with this signature: the bytes of the items, and then their signed checksum as four
+-- bytes, little-endian.
 pub record IsFooter (signature : Option ℕ) (bytes : List ℕ) (items : List LogItem) : Type 0 where
   pub body : List ℕ
   pub checksum : List ℕ
@@ -36,8 +37,8 @@ pub record IsFooter (signature : Option ℕ) (bytes : List ℕ) (items : List Lo
 
 -- Entry blocks.
 
--- The entries of `items` fill a block of `len` bytes: their lengths add up to `len` minus the four bytes of its
--- checksum. If there are no bytes of entries, `len` may also be 0. The sum is below 2 ^ 32.
+-- The entries of `items` fill a block of `len` bytes: `len` is the sum of their lengths, plus four bytes for the
+-- block's checksum. If the sum is 0, `len` may also be 0. The sum is below 2 ^ 32.
 abbrev pub AddsUp : List LogItem → ℕ → Type 0
 AddsUp items len =
     (entries_len items < 2 ^ 32) × (((len ≡ 0) × (entries_len items ≡ 0)) ⊎ (len ≡ entries_len items + 4))
@@ -46,8 +47,8 @@ AddsUp items len =
 abbrev pub IsFooterOf : Option ℕ → ℕ → List ℕ → List LogItem → Type 0
 IsFooterOf signature len bytes items = IsFooter signature bytes items × AddsUp items len
 
--- `bytes` is an entry block with these bytes of entries. It is empty if there are none, else the entries' bytes and
--- their checksum. A checksum alone is valid too, but never written.
+-- `bytes` is an entry block with the bytes `entries`: these bytes, and then their checksum. If `entries` is empty, the
+-- block may also be empty; writers then write the empty block.
 abbrev pub IsBlock : List ℕ → List ℕ → Type 0
 IsBlock bytes entries =
     ((bytes ≡ []) × (entries ≡ []))
@@ -55,8 +56,9 @@ IsBlock bytes entries =
 
 -- Headers.
 
--- `bytes` is a header: two numbers of 64 bits, big-endian. The first is 256 times the record's length `len`, so its
--- lowest byte is 0, the type of no compression. The second is `offset`, where the footer begins in the record.
+-- `bytes` is a header: two numbers of 64 bits, big-endian. The first is 256 times the record's length `len`. So its
+-- lowest byte is 0, which is the type of no compression. The second is `offset`, at which the footer begins in the
+-- record.
 pub record IsHeader (bytes : List ℕ) (len offset : ℕ) : Type 0 where
   pub first : List ℕ
   pub second : List ℕ
@@ -64,13 +66,13 @@ pub record IsHeader (bytes : List ℕ) (len offset : ℕ) : Type 0 where
   pub length_spelled : IsU64 first (256 * len)
   pub offset_spelled : IsU64 second offset
 
--- `header` has the footer's offset, the compression and the record's length. The offset is at least 16, the length of a
--- header, and at most the record's length.
+-- `header` has three parts: the footer's offset, the compression, and the record's length. The offset is at least 16,
+-- the length of a header, and at most the record's length.
 abbrev pub IsInside : ℕ × CompressionType × ℕ → Type 0
 IsInside header = (16 ≤ header.0) × (header.0 ≤ header.2)
 
--- `bytes` is a valid header. `header` has the footer's offset, the block's compression, which is none, and the record's
--- length. The offset is at least 16 and at most the record's length.
+-- `bytes` is a valid header. `header` has three parts: the footer's offset, the compression, and the record's length.
+-- The block isn't compressed. The offset is at least 16 and at most the record's length.
 pub record IsSoundHeader (bytes : List ℕ) (header : ℕ × CompressionType × ℕ) : Type 0 where
   pub spelled : IsHeader bytes header.2 header.0
   pub plain : header.1 ≡ kinds.None
@@ -79,8 +81,8 @@ pub record IsSoundHeader (bytes : List ℕ) (header : ℕ × CompressionType × 
 
 -- Records.
 
--- `bytes` is a header, then `block`, whose bytes are not checked, and a footer of `items`. The header has the right
--- length and footer offset, and the entries of the items fill the block.
+-- `bytes` is a header, then `block`, then a footer of `items`. The bytes of `block` aren't checked. The header has the
+-- length of `bytes` and the offset of the footer, and the entries of the items fill the block.
 pub record IsFrame (signature : Option ℕ) (bytes : List ℕ) (items : List LogItem) (block : List ℕ)
     : Type 0 where
   pub header : List ℕ
@@ -135,8 +137,8 @@ block_too_short n = codes "Entry block too short: " ++ decimal n
 abbrev pub block_mismatch : List ℕ
 block_mismatch = codes "Entry block checksum mismatch"
 
--- The footer's offset, the block's compression and the record's length, from the two numbers of a header. Fails if
--- the compression isn't none, or the offset isn't between 16 and the length.
+-- The footer's offset, the block's compression and the record's length, from the two numbers of a header. Fails if the
+-- block is compressed, or if the offset isn't between 16 and the record's length.
 unfoldable pub header_of : ℕ → ℕ → Result (ℕ × CompressionType × ℕ) Fault
 header_of word offset =
     if word % 256 == 0 then
@@ -172,24 +174,25 @@ whole_of len sum rest =
     then (if adds_up len sum then Ok tt else Err (corrupt lengths_mismatch))
     else Err (corrupt (bytes_after_items (length rest)))
 
--- `items`, if no bytes `rest` follow them, and their entries fill a block of `len` bytes
+-- `items`, if `rest` is empty (no bytes follow the items), and the entries of the items fill a block of `len` bytes
 unfoldable pub whole_items : ℕ → List LogItem → List ℕ → Result (List LogItem) Fault
 whole_items len items rest = whole_of len (entries_len items) rest >>= λ whole. Ok items
 
--- a decoder of a whole slice returned the part of the slice that `reading` returns, or failed as `reading` does, unless
--- memory ran out
+-- A decoder of a whole slice returned the part of the slice that `reading` returns, or failed as `reading` does. It may
+-- instead have failed with `Memory`.
 abbrev pub GivesSlice : Result (Bor (List ℕ)) Error → Result (List ℕ) Fault → Type 0
 GivesSlice (Ok x) reading = reading ≡ Ok x.now
 GivesSlice (Err e) reading = FailsOrMemory e reading
 
--- a decoder of a vector returned the items of `reading`, or failed as `reading` does, unless memory ran out
+-- A decoder of a vector returned the items of `reading`, or failed as `reading` does. It may instead have failed with
+-- `Memory`.
 abbrev pub GivesItems : {X : Type 0} → Result (Vec X) Error → Result (List X) Fault → Type 0
 GivesItems (Ok x) reading = reading ≡ Ok x.items
 GivesItems (Err e) reading = FailsOrMemory e reading
 
--- The check whether `rest` is empty and the entries fill a block of `block_len` bytes returned `result`. It got the
--- entries' total length as `len`, which is 2 ^ 64 - 1 if the total is more. The result is right for each total `sum`
--- that gives this `len`.
+-- `result` is the result of checking that `rest` is empty and that the entries fill a block of `block_len` bytes. The
+-- check got the entries' total length as `len`, or 2 ^ 64 - 1 if the total is more. The result is right for each total
+-- `sum` that gives this `len`.
 abbrev pub TellsWhole : Result (Unit {0}) Error → ℕ → ℕ → List ℕ → Type 0
 TellsWhole result block_len len rest =
     (sum : ℕ) → len ≡ min sum (2 ^ 64 - 1) → GivesOrMemory result (whole_of block_len sum rest)
@@ -203,12 +206,13 @@ body_of signature bytes =
     then Ok (take (length bytes - 4) bytes)
     else Err (corrupt footer_mismatch))
 
--- the items of a whole footer, if it is valid and their entries fill a block of `len` bytes
+-- the items of a whole footer, if the footer is valid, and the entries of the items fill a block of `len` bytes
 unfoldable pub footer_of : Option ℕ → ℕ → List ℕ → Result (List LogItem) Fault
 footer_of signature len bytes =
     body_of signature bytes >>= λ body. items_at body >>= λ r. whole_items len r.0 r.1
 
--- the items of a whole footer, if it is valid and their entries fill `block`, with their places in that block
+-- The items of a whole footer, with their places in `block`, if the footer is valid, and the entries of the items fill
+-- that block.
 unfoldable pub placed_footer_of : Option ℕ → FileBlockHandle → List ℕ → Result (List LogItem) Fault
 placed_footer_of signature block bytes =
     footer_of signature block.len bytes >>= λ items. Ok (placed block items)
@@ -240,36 +244,38 @@ record_bytes signature items entries =
 
 -- Frames and records at the front of any bytes.
 
--- What a reader found at the front of bytes: the length of the frame or record, and its items. `bytes` is the block
--- of a frame, or the bytes of the entries of a record.
+-- What a reader found at the front of bytes: the length of the frame or record, and its items. `bytes` is the block of
+-- the frame, or the bytes of the record's entries.
 pub record Front : Type 0 where
   pub len : ℕ
   pub items : List LogItem
   pub bytes : List ℕ
 
--- the error's text if a record's length is `n`, more than the input has
+-- the error's text if a record's length is `n`, and the input has fewer bytes
 abbrev pub past_input : ℕ → List ℕ
 past_input n = codes "Log batch past the end of the input: " ++ decimal n
 
--- The frame of `len` bytes whose footer is at `offset`. Fails first if `input` is too short, then if the footer is
--- invalid.
+-- The frame of `len` bytes at the front of `input`, whose footer is at `offset`. Fails if `input` is too short;
+-- otherwise, if the footer is invalid.
 unfoldable pub frame_of : Option ℕ → List ℕ → ℕ → ℕ → Result Front Fault
 frame_of signature input offset len =
     if nat_lt (length input) len then Err (corrupt (past_input len))
     else (footer_of signature (offset - 16) (slice_range input offset len)
     >>= λ items. Ok (record { len = len; items = items; bytes = slice_range input 16 offset }))
 
--- Reads the frame at the front of `input`: first the header, then the footer. Returns the block's bytes undecoded.
+-- Reads the frame at the front of `input`: first the header, then the footer. Returns the block's bytes without a check
+-- of their checksum.
 unfoldable pub frame_at : Option ℕ → List ℕ → Result Front Fault
 frame_at signature input = header_at input >>= λ r. frame_of signature input r.0.0 r.0.2
 
--- Reads the record at the front of `input`, with the bytes of its entries: first the frame, then the block.
+-- Reads the record at the front of `input`: first the frame, then the block. Returns the bytes of the block's entries.
 unfoldable pub record_at : Option ℕ → List ℕ → Result Front Fault
 record_at signature input =
     frame_at signature input >>= λ front.
     block_of front.bytes >>= λ entries. Ok (record front { bytes = entries })
 
--- a decoder returned what `reading` found at the front of the bytes, or failed with its fault, unless memory ran out
+-- A decoder returned what `reading` found at the front of the bytes, or failed with the same fault. It may instead have
+-- failed with `Memory`.
 abbrev pub GivesFront : Result (ℕ × Vec LogItem × Bor (List ℕ)) Error → Result Front Fault → Type 0
 GivesFront (Ok x) reading = reading ≡ Ok (record { len = x.0; items = x.1.items; bytes = x.2.now })
 GivesFront (Err e) reading = FailsOrMemory e reading

@@ -11,10 +11,11 @@ abbrev pub AreBytes : List ℕ → Type 0
 AreBytes [] = Unit {0}
 AreBytes (b ∷ bs) = (b < 256) × AreBytes bs
 
--- The bytes that are written for `items` and `entries`, in a file with this signature, are a record. It has the
--- entries, and the items without their places. The bytes written for the items must encode them, and the lengths of
--- their entries must add up to that of `entries`. The signature and that sum must be below 2 ^ 32, the record's length
--- below 2 ^ 56, and each byte below 256.
+-- The bytes that are written for `items` and `entries`, in a file with this signature, are a record. The record has the
+-- entries, and the items without their places. Premises:
+-- - The bytes that are written for the items encode the items.
+-- - The lengths of the items' entries add up to the length of `entries`.
+-- - The signature and that length are below 2 ^ 32, the record's length is below 2 ^ 56, and each byte is below 256.
 abbrev pub WrittenIsRecord : Type 0
 WrittenIsRecord =
     (signature : Option ℕ) (items : List LogItem) (entries : List ℕ) → unwrap_or signature 0 < 2 ^ 32

@@ -78,10 +78,6 @@ written_step handle old xs i d new lt h is =
 
 -- Items that get their places as they are read.
 
--- no item has no place
-pub placed_none : (handle : FileBlockHandle) → ArePlaced handle [] [] 0
-placed_none handle = record { sum = refl; places = λ fits. refl }
-
 entries_len-push : (front : List LogItem) (x : LogItem) → entries_len (front ++ x ∷ []) ≡ entries_len front + content_len x.content
 entries_len-push front x = sum_by-append (λ (y : LogItem). content_len y.content) front (x ∷ []) ∙ omega arith
 

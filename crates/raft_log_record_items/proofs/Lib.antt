@@ -1,3 +1,4 @@
+pub mod Public
 pub mod Reading
 pub mod Entries
 pub mod Spelled

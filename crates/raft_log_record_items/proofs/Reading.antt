@@ -6,10 +6,7 @@ use Rattle.raft_log_record_base.specs.Grammar.{Reader, IsReader}
 use Rattle.raft_log_record_base.specs.Number.{IsVarU64, IsByte}
 use Rattle.raft_log_record_base.specs.declared.codec.error.Error.TheVariants.{Io}
 use Rattle.std.specs.declared.io.ErrorKind.TheVariants.{UnexpectedEof}
-use Rattle.raft_log_record_base.proofs.Grammar.{bind_ok, done, ok_is, chosen, is_known, is_then, is_times, is_choice}
-use Rattle.raft_log_record_base.proofs.Fixed.{is_byte}
-use Rattle.raft_log_record_base.proofs.Var.{is_var_u64}
-use Rattle.raft_log_record_base.proofs.Faults.{is_lifted}
+use Rattle.raft_log_record_base.proofs.Public.{bind_ok, chosen, done, is_byte, is_choice, is_known, is_lifted, is_then, is_times, is_var_u64, ok_is}
 use Rattle.raft_log_record_base.specs.Fault.{Fault}
 use Rattle.raft_log_record_base.specs.Fault.Fault.{number, corrupt}
 use Rattle.raft_log_record_items.specs.Items.{Never, never_at, Passing, passing_at, number_at, kind_at, IsBytesOf, IsBytes, is_entry_len, IsEntryLen, AreEntriesFrom, is_first_of, IsEntriesOf, IsEntries, IsCommandOf, IsCommand, IsKeyValueOf, IsKeyValue, IsContentOf, IsItem, AreItems}

@@ -4,17 +4,16 @@ use Rattle.raft_log_record_base.specs.Grammar.{Then, Choice, IsKnown}
 use Rattle.std.proofs.lemmas.Bool.{lt-ltb, ne_eqb}
 use Rattle.std.proofs.lemmas.List.{append-nil}
 use Rattle.raft_log_record_base.specs.Number.{IsVarU64, var_u64_bytes}
-use Rattle.raft_log_record_base.proofs.VarSpelling.{var_u64_shortest}
+use Rattle.raft_log_record_base.proofs.Public.{var_u64_shortest}
 use Rattle.raft_log_record_items.specs.declared.entry.EntryIndex.{EntryIndex}
 use Rattle.raft_log_record_items.specs.Run.{FollowsFrom, IsRun, unplaced, unplaced_entry}
-use Rattle.raft_log_record_items.specs.Items.{IsEntries, AreEntriesFrom, IsEntryLen, is_first_of, Passing, IsBytes, IsCommand, IsKeyValue, IsItem, put_of, del_of}
+use Rattle.raft_log_record_items.specs.Items.{IsEntries, AreEntriesFrom, IsEntryLen, is_first_of, Passing, IsBytes, IsCommand, IsKeyValue, put_of, del_of}
 use Rattle.raft_log_record_items.specs.declared.op_type.OpType.TheVariants.{Put, Del}
 use Rattle.raft_log_record_items.specs.declared.command.Command.{Command}
 use Rattle.raft_log_record_items.specs.declared.command.Command.TheVariants.{Compact}
 use Rattle.raft_log_record_items.specs.declared.key_value.KeyValue.{KeyValue}
 use Rattle.raft_log_record_items.specs.declared.item.LogItemContent.TheVariants as contents
-use Rattle.raft_log_record_items.specs.declared.item.LogItem.{LogItem}
-use Rattle.raft_log_record_items.specs.Writing.{bytes_bytes, lengths_bytes, entries_bytes, command_bytes, operation_bytes, key_value_bytes, content_bytes, item_bytes, value_of, plain_operation, plain_key_value, plain_content, plain_item, IsSpelledContent}
+use Rattle.raft_log_record_items.specs.Writing.{bytes_bytes, lengths_bytes, entries_bytes, command_bytes, operation_bytes, key_value_bytes, content_bytes, value_of, plain_operation, plain_key_value, IsSpelledContent}
 
 pub number_spelled : (n : ℕ) → n < 2 ^ 64 → IsVarU64 (var_u64_bytes n) n
 number_spelled n fits = (var_u64_shortest n fits).spelled
@@ -89,17 +88,6 @@ command_content c h = (2, 2 ∷ [], command_bytes c, record { only = refl }, (c,
 pub key_value_content : (kv : KeyValue) → IsKeyValue (key_value_bytes kv) (plain_key_value kv) → IsSpelledContent (contents.Kv kv)
 unfolding content_bytes
 key_value_content kv h = (3, 3 ∷ [], key_value_bytes kv, record { only = refl }, (plain_key_value kv, key_value_bytes kv, [], h, (refl, refl), sym (append-nil _)), refl)
-
-pub item_spelled : (item : LogItem) → item.raft_group_id < 2 ^ 64 → IsSpelledContent item.content → IsItem (item_bytes item) (plain_item item)
-unfolding item_bytes
-item_spelled item fits h = (
-  item.raft_group_id,
-  var_u64_bytes item.raft_group_id,
-  content_bytes item.content,
-  number_spelled _ fits,
-  (h.0, h.1, h.2, h.3, (plain_content item.content, h.2, [], h.4, (refl, refl), sym (append-nil _)), h.5),
-  refl,
-)
 
 -- the bytes of a key by its parts
 pub key_value_spelled : (kv : KeyValue) (key value : List ℕ) → key ≡ kv.key → value ≡ value_of kv

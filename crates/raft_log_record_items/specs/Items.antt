@@ -1,5 +1,5 @@
 -- How the items of a log batch are encoded: a grammar, which says which bytes encode which value. The functions that
--- read them are in `Reading`. Numbers are varints of at most 64 bits.
+-- read these bytes are in `Reading`. Numbers are varints of at most 64 bits.
 use Rattle.std.specs.Prelude.{◌≡◌, ℕ, zero, suc, ◌+◌, ◌^◌, Bool, List, [], ◌∷◌, length, Option, Some, None, Ok, Err, nat_lt, ◌==◌, if◌then◌else◌, IsTrue}
 use Rattle.raft_log_record_base.specs.Grammar.{Reader, IsKnown, Then, Times, Choice, ◌>>=◌}
 use Rattle.raft_log_record_base.specs.Number.{IsVarU64, IsByte, var_u64_at, byte_at_front}
@@ -26,7 +26,7 @@ Never bytes x = ⊥
 abbrev pub never_at : {A : Type 0} → List ℕ → Reader A Fault
 never_at text bytes = Err (corrupt text)
 
--- the spellings of `P` whose value passes `test`
+-- the spellings of the grammar `P` whose value passes `test`
 abbrev pub Passing : {A : Type 0} → (A → Bool) → (List ℕ → A → Type 0) → List ℕ → A → Type 0
 Passing test P bytes x = P bytes x × IsTrue (test x)
 
@@ -44,11 +44,11 @@ number_at = lifted_at var_u64_at
 abbrev pub kind_at : Reader ℕ Fault
 kind_at = lifted_at byte_at_front
 
--- the `n` bytes themselves are the value
+-- the value is the `n` bytes themselves
 abbrev pub IsBytesOf : ℕ → List ℕ → List ℕ → Type 0
 IsBytesOf n bytes xs = (length bytes ≡ n) × (xs ≡ bytes)
 
--- a varint, then as many bytes, which are the value
+-- a varint `n`, and then `n` bytes; the value is these bytes
 abbrev pub IsBytes : List ℕ → List ℕ → Type 0
 IsBytes = Then IsVarU64 IsBytesOf
 
@@ -68,7 +68,7 @@ AreEntriesFrom index zero = IsKnown []
 AreEntriesFrom index (suc n) = Then IsEntryLen (λ len.
     Then (AreEntriesFrom (index + 1) n) (λ es. IsKnown (unplaced_entry index len ∷ es)))
 
--- whether `first` + `count` is below 2 ^ 64: then each of the `count` indexes from `first` on is below 2 ^ 64 - 1
+-- whether `first` + `count` is below 2 ^ 64; if so, each of the `count` indexes from `first` on is below 2 ^ 64 - 1
 abbrev pub is_first_of : ℕ → ℕ → Bool
 is_first_of count first = nat_lt (first + count) (2 ^ 64)
 

@@ -1,5 +1,5 @@
 -- The lengths of items' entries, and where each entry is stored. The entries of a record are in one block. An entry's
--- place is the handle of that block, and the entry's offset in it.
+-- place is the location of that block (a handle), and the entry's offset in the block.
 use Rattle.std.specs.Prelude.{◌≡◌, ℕ, ◌+◌, ◌-◌, ◌<◌, ◌^◌, List, [], ◌∷◌, Some, map, min, sum_by, Result, Ok, Err}
 use Rattle.std.specs.Global.{Vec}
 use Rattle.raft_log_record_base.specs.declared.errors.Error.{Error}
@@ -14,7 +14,7 @@ use Rattle.raft_log_record_items.specs.declared.item.LogItem.{LogItem}
 abbrev pub run_len : List EntryIndex → ℕ
 run_len es = sum_by (λ e. e.entry_len) es
 
--- the total length of this content's entries in bytes; 0 if it has none
+-- the total length in bytes of this content's entries; 0 if it has no entries
 abbrev pub content_len : LogItemContent → ℕ
 content_len (contents.EntryIndexes es) = run_len es
 content_len (contents.Command c) = 0
@@ -24,7 +24,7 @@ content_len (contents.Kv kv) = 0
 abbrev pub entries_len : List LogItem → ℕ
 entries_len xs = sum_by (λ x. content_len x.content) xs
 
--- the entries with their offsets in a block: they follow one another without gaps, from `offset` on
+-- these entries with their offsets in a block: the first is at `offset`, and they follow one another without gaps
 abbrev pub laid_run : ℕ → List EntryIndex → List EntryIndex
 laid_run offset [] = []
 laid_run offset (e ∷ es) = record e { entry_offset = offset } ∷ laid_run (offset + e.entry_len) es
@@ -45,41 +45,41 @@ laid_out offset (x ∷ xs) =
 abbrev pub written_entry : FileBlockHandle → EntryIndex → EntryIndex
 written_entry handle e = record e { entries = Some handle }
 
--- the content, once its record's entry block is at `handle`: each entry gets this handle, and an operation on a key
--- gets the block's file
+-- The content after its record was written, with the entry block at `handle`. Each entry gets this handle. An operation
+-- on a key gets the block's file.
 abbrev pub written_content : FileBlockHandle → LogItemContent → LogItemContent
 written_content handle (contents.EntryIndexes es) = contents.EntryIndexes (map (written_entry handle) es)
 written_content handle (contents.Command c) = contents.Command c
 written_content handle (contents.Kv kv) = contents.Kv (record kv { file_id = Some handle.id })
 
--- the item, once its record's entry block is at `handle` (`written_content`)
+-- the item after its record was written, with the entry block at `handle` (`written_content`)
 abbrev pub written_item : FileBlockHandle → LogItem → LogItem
 written_item handle x = record x { content = written_content handle x.content }
 
--- the items, once their record's entry block is at `handle` (`written_content`)
+-- the items after their record was written, with the entry block at `handle` (`written_content`)
 abbrev pub written : FileBlockHandle → List LogItem → List LogItem
 written handle xs = map (written_item handle) xs
 
--- The items, once their record's entry block is at `handle`. Each entry gets this handle and its offset in the block;
--- the first is at 0. Operations on keys get the block's file.
+-- The items after their record was written, with the entry block at `handle`. Each entry gets this handle and its
+-- offset in the block; the first entry is at offset 0. Operations on keys get the block's file.
 abbrev pub placed : FileBlockHandle → List LogItem → List LogItem
 placed handle items = written handle (laid_out 0 items)
 
--- The item, once its record's entry block is at `handle`. Each entry gets this handle and its offset in the block; the
--- first is at `offset`. An operation on a key gets the block's file.
+-- The item after its record was written, with the entry block at `handle`. Each entry gets this handle and its offset
+-- in the block; the first entry of the item is at `offset`. An operation on a key gets the block's file.
 abbrev pub placed_item : FileBlockHandle → ℕ → LogItem → LogItem
 placed_item handle offset x = written_item handle (record x { content = laid_content offset x.content })
 
--- `len` is the total length of the entries of `plain`, or 2 ^ 64 - 1 if that is less. If the total is below 2 ^ 32,
--- `items` is `plain` with the places in the block at `handle`. Otherwise nothing is claimed about `items`.
+-- `len` is the total length of the entries of `plain`, but at most 2 ^ 64 - 1. If the total is below 2 ^ 32, `items` is
+-- `plain` with the places in the block at `handle`. Otherwise nothing is claimed about `items`.
 pub record ArePlaced (handle : FileBlockHandle) (plain items : List LogItem) (len : ℕ) : Type 0 where
   pub sum : len ≡ min (entries_len plain) (2 ^ 64 - 1)
   pub places : entries_len plain < 2 ^ 32 → items ≡ placed handle plain
 
 -- A decoder's result on the bytes `old`; `new` are the bytes that it left. `reading` is the result of reading `old`
--- without a block (`Reading.antt`). The decoder returned the items of `reading`, with their places in the block at
--- `handle`, and the length of their entries. If it fails, it does so as `reading` does, or for lack of memory, and it
--- consumes nothing.
+-- without places (`Reading.antt`). If the decoder succeeds, it returns the items of `reading`, with their places in the
+-- block at `handle`, and the total length of their entries. If it fails, it fails as `reading` does or with `Memory`,
+-- and consumes nothing.
 abbrev pub ReadsPlaced :
     FileBlockHandle → Result (Vec LogItem × ℕ) Error → List ℕ → List ℕ
     → Result (List LogItem × List ℕ) Fault → Type 0

@@ -43,18 +43,18 @@ index_past_limit = codes "Entry index past the limit"
 abbrev pub length_past_limit : List ℕ
 length_past_limit = codes "Entry length past the limit"
 
--- the error's text if an entry block has the compression `kind`, other than 0
+-- the error's text if an entry block has the unsupported compression `kind`, that is, any but 0
 abbrev pub unsupported_compression : ℕ → List ℕ
 unsupported_compression kind = codes "Unsupported compression type: " ++ decimal kind
 
 -- What single bytes encode, and readers.
 
--- the operation that the byte `op` encodes: 1 a put, 2 a deletion
+-- the operation that the byte `op` encodes: 1 is a put, 2 a deletion
 abbrev pub operation_of : ℕ → Result OpType Fault
 operation_of op =
     if op == 1 then Ok ops.Put else (if op == 2 then Ok ops.Del else Err (corrupt (unknown_operation op)))
 
--- the compression that the byte `kind` encodes: only 0, none, is supported
+-- the compression that the byte `kind` encodes; only 0, no compression, is supported
 abbrev pub compression_of : ℕ → Result CompressionType Fault
 compression_of kind = if kind == 0 then Ok kinds.None else Err (corrupt (unsupported_compression kind))
 
@@ -63,7 +63,7 @@ abbrev pub bytes_of_at : ℕ → Reader (List ℕ) Fault
 bytes_of_at n bytes =
     if nat_lt (length bytes) n then Err (number (Io UnexpectedEof)) else Ok (take n bytes, drop n bytes)
 
--- reads a varint, then as many bytes, and returns these
+-- reads a varint `n`, and then `n` bytes; returns these bytes
 unfoldable pub bytes_at : Reader (List ℕ) Fault
 bytes_at bytes = number_at bytes >>= λ n. bytes_of_at n.0 n.1
 

@@ -8,12 +8,12 @@ abbrev pub FollowsFrom : ℕ → List EntryIndex → Type 0
 FollowsFrom i [] = Unit {0}
 FollowsFrom i (e ∷ es) = (e.index ≡ i) × (e.entry_len < 2 ^ 32) × FollowsFrom (i + 1) es
 
--- the indexes rise by one, none is 2 ^ 64 - 1 or more, and each entry's length is below 2 ^ 32
+-- the indexes rise by one and are all below 2 ^ 64 - 1, and each entry's length is below 2 ^ 32
 abbrev pub IsRun : List EntryIndex → Type 0
 IsRun [] = Unit {0}
 IsRun (e ∷ es) = FollowsFrom e.index (e ∷ es) × (e.index + length (e ∷ es) < 2 ^ 64)
 
--- an entry with this index and length, which is not stored yet: no block, and offset 0
+-- an entry with this index and length that isn't stored yet: it has no block, and offset 0
 abbrev pub unplaced_entry : ℕ → ℕ → EntryIndex
 unplaced_entry index len =
     record { index = index; entries = None; compression_type = kinds.None; entry_offset = 0; entry_len = len }

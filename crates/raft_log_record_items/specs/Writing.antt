@@ -1,5 +1,5 @@
--- The bytes that the encoder writes for an item. The grammar also allows longer forms of a number; the encoder uses the
--- shortest one.
+-- The bytes that the encoder writes for an item. By the grammar, a number may also have longer forms; the encoder
+-- writes the shortest one.
 use Rattle.std.specs.Prelude.{◌≡◌, ℕ, List, [], ◌∷◌, ◌++◌, length, take, flat_map, map, unwrap_or}
 use Rattle.raft_log_record_base.specs.Number.{var_u64_bytes}
 use Rattle.raft_log_record_items.specs.declared.entry.EntryIndex.{EntryIndex}
@@ -16,7 +16,7 @@ use Rattle.raft_log_record_base.specs.Grammar.{Then, Times}
 use Rattle.raft_log_record_base.specs.Number.{IsByte}
 use Rattle.raft_log_record_items.specs.Items.{put_of, del_of, IsContentOf, IsKeyValue, IsItem}
 
--- the length of `xs` as a varint, then `xs`
+-- the length of `xs` as a varint, and then `xs`
 unfoldable pub bytes_bytes : List ℕ → List ℕ
 bytes_bytes xs = var_u64_bytes (length xs) ++ xs
 
@@ -66,14 +66,14 @@ item_bytes item = var_u64_bytes item.raft_group_id ++ content_bytes item.content
 unfoldable pub items_bytes : List LogItem → List ℕ
 items_bytes items = var_u64_bytes (length items) ++ flat_map item_bytes items
 
--- What is read back of an item that was written: all but the places of its entries and the file of its key.
+-- What is read back of an item that was written: everything except the places of its entries and the file of its key.
 
 -- a put of `value` under `key`, or a deletion of `key`, without a file
 abbrev pub plain_operation : OpType → List ℕ → List ℕ → KeyValue
 plain_operation Put key value = put_of key value
 plain_operation Del key value = del_of key
 
--- the operation on a key without its file; the value of a put is empty if there was none
+-- the operation on a key, without its file; a put without a value becomes a put of the empty value
 abbrev pub plain_key_value : KeyValue → KeyValue
 plain_key_value kv = plain_operation kv.op_type kv.key (value_of kv)
 
@@ -87,21 +87,22 @@ plain_content (contents.Kv kv) = contents.Kv (plain_key_value kv)
 abbrev pub plain_item : LogItem → LogItem
 plain_item item = record { raft_group_id = item.raft_group_id; content = plain_content item.content }
 
--- by the grammar, the bytes that the encoder writes for `content` (with the byte for its kind) encode what
--- `plain_content` leaves of it
+-- By the grammar, the bytes that the encoder writes for `content` (first the byte for its kind) encode `content`
+-- without places and files (`plain_content`).
 abbrev pub IsSpelledContent : LogItemContent → Type 0
 IsSpelledContent content =
     Then IsByte (λ kind. IsContentOf kind) (content_bytes content) (plain_content content)
 
--- by the grammar, the bytes that the encoder writes for this operation on a key encode it
+-- by the grammar, the bytes that the encoder writes for this operation on a key encode the operation, without a file
 abbrev pub IsSpelledOperation : OpType → List ℕ → List ℕ → Type 0
 IsSpelledOperation op key value = IsKeyValue (operation_bytes op key value) (plain_operation op key value)
 
--- by the grammar, the bytes that the encoder writes for `kv` encode it without its file
+-- by the grammar, the bytes that the encoder writes for `kv` encode `kv` without its file
 abbrev pub IsSpelledKeyValue : KeyValue → Type 0
 IsSpelledKeyValue kv = IsKeyValue (key_value_bytes kv) (plain_key_value kv)
 
--- by the grammar, the bytes that the encoder writes for `items`, one after another, encode them without their places
+-- By the grammar, the bytes that the encoder writes for `items`, one after another, encode the items without places and
+-- files (`plain_item`).
 abbrev pub AreSpelled : List LogItem → Type 0
 AreSpelled items = Times IsItem (length items) (flat_map item_bytes items) (map plain_item items)
 

@@ -4,7 +4,7 @@ use Rattle.raft_log_fs.specs.Disk.{Disk}
 use Rattle.raft_log_active_file.specs.declared.format.File.{File}
 use Rattle.raft_log_recovery_read.specs.declared.file_ending.FileEnding.{FileEnding}
 use Rattle.std.specs.declared.io.ErrorKind.{ErrorKind}
-use Rattle.raft_log_recovery_read.proofs.Handing.{one_item}
+use Rattle.raft_log_recovery_read.proofs.Public.{one_item}
 use Rattle.raft_log_recovery.specs.Cutting.{CutsEach, CutsOne, FailsToCutEach, FailsToCutOne}
 
 more : (files : List File) (endings : List FileEnding) (i : ℕ) (f : File) (e : FileEnding) (a b c : Disk) → i < length files → i < length endings → CutsEach (take i files) (take i endings) a b

@@ -21,12 +21,6 @@ so_far (suc i) [] files = files
 so_far (suc i) (ending ∷ endings) [] = []
 so_far (suc i) (ending ∷ endings) (file ∷ files) = record file { format = ending.format } ∷ so_far i endings files
 
-pub length-so_far : (i : ℕ) (endings : List FileEnding) (files : List File) → length (so_far i endings files) ≡ length files
-length-so_far zero endings files = refl
-length-so_far (suc i) [] files = refl
-length-so_far (suc i) (ending ∷ endings) [] = refl
-length-so_far (suc i) (ending ∷ endings) (file ∷ files) = ap suc (length-so_far i endings files)
-
 one_more : (i : ℕ) (endings : List FileEnding) (files : List File) (e : FileEnding) (f : File) → i < length endings → i < length files
     → set (so_far i endings files) i (record (get_or (so_far i endings files) i f) { format = (get_or endings i e).format }) ≡ so_far (suc i) endings files
 one_more i [] files e f told there = absurd (omega (arith, told))

@@ -11,8 +11,7 @@ use Rattle.raft_log_recovery_scan.specs.Opened.{AreOpen, permission_before}
 use Rattle.raft_log_recovery_scan.specs.Scanned.{IsQueueIn}
 use Rattle.raft_log_recovery_scan.specs.declared.file_kind.FileKind.{FileKind}
 use Rattle.raft_log_recovery_scan.specs.declared.scanning.found.FoundFile.{FoundFile}
-use Rattle.raft_log_recovery_scan.proofs.FoundLemmas.{limit_small}
-use Rattle.raft_log_recovery_scan.proofs.ScanLemmas.{kept_lie}
+use Rattle.raft_log_recovery_scan.proofs.Public.{kept_lie, limit_small}
 
 abbrev pub IsSmall : File → Type 0
 IsSmall file = file.seq < 10 ^ 16

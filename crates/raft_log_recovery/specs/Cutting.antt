@@ -6,24 +6,25 @@ use Rattle.raft_log_active_file.specs.TakingUp.{TrimMakes, Trims}
 use Rattle.raft_log_active_file.specs.declared.format.File.{File}
 use Rattle.raft_log_recovery_read.specs.declared.file_ending.FileEnding.{FileEnding}
 
--- If the first argument is true, the file was truncated and synced. It now ends after its last good record, or after
--- its header; it is empty if it had no header or a torn one. If the first argument is false, nothing changed.
+-- If the flag is true, the file was truncated and synced. It now ends after its last good record, or after its header
+-- if it has no good record. If it had no header or a torn one, it is empty. If the flag is false, nothing changed.
 abbrev pub CutsIf : Bool → File → FileEnding → Disk → Disk → Type 0
 CutsIf true file ending old new = Trims file.handle (unwrap_or ending.end 0) old new
 CutsIf false file ending old new = new ≡ old
 
--- if `ending`, the result of reading the file, says that it is damaged, it was truncated and synced (`CutsIf`)
+-- `ending` is the result of reading the file. If it says that the file is damaged, the file was truncated and synced
+-- (`CutsIf`).
 abbrev pub CutsOne : File → FileEnding → Disk → Disk → Type 0
 CutsOne file ending old new = CutsIf ending.is_damaged file ending old new
 
--- the file is damaged, and its truncation failed, or the sync after it
+-- the file is damaged, and its truncation or the sync after that failed
 pub record FailsToCutOne (file : File) (ending : FileEnding) (kind : ErrorKind) (old new : Disk)
     : Type 0 where
   pub damaged : ending.is_damaged ≡ true
   pub makes : TrimMakes file.handle (unwrap_or ending.end 0) kind old new
 
--- each damaged file was truncated and synced (`CutsIf`), in order; `endings` has the result of reading each file, and
--- so says which are damaged
+-- Each damaged file was truncated and synced (`CutsIf`), in order. `endings` has the result of reading each file, which
+-- says whether the file is damaged.
 abbrev pub CutsEach : List File → List FileEnding → Disk → Disk → Type 0
 CutsEach [] endings old new = new ≡ old
 CutsEach (file ∷ files) [] old new = new ≡ old

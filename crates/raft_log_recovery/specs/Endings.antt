@@ -3,7 +3,7 @@ use Rattle.std.specs.Prelude.{ℕ, Option, None, List, [], ◌∷◌}
 use Rattle.raft_log_active_file.specs.declared.format.File.{File}
 use Rattle.raft_log_recovery_read.specs.declared.file_ending.FileEnding.{FileEnding}
 
--- each file, with the format that was read from its header; without a header, version 1 and no alignment
+-- each file, with the format that was read from its header; for a file without a header, version 1 and no alignment
 abbrev pub as_read : List FileEnding → List File → List File
 as_read [] files = files
 as_read (ending ∷ endings) [] = []

@@ -7,17 +7,18 @@ use Rattle.raft_log_fs.specs.Disk.{Disk}
 use Rattle.raft_log_fs.specs.Exits.{FailsToWrite, Writes}
 use Rattle.raft_log_fs.specs.declared.handle.Handle.{Handle}
 
--- `bytes` was written `count` times (the third argument), from the file's start on, each time after the ones before
+-- `bytes` was written `count` times (`count` is the third argument). The first time it was written at the file's start,
+-- and each further time right after the one before.
 abbrev pub WritesPieces : Handle → List ℕ → ℕ → Disk → Disk → Type 0
 WritesPieces handle bytes zero old new = new ≡ old
 WritesPieces handle bytes (suc count) old new = (mid : Disk) × WritesPieces handle bytes count old mid
     × Writes handle (count * length bytes) bytes mid new
 
--- `bytes` was written again and again, one after another, until the file had at least `size` bytes
+-- `bytes` was written again and again from the file's start on, until `size` bytes or more were written
 abbrev pub FillsFile : Handle → List ℕ → ℕ → Disk → Disk → Type 0
 FillsFile handle bytes size old new = WritesPieces handle bytes (div_ceil size (length bytes)) old new
 
--- one of the writes that fill a file failed; `count` writes before it succeeded
+-- one of the writes that fill a file failed; the `count` writes before it succeeded
 pub record FailsToFill (handle : Handle) (bytes : List ℕ) (size : ℕ) (kind : ErrorKind) (old new : Disk)
     : Type 0 where
   pub count : ℕ

@@ -21,8 +21,8 @@ use Rattle.raft_log_recovery.specs.Syncing.{FailsToSyncEach, SyncsEach}
 use Rattle.raft_log_recovery.specs.declared.builder.DualPipesBuilder.{DualPipesBuilder}
 use Rattle.raft_log_recovery.specs.declared.recovered_queue.RecoveredQueue.{RecoveredQueue}
 
--- A purge keeps files of a queue for recycling only as long as these and the live range have at most this many files
--- together. It is 0 for Rewrite, which keeps none.
+-- The most files that a queue's live range and the queue's files for recycling may have together. A purge keeps no more
+-- files for recycling than that. It is 0 for Rewrite, which keeps none.
 abbrev pub capacity_of : LogQueue → Config → ℕ
 capacity_of Append config = recycle_capacity (settings_of config)
 capacity_of Rewrite config = 0
@@ -37,7 +37,7 @@ pub record IsWantedAs (queue : LogQueue) (config : Config) (pipe : FoundPipe) : 
   pub capacity : pipe.settings.capacity ≡ capacity_of queue config
 
 -- The pipe of a queue gets what was recovered of the queue:
--- - each file, in the format that was read from its header
+-- - its files, each with the format that was read from the file's header
 -- - the offset up to which the last file was read
 -- - the files that are kept for recycling
 pub record IsPipeRecovered (queue : LogQueue) (config : Config) (read : RecoveredQueue) (kept : List File)
@@ -60,7 +60,8 @@ pub record SyncsLog (b : DualPipesBuilder) (old new : Disk) : Type 0 where
   pub rewrite : SyncsEach (rewrite_files b) between behind
   pub reserved : SyncsEach b.reserved.items behind new
 
--- syncing a file of a queue or one kept for recycling failed; those before it, in the order of `SyncsLog`, were synced
+-- Syncing a file failed: a file of a queue, or one that is kept for recycling. The files before it, in the order of
+-- `SyncsLog`, were synced.
 pub data FailsToSyncLog (b : DualPipesBuilder) (kind : ErrorKind) (old new : Disk) : Type 0 where
   append_unsynced : FailsToSyncEach (append_files b) kind old new → FailsToSyncLog b kind old new
   rewrite_unsynced : (between : Disk) → SyncsEach (append_files b) old between
@@ -69,8 +70,8 @@ pub data FailsToSyncLog (b : DualPipesBuilder) (kind : ErrorKind) (old new : Dis
       → SyncsEach (rewrite_files b) between behind → FailsToSyncEach b.reserved.items kind behind new
       → FailsToSyncLog b kind old new
 
--- A log was opened over its recovered files: all of them were synced, and then its pipes were opened. `v` are the open
--- pipes.
+-- A log was opened over its recovered files. First all of these files were synced, and then the log's pipes were
+-- opened. `v` are the open pipes.
 pub record OpensRecovered (b : DualPipesBuilder) (old : Disk) (v : LogPipes) : Type 0 where
   pub read : IsAllRead b
   pub synced : Disk
@@ -85,22 +86,24 @@ pub record OpensRecovered (b : DualPipesBuilder) (old : Disk) (v : LogPipes) : T
 abbrev pub told_unread : List ℕ
 told_unread = codes "the log's files weren't recovered"
 
--- the error if files weren't recovered before: `InvalidArgument` with this message, or `Memory` if it could not be
+-- the error if files weren't recovered before: `InvalidArgument` with this message, or `Memory` if the message can't be
 -- allocated
 abbrev pub TellsUnread : Error → Type 0
 TellsUnread (errors.InvalidArgument text) = string_bytes text ≡ told_unread
 TellsUnread errors.Memory = Unit {0}
 TellsUnread _ = ⊥
 
--- The errors if nothing was done. `InvalidArgument`: not all files were recovered before. `Memory`: memory ran out.
+-- The error if `finish` did nothing:
+-- - `InvalidArgument`: not all files were recovered before.
+-- - `Memory`: memory ran out.
 abbrev pub IsUnready : DualPipesBuilder → Error → Type 0
 IsUnready b (errors.InvalidArgument text) = (IsAllRead b → ⊥) × (string_bytes text ≡ told_unread)
 IsUnready b errors.Memory = Unit {0}
 IsUnready b _ = ⊥
 
 -- Why opening a log over its recovered files fails:
--- - `unready`: not all files were recovered, or memory ran out, and nothing was done
--- - `unsynced`: the sync of a file failed, after those before it were synced
+-- - `unready`: not all files were recovered, or memory ran out; nothing was done
+-- - `unsynced`: the sync of a file failed, after the files before it were synced
 -- - `unopened`: all files were synced, and opening a pipe failed
 pub data FailsToOpenRecovered (b : DualPipesBuilder) (error : Error) (old new : Disk) : Type 0 where
   unready : IsUnready b error → new ≡ old → FailsToOpenRecovered b error old new

@@ -1,4 +1,4 @@
--- The recovery of both queues: their files are read by worker threads, and damaged ones are truncated.
+-- The recovery of both queues: worker threads read their files, and then damaged files are truncated.
 use Rattle.std.specs.Prelude.{◌≡◌, ◌+◌, ℕ, min, length, List}
 use Rattle.std.specs.declared.io.ErrorKind.{ErrorKind}
 use Rattle.raft_log_record_base.specs.declared.errors.Error.{Error}
@@ -40,17 +40,17 @@ abbrev pub all_workers : DualPipesBuilder → ℕ
 all_workers b = min (settings_of b.config).recovery_threads
     (length (append_files b) + length (rewrite_files b))
 
--- how the files of Append are read, by its share of the worker threads
+-- how the files of Append are read: by Append's share of the worker threads
 abbrev pub append_config : DualPipesBuilder → RecoveryConfig
 append_config b = recovery_of b.config Append
     (append_share (all_workers b) (length (append_files b)) (length (rewrite_files b)))
 
--- how the files of Rewrite are read, by its share of the worker threads
+-- how the files of Rewrite are read: by Rewrite's share of the worker threads
 abbrev pub rewrite_config : DualPipesBuilder → RecoveryConfig
 rewrite_config b = recovery_of b.config Rewrite
     (rewrite_share (all_workers b) (length (append_files b)) (length (rewrite_files b)))
 
--- One replay machine has read all files of Append, and another all files of Rewrite. The endings are the results for
+-- One replay machine has read all files of Append, and another all files of Rewrite. The endings have the result for
 -- each file. No file has an alignment.
 pub record HasReadBoth {M : Type 0} (reads : LogQueue → List Batch → M → Type 0) (b : DualPipesBuilder)
     (d : Disk) (append rewrite : M) (append_endings rewrite_endings : List FileEnding) : Type 0 where
@@ -59,8 +59,8 @@ pub record HasReadBoth {M : Type 0} (reads : LogQueue → List Batch → M → T
   pub append_unaligned : AreUnaligned append_endings
   pub rewrite_unaligned : AreUnaligned rewrite_endings
 
--- Both queues were read into the replay machines `append` and `rewrite`. Then their damaged files were truncated and
--- synced, those of Append first. The builder `after` has the results for the files, and is otherwise as `b`.
+-- Both queues were read into the replay machines `append` and `rewrite`. Then the damaged files were truncated and
+-- synced, those of Append first. The builder `after` has the results for the files; otherwise it is the builder `b`.
 pub record RecoversLog {M : Type 0} (reads : LogQueue → List Batch → M → Type 0) (append rewrite : M)
     (b after : DualPipesBuilder) (old new : Disk) : Type 0 where
   pub read : HasReadBoth reads b old append rewrite after.append.endings.items after.rewrite.endings.items
@@ -71,9 +71,10 @@ pub record RecoversLog {M : Type 0} (reads : LogQueue → List Batch → M → T
       × (after.rewrite.files ≡ b.rewrite.files) × (after.reserved ≡ b.reserved)
 
 -- Why recovering the queues fails:
--- - reading a queue failed, and nothing was truncated
--- - one of the files has an alignment, and nothing was truncated
--- - truncating or syncing a damaged file failed, after those before it
+-- - `append_unread`, `rewrite_unread`: reading a queue failed, and nothing was truncated
+-- - `aligned`: a file has an alignment, and nothing was truncated
+-- - `append_uncut`, `rewrite_uncut`: truncating or syncing a damaged file failed, after the damaged files before it
+--   were truncated
 pub data FailsToRecoverLog {M : Type 0} (reads : LogQueue → List Batch → M → Type 0)
     (declines : LogQueue → List Batch → Error → Type 0) (b : DualPipesBuilder) (error : Error)
     (old new : Disk) : Type 0 where

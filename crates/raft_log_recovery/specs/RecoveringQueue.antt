@@ -1,4 +1,4 @@
--- The recovery of one queue: its files are read, and damaged ones are truncated.
+-- The recovery of one queue: its files are read, and then damaged files are truncated.
 use Rattle.std.specs.Prelude.{◌≡◌, List}
 use Rattle.std.specs.declared.io.ErrorKind.{ErrorKind}
 use Rattle.raft_log_record_base.specs.declared.errors.Error.{Error}
@@ -15,8 +15,8 @@ use Rattle.raft_log_recovery.specs.Unaligned.{AreUnaligned, TellsAligned}
 use Rattle.raft_log_recovery.specs.declared.builder.DualPipesBuilder.{DualPipesBuilder}
 use Rattle.raft_log_recovery.specs.declared.recovered_queue.RecoveredQueue.{RecoveredQueue}
 
--- The replay machine has read all files of the queue `q`, or none if `config.concurrency` is 0. Each file that was read
--- has no alignment: its records follow one another without padding. Then the damaged files were truncated and synced.
+-- The replay machine has read all files of the queue `q`, or none if `config.concurrency` is 0. No file that was read
+-- has an alignment, so there is no padding between its records. Then the damaged files were truncated and synced.
 -- `after` has the files of `q`, and the result for each file that was read.
 pub record RecoversFiles {M : Type 0} (reads : LogQueue → List Batch → M → Type 0) (config : RecoveryConfig)
     (machine : M) (q after : RecoveredQueue) (old new : Disk) : Type 0 where
@@ -26,9 +26,9 @@ pub record RecoversFiles {M : Type 0} (reads : LogQueue → List Batch → M →
   pub same : after.files ≡ q.files
 
 -- Why recovering a queue fails:
--- - reading it failed, and nothing was truncated
--- - one of the files has an alignment, and nothing was truncated
--- - truncating or syncing a damaged file failed, after those before it
+-- - `unread`: reading the queue failed, and nothing was truncated
+-- - `aligned`: a file has an alignment, and nothing was truncated
+-- - `uncut`: truncating or syncing a damaged file failed, after the damaged files before it were truncated
 pub data FailsToRecoverFiles {M : Type 0} (reads : LogQueue → List Batch → M → Type 0)
     (declines : LogQueue → List Batch → Error → Type 0) (config : RecoveryConfig) (q : RecoveredQueue)
     (error : Error) (old new : Disk) : Type 0 where
@@ -44,12 +44,12 @@ pub data FailsToRecoverFiles {M : Type 0} (reads : LogQueue → List Batch → M
       → FailsToCutEach q.files.items endings kind old new
       → FailsToRecoverFiles reads declines config q error old new
 
--- the files of a queue that the builder found, with their results
+-- the files of this queue that the builder found, with the results of reading them
 abbrev pub queue_files : LogQueue → DualPipesBuilder → RecoveredQueue
 queue_files Append b = b.append
 queue_files Rewrite b = b.rewrite
 
--- `after` is the builder `b`, except for its files and results of this queue
+-- `after` is the builder `b`, except for the files of this queue and their results
 abbrev pub OtherQueueIsKept : LogQueue → DualPipesBuilder → DualPipesBuilder → Type 0
 OtherQueueIsKept Append b after = after ≡ record b { append = after.append }
 OtherQueueIsKept Rewrite b after = after ≡ record b { rewrite = after.rewrite }

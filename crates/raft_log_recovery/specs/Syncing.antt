@@ -11,7 +11,7 @@ SyncsEach [] old new = new ≡ old
 SyncsEach (file ∷ files) old new =
     (mid : Disk) × Syncs file.handle old mid × SyncsEach files mid new
 
--- the sync of one of these files failed; those before it were synced
+-- the sync of one of these files failed; the files before it were synced
 pub record FailsToSyncEach (files : List File) (kind : ErrorKind) (old new : Disk) : Type 0 where
   pub before : List File
   pub file : File

@@ -1,4 +1,4 @@
--- Files with an alignment: with padding between records, which the log's pipes don't support.
+-- Files with an alignment have padding between records. The log's pipes don't support such files.
 use Rattle.std.specs.Prelude.{◌≡◌, ℕ, List, [], ◌∷◌, codes}
 use Rattle.std.specs.String.{string_bytes}
 use Rattle.raft_log_record_base.specs.declared.errors.Error.{Error}
@@ -14,7 +14,8 @@ AreUnaligned (ending ∷ endings) = (ending.format.alignment ≡ 0) × AreUnalig
 abbrev pub told_aligned : List ℕ
 told_aligned = codes "a file of the log has an alignment, which this log doesn't take"
 
--- the error if a file has an alignment: `InvalidArgument` with this message, or `Memory` if it could not be allocated
+-- the error if a file has an alignment: `InvalidArgument` with this message, or `Memory` if the message can't be
+-- allocated
 abbrev pub TellsAligned : Error → Type 0
 TellsAligned (errors.InvalidArgument text) = string_bytes text ≡ told_aligned
 TellsAligned errors.Memory = Unit {0}

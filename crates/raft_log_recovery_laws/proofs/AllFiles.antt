@@ -20,7 +20,7 @@ use Rattle.raft_log_engine_laws.specs.raft_log_active_file.specs.Paths.{IsOwnPat
 use Rattle.raft_log_engine_laws.specs.raft_log_active_file.specs.declared.record.LogRecord.{LogRecord}
 use Rattle.raft_log_recovery_scan.specs.Found.{AreDistinct, AreFilesIn, FileLiesIn, found_path}
 use Rattle.raft_log_recovery_scan.specs.Names.{name_of}
-use Rattle.raft_log_recovery_scan.proofs.FoundLemmas.{limit_small, name_plain, sign_one}
+use Rattle.raft_log_recovery_scan.proofs.Public.{limit_small, name_plain, sign_one}
 use Rattle.raft_log_recovery_scan.specs.Runs.{IsRunOf, found_cmp}
 use Rattle.raft_log_recovery_scan.specs.Scanned.{IsQueueIn}
 use Rattle.raft_log_recovery_scan.specs.declared.scanning.found.FoundFile.{FoundFile}

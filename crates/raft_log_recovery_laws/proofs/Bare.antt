@@ -16,7 +16,7 @@ use Rattle.raft_log_fs.specs.Arguments.{WrongDirectory}
 use Rattle.raft_log_fs.specs.Calls.{with_directory}
 use Rattle.raft_log_fs.specs.Disk.{Disk, IsPathIn}
 use Rattle.raft_log_fs.specs.Image.{IsSound}
-use Rattle.raft_log_fs.proofs.KeptLaws.{kept_directory, IsCalm}
+use Rattle.raft_log_fs.proofs.Public.{kept_directory, IsCalm}
 use Rattle.raft_log_active_file.specs.Beginning.{IsFresh}
 use Rattle.raft_log_file_format.specs.Name.{suffix_of}
 use Rattle.raft_log_engine_laws.specs.raft_log_active_file.specs.QueueFiles.{log_format}
@@ -32,7 +32,7 @@ use Rattle.raft_log_recovery_scan.specs.Directories.{FailsToHave, HasDirectories
 use Rattle.raft_log_recovery_scan.specs.Metadata.{ChangesNoFile}
 use Rattle.raft_log_recovery_scan.specs.Scanned.{FailsToScan}
 use Rattle.raft_log_dual_pipes.specs.OnDisk.{IsDurableAs}
-use Rattle.raft_log_dual_pipes.proofs.OnDiskLaws.{logs_go_on_disks}
+use Rattle.raft_log_dual_pipes.proofs.Public.{logs_go_on_disks}
 use Rattle.raft_log_dual_pipes.specs.Pipes.{LogPipes}
 use Rattle.raft_log_engine_laws.specs.EngineState.{log_in}
 use Rattle.raft_log_engine_laws.specs.Holding.{IsRecoverableAs}

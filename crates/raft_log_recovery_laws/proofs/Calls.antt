@@ -11,12 +11,9 @@ use Rattle.raft_log_fs.specs.Calls.{counted, created, deleted, at_stop, flushed,
 use Rattle.raft_log_file_writer.specs.LogFormat.{Format}
 use Rattle.raft_log_file_writer.specs.LogQueue.{LogFiles}
 use Rattle.raft_log_fs.specs.Touching.{TouchesOnly}
-use Rattle.raft_log_fs.proofs.ImageLaws.{named_is_used}
-use Rattle.raft_log_fs.proofs.KeptLaws.{IsCalm, kept_create, kept_delete, kept_sync}
-use Rattle.raft_log_fs.proofs.TouchingLaws.{same_file}
-use Rattle.raft_log_fs.proofs.Updates.{file_apart, file_here, name_apart, name_case}
+use Rattle.raft_log_fs.proofs.Public.{file_apart, file_here, kept_create, kept_delete, kept_sync, name_apart, name_case, named_is_used, same_file, IsCalm}
 use Rattle.raft_log_active_file.specs.Standing.{HaveOneName, Names}
-use Rattle.raft_log_active_file.proofs.Standing.{place_moved}
+use Rattle.raft_log_active_file.proofs.Public.{place_moved}
 use Rattle.raft_log_dual_pipes.specs.Queues.{QueueLayout}
 use Rattle.raft_log_dual_pipes.specs.State.{IsStopped, Spanned}
 use Rattle.raft_log_dual_pipes.specs.Reopening.{RestsQueue}

@@ -5,7 +5,7 @@ use Rattle.raft_log_machine_laws.specs.Log.{IsLog}
 use Rattle.raft_log_fs.specs.Disk.{Disk}
 use Rattle.raft_log_fs.specs.Image.{IsSound}
 use Rattle.raft_log_fs.specs.Touching.{HasFile}
-use Rattle.raft_log_fs.proofs.TouchingLaws.{has_weaker}
+use Rattle.raft_log_fs.proofs.Public.{has_weaker}
 use Rattle.raft_log_file_writer.specs.LogQueue.{HoldsLast, IsLeftover, IsPast, LogFiles}
 use Rattle.raft_log_active_file.specs.Queue.{finished, settled}
 use Rattle.raft_log_active_file.specs.Layout.{path_of}
@@ -18,7 +18,7 @@ use Rattle.raft_log_dual_pipes.specs.OpenOrClosed.{LiesQueue}
 use Rattle.raft_log_dual_pipes.specs.Pipes.{LogRecordValue, State}
 use Rattle.raft_log_dual_pipes.specs.Queues.{AreTwoQueues, IsQueueLayout, QueueLayout}
 use Rattle.raft_log_dual_pipes.specs.State.{HasSpan, IsStopped, Spanned, Ties}
-use Rattle.raft_log_dual_pipes.proofs.Numbers.{none_pending}
+use Rattle.raft_log_dual_pipes.proofs.Public.{none_pending}
 use Rattle.raft_log_engine_laws.specs.EngineState.{EngineState, LogDirectories, LogMap, log_in, sense}
 use Rattle.raft_log_engine_laws.specs.Holding.{Represents}
 use Rattle.raft_log_recovery_laws.specs.Closed.{ClosedEnginesReopen, ClosedFilesMeetThePremise, ClosesProperly, EndsWithOwnBytes, HoldsRecordsAlone, IsClosedAs, IsThatOrItsImage}

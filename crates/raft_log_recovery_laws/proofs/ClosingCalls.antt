@@ -8,10 +8,7 @@ use Rattle.raft_log_fs.specs.Arguments.{WrongHandle, WrongRename, WrongWriter}
 use Rattle.raft_log_fs.specs.Causes.{Fails, IsLater}
 use Rattle.raft_log_fs.specs.Image.{IsSound}
 use Rattle.raft_log_fs.specs.Touching.{TouchesOnly, TouchesOnlyNames}
-use Rattle.raft_log_fs.proofs.CauseLaws.{later_change, later_rename, later_same, later_sync, later_then}
-use Rattle.raft_log_fs.proofs.KeptLaws.{IsCalm, kept_rename}
-use Rattle.raft_log_fs.proofs.SoundLaws.{sound_at_stop, sound_counted, sound_renamed}
-use Rattle.raft_log_fs.proofs.TouchingLaws.{names_rename, names_same, names_then, touches_sync, touches_then}
+use Rattle.raft_log_fs.proofs.Public.{kept_rename, later_change, later_rename, later_same, later_sync, later_then, names_rename, names_same, names_then, sound_at_stop, sound_counted, sound_renamed, touches_sync, touches_then, IsCalm}
 use Rattle.raft_log_file_writer.specs.LogFormat.{Format}
 use Rattle.raft_log_file_writer.specs.Writer.{Closes, CutsBehind, FailsToClose, IsWritten}
 use Rattle.raft_log_file_writer.specs.Writer.CutsBehind.{ends_there, is_cut}
@@ -19,12 +16,12 @@ use Rattle.raft_log_file_writer.specs.Writer.FailsToClose.{not_cut, not_synced}
 use Rattle.raft_log_file_writer.specs.declared.writer.LogFileWriter.{LogFileWriter}
 use Rattle.raft_log_fs.specs.Exits.{FailsToSync}
 use Rattle.raft_log_fs.specs.declared.handle.Handle.{Handle}
-use Rattle.raft_log_file_writer.proofs.WriterLaws.{cut_handle, cut_later, cut_touches, uncut_kept, unclosed_kept}
+use Rattle.raft_log_file_writer.proofs.Public.{cut_handle, cut_later, cut_touches, unclosed_kept, uncut_kept}
 use Rattle.raft_log_active_file.specs.Layout.{FilePaths, IsLayout, path_of}
 use Rattle.raft_log_file_pipe.specs.Closing.{AreBelow, FinishesOrNot, Reserves, ReservesAll, StaysLeft}
 use Rattle.raft_log_file_pipe.specs.Closing.Reserves.{named, refused, unnamed}
 use Rattle.raft_log_file_pipe.specs.Files.{Listed}
-use Rattle.raft_log_file_pipe.proofs.SettingAside.{stays_left_by}
+use Rattle.raft_log_file_pipe.proofs.Public.{stays_left_by}
 use Rattle.raft_log_recovery_laws.proofs.Cutting.{flushed_sound, shortened_sound}
 
 -- The active file is finished.

@@ -4,7 +4,7 @@ use Rattle.raft_log_record_base.specs.declared.pipe_log.LogQueue.TheVariants.{Ap
 use Rattle.raft_log_fs.specs.Disk.{Disk, File, at_rest}
 use Rattle.raft_log_fs.specs.Image.{IsSound}
 use Rattle.raft_log_fs.specs.Touching.{TouchesOnlyNames}
-use Rattle.raft_log_fs.proofs.TouchingLaws.{names_file}
+use Rattle.raft_log_fs.proofs.Public.{names_file}
 use Rattle.raft_log_file_writer.specs.LogQueue.{LogFiles}
 use Rattle.raft_log_engine_laws.specs.raft_log_active_file.specs.declared.record.LogRecord.{LogRecord}
 use Rattle.raft_log_engine_laws.specs.raft_log_active_file.specs.QueueFiles.{log_paths}
@@ -16,8 +16,7 @@ use Rattle.raft_log_file_pipe.specs.declared.pipe_files.PipeFiles.{PipeFiles}
 use Rattle.raft_log_dual_pipes.specs.Closing.{LiesSettled, SettlesBoth}
 use Rattle.raft_log_dual_pipes.specs.Pipes.{LogPipes, LogSense, RunsOn, State, files_of, queues}
 use Rattle.raft_log_dual_pipes.specs.Queues.{AreTwoQueues, QueueLayout}
-use Rattle.raft_log_dual_pipes.proofs.Aside.{pipe_stays}
-use Rattle.raft_log_dual_pipes.proofs.CloseSteps.{settled_log_is_a_log}
+use Rattle.raft_log_dual_pipes.proofs.Public.{pipe_stays, settled_log_is_a_log}
 use Rattle.raft_log_recovery_laws.specs.Closed.{ClosesProperly}
 use Rattle.raft_log_recovery_laws.specs.Running.{active_header, own_bytes}
 use Rattle.raft_log_recovery_laws.proofs.ClosingCalls.{closes_sound, closes_touch, reserves_sound, reserves_stay, reserves_touch}

@@ -5,23 +5,22 @@ use Rattle.raft_log_fs.specs.Disk.{Disk, File, at_rest}
 use Rattle.raft_log_fs.specs.Image.{IsSound}
 use Rattle.raft_log_fs.specs.Touching.{HasFile, TouchesOnlyNames}
 use Rattle.raft_log_fs.specs.declared.handle.Handle.{Handle}
-use Rattle.raft_log_fs.proofs.TouchingLaws.{has_weaker, same_file}
+use Rattle.raft_log_fs.proofs.Public.{has_weaker, same_file}
 use Rattle.raft_log_file_writer.specs.LawsChains.{Written, spelled}
 use Rattle.raft_log_file_writer.specs.LogFormat.{Format, IsFormat}
 use Rattle.raft_log_file_writer.specs.LogQueue.{IsLeftover, IsPast, LogFiles, recent}
 use Rattle.raft_log_file_writer.specs.Writer.{Closes, IsWritten}
 use Rattle.raft_log_file_writer.specs.declared.writer.LogFileWriter.{LogFileWriter}
-use Rattle.raft_log_file_writer.proofs.WriterLaws.{cut_handle}
+use Rattle.raft_log_file_writer.proofs.Public.{cut_handle}
 use Rattle.raft_log_active_file.specs.Exits.{IsFinished}
 use Rattle.raft_log_active_file.specs.LastFile.{IsPastTo}
 use Rattle.raft_log_active_file.specs.Layout.{path_of}
 use Rattle.raft_log_active_file.specs.Queue.{finished, settled, whole}
-use Rattle.raft_log_active_file.proofs.Calls.{finishes, is_written}
+use Rattle.raft_log_active_file.proofs.Public.{finishes, is_written}
 use Rattle.raft_log_file_pipe.specs.Closing.{AreBelow, IsSettledBy}
 use Rattle.raft_log_file_pipe.specs.Files.{IsPipe, Listed}
 use Rattle.raft_log_file_pipe.specs.declared.pipe_files.PipeFiles.{PipeFiles}
-use Rattle.raft_log_file_pipe.proofs.Lists.{path_numbered}
-use Rattle.raft_log_file_pipe.proofs.SettingAside.{finished_is_settled, pipe_below}
+use Rattle.raft_log_file_pipe.proofs.Public.{finished_is_settled, path_numbered, pipe_below}
 use Rattle.raft_log_dual_pipes.specs.Queues.{IsQueueLayout, QueueLayout}
 use Rattle.raft_log_recovery_laws.specs.Running.{active_header, own_bytes}
 use Rattle.raft_log_recovery_laws.proofs.ClosingCalls.{AreOwn, below_reversed, closes_touch}

@@ -22,7 +22,7 @@ use Rattle.raft_log_engine_laws.specs.raft_log_active_file.specs.Paths.{IsPathWi
 use Rattle.raft_log_file_settings.specs.Sanitized.{IsFileName}
 use Rattle.raft_log_recovery_scan.specs.Found.{AreFilesIn, FileLiesIn, found_path}
 use Rattle.raft_log_recovery_scan.specs.Names.{built_name, end_of, name_of}
-use Rattle.raft_log_recovery_scan.proofs.FoundLemmas.{limit_small}
+use Rattle.raft_log_recovery_scan.proofs.Public.{limit_small}
 use Rattle.raft_log_recovery_scan.specs.declared.file_kind.FileKind.{FileKind}
 use Rattle.raft_log_recovery_scan.specs.declared.scanning.found.FoundFile.{FoundFile}
 use Rattle.raft_log_recovery_laws.specs.Scanned.{kind_of}
@@ -30,7 +30,7 @@ use Rattle.raft_log_offline.specs.Copies.{copy_path}
 use Rattle.raft_log_offline.specs.Forks.{CopiesAll, IsCopyPath}
 use Rattle.raft_log_offline.specs.Sources.{AreSources, IsLastOf, IsNoLater, IsSource}
 use Rattle.raft_log_offline.specs.declared.source_file.SourceFile.{SourceFile}
-use Rattle.raft_log_offline.proofs.Lasts.{first, first_or_later, in_none, itself, later, no_later_then}
+use Rattle.raft_log_offline.proofs.Public.{first, first_or_later, in_none, itself, later, no_later_then}
 use Rattle.raft_log_recovery_laws.proofs.FoundPaths.{path_found}
 use Rattle.raft_log_recovery_laws.proofs.Sources.{copied_at, copied_to, has_sources, in_one, path_in, source_is, to_source}
 

@@ -9,7 +9,7 @@ use Rattle.raft_log_model_laws.specs.Meaning.{says, write, directory, holds, Con
 use Rattle.raft_log_model_laws.specs.Meaning.Slot.{Index}
 use Rattle.raft_log_model_laws.specs.Meaning.Content.{Entry}
 use Rattle.raft_log_model_laws.specs.Groups.{none_open, of_group, onto, rewritten, set_open, settle, Open}
-use Rattle.raft_log_model_laws.proofs.Cases.{at_bool, at_option}
+use Rattle.raft_log_model_laws.proofs.Public.{at_bool, at_option}
 use Rattle.raft_log_machine_laws.specs.Machine.{AllFit, Fits, RecordsFit}
 use Rattle.raft_log_memtable_index.specs.Shown.{KeyValue}
 use Rattle.raft_log_memtable_index.specs.Bridge.{Located}

@@ -4,14 +4,14 @@ use Rattle.raft_log_fs.specs.Disk.{ShortenedTo, Disk, File as DiskFile}
 use Rattle.raft_log_fs.specs.Image.{IsSound}
 use Rattle.raft_log_fs.specs.Calls.{after_change, flushed, Changes}
 use Rattle.raft_log_fs.specs.Touching.{HasFile}
-use Rattle.raft_log_fs.proofs.SoundLaws.{sound_after_change, sound_flushed, sound_with_file}
+use Rattle.raft_log_fs.proofs.Public.{sound_after_change, sound_flushed, sound_with_file}
 use Rattle.raft_log_file_format.specs.Header.{header_bytes}
 use Rattle.raft_log_active_file.specs.Standing.{Names}
 use Rattle.raft_log_active_file.specs.Layout.{path_of}
 use Rattle.raft_log_active_file.specs.declared.format.File.{File}
 use Rattle.raft_log_engine_laws.specs.raft_log_active_file.specs.declared.record.LogRecord.{LogRecord}
 use Rattle.raft_log_file_pipe.specs.Opening.{first_number}
-use Rattle.raft_log_file_pipe.proofs.Lists.{path_numbered, span_end, span_moved}
+use Rattle.raft_log_file_pipe.proofs.Public.{path_numbered, span_end, span_moved}
 use Rattle.raft_log_recovery_read.specs.declared.file_ending.FileEnding.{FileEnding}
 use Rattle.raft_log_dual_pipes.specs.Queues.{IsQueueLayout, QueueLayout}
 use Rattle.raft_log_dual_pipes.specs.State.{IsStopped, Spanned}

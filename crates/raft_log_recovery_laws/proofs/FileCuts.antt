@@ -14,13 +14,11 @@ use Rattle.raft_log_file_writer.specs.KeepsSynced.{AreKept, HoldsAtLeast, HoldsC
 use Rattle.raft_log_file_writer.specs.LogFormat.{Format, HasHeader, IsFormat, NoChanceInFile}
 use Rattle.raft_log_file_writer.specs.LogQueue.{HeaderStands, HoldsLast, LogFiles, recent}
 use Rattle.raft_log_fs.specs.declared.handle.Handle.{Handle}
-use Rattle.raft_log_file_writer.proofs.LawsChainLaws.{frames_back, nothing_refuses, spelled-append}
-use Rattle.raft_log_file_writer.proofs.KeepsSyncedLaws.{at_least_keeps, holds_at_least, holds_changed, holds_more, holds_read, holds_shortened, left_keeps_part}
+use Rattle.raft_log_file_writer.proofs.Public.{at_least_keeps, frames_back, holds_at_least, holds_changed, holds_more, holds_read, holds_shortened, left_keeps_part, nothing_refuses, spelled-append}
 use Rattle.raft_log_active_file.specs.Queue.{begun}
 use Rattle.raft_log_active_file.specs.Reopening.{IsReadTo}
 use Rattle.raft_log_active_file.specs.Standing.{HaveOneName, Names, OwnsPaths, Stands}
-use Rattle.raft_log_active_file.proofs.Reopening.{empty_holds}
-use Rattle.raft_log_active_file.proofs.Standing.{stands_changed, stands_done, stands_synced}
+use Rattle.raft_log_active_file.proofs.Public.{empty_holds, stands_changed, stands_done, stands_synced}
 use Rattle.raft_log_active_file.specs.TakingUp.{TrimMakes, Trims, uncut, unsynced}
 
 -- the last file holds its records, and no checksum is met by chance in it as it stands

@@ -15,9 +15,7 @@ use Rattle.raft_log_record_items.specs.declared.entry.EntryIndex.{EntryIndex}
 use Rattle.raft_log_record_items.specs.declared.item.LogItem.{LogItem}
 use Rattle.raft_log_record_items.specs.Placed.{entries_len, laid_out, placed, written_entry}
 use Rattle.raft_log_record_frames.specs.Record.{block_bytes, block_of, IsBlock, IsFrame}
-use Rattle.raft_log_record_frames.proofs.Blocks.{block_again}
-use Rattle.raft_log_record_frames.proofs.Headers.{header_words}
-use Rattle.raft_log_record_frames.proofs.Made.{block_more}
+use Rattle.raft_log_record_frames.proofs.Public.{block_again, block_more, header_words}
 use Rattle.raft_log_record_frames.specs.declared.marking.Marking.{Marking}
 use Rattle.raft_log_record_frames.specs.declared.marking.Marking.TheVariants as markings
 use Rattle.raft_log_record_frames.specs.Marking.{marking_of_items}

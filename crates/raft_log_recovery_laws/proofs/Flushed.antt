@@ -9,8 +9,7 @@ use Rattle.raft_log_fs.specs.Image.{IsSoundFile}
 use Rattle.raft_log_file_writer.specs.KeepsSynced.{HoldsChain}
 use Rattle.raft_log_file_writer.specs.LogFormat.{CanTellFormat, Format, IsFormat, NoChanceInFile}
 use Rattle.raft_log_file_writer.specs.LogQueue.{HeaderStands, HoldsLast, LogFiles, recent}
-use Rattle.raft_log_file_writer.proofs.LawsChainLaws.{frames_back, reads_some}
-use Rattle.raft_log_file_writer.proofs.KeepsSyncedLaws.{at_least_keeps, holds_more, holds_read, left_keeps_part}
+use Rattle.raft_log_file_writer.proofs.Public.{at_least_keeps, frames_back, holds_more, holds_read, left_keeps_part, reads_some}
 use Rattle.raft_log_engine_laws.specs.raft_log_active_file.specs.QueueFiles.{log_format}
 use Rattle.raft_log_engine_laws.specs.raft_log_active_file.specs.QueueFilesLaws.{files_are_told, is_layout}
 use Rattle.raft_log_recovery_laws.specs.InPlace.{SyncedFilesHoldStill}

@@ -7,7 +7,7 @@ use Rattle.raft_log_fs.specs.Disk.{Disk, File, at_rest}
 use Rattle.raft_log_file_writer.specs.LogFormat.{HasHeader, ReadsFile}
 use Rattle.raft_log_file_writer.specs.LogQueue.{IsLeftover, IsPast, LogFiles, Past}
 use Rattle.raft_log_file_writer.specs.LawsChains.{Written}
-use Rattle.raft_log_fs.proofs.TouchingLaws.{same_file}
+use Rattle.raft_log_fs.proofs.Public.{same_file}
 use Rattle.raft_log_active_file.specs.Bridge.{IsFileQueue}
 use Rattle.raft_log_active_file.specs.Standing.{Names}
 use Rattle.raft_log_engine_laws.specs.raft_log_active_file.specs.QueueFiles.{log_format}

@@ -3,7 +3,7 @@ use Rattle.std.proofs.Common.{◌≡◌, ℕ, ◌<◌, Bool, true, false, List, 
 use Rattle.std.specs.Prelude.{◌||◌, ◌⊎◌}
 use Rattle.raft_log_fs.specs.Disk.{Disk}
 use Rattle.raft_log_fs.specs.Image.{as_it_stands, IsSound}
-use Rattle.raft_log_fs.proofs.ImageLaws.{named_is_used}
+use Rattle.raft_log_fs.proofs.Public.{named_is_used}
 use Rattle.raft_log_file_settings.specs.declared.config.Config.{Config}
 use Rattle.raft_log_active_file.specs.declared.format.File.{File}
 use Rattle.raft_log_engine_laws.specs.raft_log_memtables.specs.declared.mem_tables.MemTables.{MemTables}
@@ -12,7 +12,7 @@ use Rattle.raft_log_replay_context.specs.declared.context.MemTableRecoverContext
 use Rattle.raft_log_dual_pipes.specs.Queues.{AreTwoQueues}
 use Rattle.raft_log_dual_pipes.specs.OpenOrClosed.{LiesQueue}
 use Rattle.raft_log_dual_pipes.specs.OnDisk.{IsDurableAs}
-use Rattle.raft_log_dual_pipes.proofs.ClosedQueues.{lies}
+use Rattle.raft_log_dual_pipes.proofs.Public.{lies}
 use Rattle.raft_log_dual_pipes.specs.Pipes.{LogPipes, LogRecordValue, State}
 use Rattle.raft_log_engine_laws.specs.EngineState.{log_in, LogDirectories, LogMap}
 use Rattle.raft_log_engine_laws.specs.Holding.{IsRecoverableAs}

@@ -7,11 +7,11 @@ use std.Path.{fun_ext}
 use Rattle.raft_log_fs.specs.Disk.{Disk, at_rest, with_file}
 use Rattle.raft_log_fs.specs.Disk.{File as DiskFile}
 use Rattle.raft_log_fs.specs.Calls.{flushed, Changes}
-use Rattle.raft_log_fs.proofs.Updates.{file_apart, file_here}
+use Rattle.raft_log_fs.proofs.Public.{file_apart, file_here}
 use Rattle.raft_log_active_file.specs.Layout.{path_of}
 use Rattle.raft_log_active_file.specs.declared.format.File.{File}
 use Rattle.raft_log_engine_laws.specs.raft_log_active_file.specs.declared.record.LogRecord.{LogRecord}
-use Rattle.raft_log_file_pipe.proofs.Lists.{path_numbered}
+use Rattle.raft_log_file_pipe.proofs.Public.{path_numbered}
 use Rattle.raft_log_recovery.specs.Syncing.{SyncsEach}
 use Rattle.raft_log_dual_pipes.specs.Queues.{IsQueueLayout, QueueLayout}
 use Rattle.raft_log_dual_pipes.specs.State.{Spanned}

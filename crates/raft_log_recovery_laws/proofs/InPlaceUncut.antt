@@ -14,7 +14,7 @@ use Rattle.raft_log_fs.specs.Arguments.{WrongDirectory}
 use Rattle.raft_log_fs.specs.Disk.{Disk}
 use Rattle.raft_log_fs.specs.Image.{IsSound}
 use Rattle.raft_log_file_writer.specs.LogFormat.{Format}
-use Rattle.raft_log_fs.proofs.KeptLaws.{kept_directory}
+use Rattle.raft_log_fs.proofs.Public.{kept_directory}
 use Rattle.raft_log_active_file.specs.Standing.{IsPlace}
 use Rattle.raft_log_file_format.specs.Name.{suffix_of}
 use Rattle.raft_log_file_settings.specs.declared.config.Config.{Config}
@@ -30,7 +30,7 @@ use Rattle.raft_log_dual_pipes.specs.OpenOrClosed.{none_open, LiesQueue}
 use Rattle.raft_log_dual_pipes.specs.Own.{log_layout}
 use Rattle.raft_log_dual_pipes.specs.Queues.{AreTwoQueues}
 use Rattle.raft_log_dual_pipes.specs.State.{Spanned}
-use Rattle.raft_log_dual_pipes.proofs.ClosedQueues.{lies, lying_logs_are_logs}
+use Rattle.raft_log_dual_pipes.proofs.Public.{lies, lying_logs_are_logs}
 use Rattle.raft_log_dual_pipes.specs.Pipes.{LogRecordValue}
 use Rattle.raft_log_engine_laws.specs.EngineState.{log_in, LogDirectories, LogMap}
 use Rattle.raft_log_engine_laws.specs.Holding.{IsRecoverableAs}

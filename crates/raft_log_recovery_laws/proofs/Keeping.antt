@@ -15,7 +15,7 @@ use Rattle.raft_log_dual_pipes.specs.State.{AreThere, HoldsQueue, IsStopped, Log
 use Rattle.raft_log_dual_pipes.specs.OpenOrClosed.{IsUnbegun, LiesQueue, IsOpenOrClosed, none_open}
 use Rattle.raft_log_dual_pipes.specs.Reopening.{RestBoth, RestsQueue}
 use Rattle.raft_log_dual_pipes.specs.OnDisk.{LogLiesOn, IsDurableAs}
-use Rattle.raft_log_dual_pipes.proofs.CrashSteps.{rests_lie}
+use Rattle.raft_log_dual_pipes.proofs.Public.{rests_lie}
 use Rattle.raft_log_recovery_laws.specs.Keeping.{KeepsBothQueues, KeepsNumbered, KeptLogsStay, RestsStill}
 
 pub keeps_same : {R : Type 0} (F : Format R) (old new : Disk) → new.names ≡ old.names → new.directories ≡ old.directories → new.files ≡ old.files → KeepsNumbered F old new

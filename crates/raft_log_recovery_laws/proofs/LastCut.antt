@@ -12,14 +12,12 @@ use Rattle.raft_log_file_writer.specs.LogQueue.{LogFiles, IsLeftover, IsPast, re
 use Rattle.raft_log_fs.specs.Touching.{HasFile, TouchesOnly}
 use Rattle.raft_log_fs.specs.declared.handle.Handle.{Handle}
 use Rattle.raft_log_fs.specs.declared.handle.Permission.TheVariants.{ReadWrite}
-use Rattle.raft_log_fs.proofs.TouchingLaws.{same_file, touches_change, touches_sync, touches_then}
+use Rattle.raft_log_fs.proofs.Public.{same_file, touches_change, touches_sync, touches_then}
 use Rattle.raft_log_active_file.specs.Queue.{finished, whole}
 use Rattle.raft_log_active_file.specs.Standing.{Stands}
 use Rattle.raft_log_active_file.specs.Reopening.{IsReadTo, reread}
-use Rattle.raft_log_active_file.proofs.Reopening.{leftover_end, stands_as}
-use Rattle.raft_log_active_file.proofs.Standing.{stands_rebased, stands_weaker}
+use Rattle.raft_log_active_file.proofs.Public.{fails_to_trim, leftover_end, stands_as, stands_rebased, stands_weaker, trims_leftover}
 use Rattle.raft_log_active_file.specs.TakingUp.{HandleBeginsWith, IsHalfOpen, IsLeftBehind, IsTrimmed, TrimMakes, Trims, uncut, unsynced}
-use Rattle.raft_log_active_file.proofs.TakenUp.{fails_to_trim, trims_leftover}
 use Rattle.raft_log_dual_pipes.specs.Queues.{IsQueueLayout, QueueLayout}
 use Rattle.raft_log_dual_pipes.specs.State.{IsStopped}
 

@@ -9,13 +9,13 @@ use Rattle.raft_log_record_base.specs.declared.pipe_log.Version.TheVariants.{V1,
 use Rattle.raft_log_record_items.specs.declared.item.LogItem.{LogItem}
 use Rattle.raft_log_file_format.specs.Header.{IsFileHeader, magic, header_at}
 use Rattle.raft_log_file_format.specs.declared.header.LogFileFormat.{LogFileFormat}
-use Rattle.raft_log_file_format.proofs.Headers.{is_header}
+use Rattle.raft_log_file_format.proofs.Public.{is_header}
 use Rattle.raft_log_fs.specs.Disk.{File}
 use Rattle.raft_log_file_writer.specs.LawsChains.{Written, AreFrames, Reads, spelled}
 use Rattle.raft_log_file_writer.specs.LogFormat.{HasHeader}
 use Rattle.raft_log_active_file.specs.Layout.{IsUnaligned}
 use Rattle.raft_log_file_reader.specs.Opening.{SaysFormat}
-use Rattle.raft_log_record_base.proofs.Grammar.{prefix_free}
+use Rattle.raft_log_record_base.proofs.Public.{prefix_free}
 use Rattle.raft_log_active_file.specs.Reopening.{IsReadTo}
 use Rattle.raft_log_engine_laws.specs.raft_log_active_file.specs.QueueFiles.{IsRecordIn, log_format}
 use Rattle.raft_log_engine_laws.specs.raft_log_active_file.specs.declared.record.LogRecord.{LogRecord}

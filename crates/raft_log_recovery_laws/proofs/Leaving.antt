@@ -14,7 +14,7 @@ use Rattle.raft_log_fs.specs.Arguments.{WrongDirectory}
 use Rattle.raft_log_fs.specs.Calls.{with_directory}
 use Rattle.raft_log_fs.specs.Disk.{Disk, File}
 use Rattle.raft_log_fs.specs.Image.{IsSound}
-use Rattle.raft_log_fs.proofs.KeptLaws.{kept_directory, IsCalm}
+use Rattle.raft_log_fs.proofs.Public.{kept_directory, IsCalm}
 use Rattle.raft_log_file_format.specs.Name.{suffix_of}
 use Rattle.raft_log_engine_laws.specs.raft_log_active_file.specs.QueueFiles.{log_format}
 use Rattle.raft_log_engine_laws.specs.raft_log_active_file.specs.PathLaws.{one_name}
@@ -24,7 +24,7 @@ use Rattle.raft_log_file_settings.specs.declared.config.Config.{Config}
 use Rattle.raft_log_dual_pipes.specs.OpenOrClosed.{none_open, OpenPipes}
 use Rattle.raft_log_dual_pipes.specs.OnDisk.{LogLiesOn}
 use Rattle.raft_log_dual_pipes.specs.Queues.{AreTwoQueues}
-use Rattle.raft_log_dual_pipes.proofs.ClosedQueues.{lying_logs_are_logs}
+use Rattle.raft_log_dual_pipes.proofs.Public.{lying_logs_are_logs}
 use Rattle.raft_log_dual_pipes.specs.Pipes.{LogRecordValue}
 use Rattle.raft_log_engine_laws.specs.EngineState.{log_in, LogMap}
 use Rattle.raft_log_recovery.specs.Directories as builder
@@ -43,7 +43,7 @@ use Rattle.raft_log_offline.specs.Forks.{FailsToCopyAll, FailsToMakeTarget, IsCo
 use Rattle.raft_log_offline.specs.Forks.FailsToFork.{cut_short, homeless, refused as not_begun}
 use Rattle.raft_log_offline.specs.Sources.{AreSources}
 use Rattle.raft_log_offline.specs.declared.source_file.SourceFile.{SourceFile}
-use Rattle.raft_log_offline.proofs.Lasts.{first, first_or_later, in_none}
+use Rattle.raft_log_offline.proofs.Public.{first, first_or_later, in_none}
 use Rattle.raft_log_recovery_laws.specs.ForkLeaving.{EndsFork, ForksLeaveTheSource}
 use Rattle.raft_log_recovery_laws.specs.ForkLeaving.EndsFork.{answered, refused}
 use Rattle.raft_log_recovery_laws.proofs.Copies.{found_at}

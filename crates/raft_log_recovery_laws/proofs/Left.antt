@@ -3,12 +3,12 @@ use Rattle.std.proofs.Common.{◌≡◌, ◌+◌, ◌<◌, List, [], ◌++◌, l
 use Rattle.std.proofs.Math.Seq.{take-append-add}
 use Rattle.raft_log_model_laws.specs.Groups.{taken}
 use Rattle.raft_log_record_base.specs.declared.pipe_log.LogQueue.TheVariants.{Append, Rewrite}
-use Rattle.raft_log_machine_laws.proofs.Follows.{taken_twice}
+use Rattle.raft_log_machine_laws.proofs.Public.{taken_twice}
 use Rattle.raft_log_engine_laws.specs.raft_log_active_file.specs.QueueFilesLaws.{files_are_told, is_layout, queues_are_apart}
 use Rattle.raft_log_dual_pipes.specs.Queues.{AreTwoQueues}
 use Rattle.raft_log_dual_pipes.specs.OpenOrClosed.{none_open}
 use Rattle.raft_log_dual_pipes.specs.OnDisk.{IsDurableAs}
-use Rattle.raft_log_dual_pipes.proofs.OnDiskLaws.{logs_go_on_disks}
+use Rattle.raft_log_dual_pipes.proofs.Public.{logs_go_on_disks}
 use Rattle.raft_log_dual_pipes.specs.Pipes.{LogRecordValue}
 use Rattle.raft_log_engine_laws.specs.EngineState.{log_in, sense, LogDirectories}
 use Rattle.raft_log_recovery_laws.specs.Left.{CrashedLogsRest, RefusedOpensLeaveLogs}

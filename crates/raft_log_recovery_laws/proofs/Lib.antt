@@ -1,3 +1,4 @@
+pub mod Public
 pub mod Sources
 pub mod Leaving
 pub mod Copies

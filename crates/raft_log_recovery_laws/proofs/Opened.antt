@@ -10,11 +10,11 @@ use Rattle.raft_log_model_laws.specs.Groups.{appended, contents, directory_meani
 use Rattle.raft_log_model_laws.specs.Table.{content}
 use Rattle.raft_log_model_laws.specs.Tidy.{Tidy}
 use Rattle.raft_log_model_laws.specs.Holes.{nothing, NoHole}
-use Rattle.raft_log_model_laws.proofs.Cases.{if_true, le_true}
+use Rattle.raft_log_model_laws.proofs.Public.{if_true, le_true}
 use Rattle.raft_log_machine_laws.specs.Survival.{IsSpoken}
 use Rattle.raft_log_machine_laws.specs.Machine.{RecordsFit}
 use Rattle.raft_log_machine_laws.specs.Unbroken.{IsUnbroken}
-use Rattle.raft_log_machine_laws.proofs.TidyLaws.{unbroken_tidy}
+use Rattle.raft_log_machine_laws.proofs.Public.{one_run, read_stands, unbroken_tidy}
 use Rattle.raft_log_machine_laws.specs.Files.{queue_of, records_of as file_records, span, FileQueue, LogFile}
 use Rattle.raft_log_machine_laws.specs.Images.{IsOneRun}
 use Rattle.raft_log_machine_laws.specs.Directory.{IsRising}
@@ -24,7 +24,6 @@ use Rattle.raft_log_machine_laws.specs.Calls.{records_read, read_files, IsMadeOf
 use Rattle.raft_log_machine_laws.specs.Model.{running, Files, IsModelSound, Model}
 use Rattle.raft_log_machine_laws.specs.Notes.{IsAmong, RecordLiesIn, SpeaksFrom, SpeaksIn}
 use Rattle.raft_log_machine_laws.specs.Log.{IsLog, Stands}
-use Rattle.raft_log_machine_laws.proofs.OpenLaws.{one_run, read_stands}
 use Rattle.raft_log_memtable_index.specs.Shown.{whereabouts, Shown}
 use Rattle.raft_log_memtable_index.specs.Bridge.{located, Located}
 use Rattle.raft_log_memtable_index.specs.Noted.{file_at, noted_at}
@@ -37,13 +36,10 @@ use Rattle.raft_log_replay_context.specs.Records.{counted, records_of, AreHealth
 use Rattle.raft_log_replay_context.specs.Context.{ArePlain, ComesOver}
 use Rattle.raft_log_replay_context.specs.Noting.{AllReadTo, AreWhereRead, IsNotedTo}
 use Rattle.raft_log_replay_context.specs.Opened.{map_read, told_record, told_records, FilesHold, AreTablesOf}
-use Rattle.raft_log_replay_context.proofs.Contexts.{over_means, plain_counted}
-use Rattle.raft_log_replay_context.proofs.Opening.{made_of, map_is, recovered, sound, stands_as}
-use Rattle.raft_log_replay_context.proofs.OpenGroups.{records_append}
-use Rattle.raft_log_replay_context.proofs.Told.{appended_told, rewritten_told}
+use Rattle.raft_log_replay_context.proofs.Public.{appended_told, made_of, map_is, over_means, plain_counted, records_append, recovered, rewritten_told, sound, stands_as}
 use Rattle.raft_log_engine_laws.specs.raft_log_block_cache.specs.Stored.{entries_at, AreStored, Each, IsStored}
 use Rattle.raft_log_dual_pipes.specs.Pipes.{LogPipes, LogRecordValue, State}
-use Rattle.raft_log_engine_laws.specs.raft_log_block_cache.proofs.KeptBlocks.{none_kept}
+use Rattle.raft_log_engine_laws.specs.raft_log_block_cache.proofs.Public.{none_kept}
 use Rattle.raft_log_engine_laws.specs.EngineState.{log_in, said_by, LogDirectories, LogMap}
 use Rattle.raft_log_record_base.specs.Files.{no_block}
 use Rattle.raft_log_engine_laws.specs.Holding.{FilesRiseIn, NotesEndIn}

@@ -5,11 +5,11 @@ use Rattle.raft_log_record_base.specs.Fault.{Fault}
 use Rattle.raft_log_record_base.specs.declared.errors.Error.{Error}
 use Rattle.raft_log_record_base.specs.declared.pipe_log.FileId.{FileId}
 use Rattle.raft_log_record_base.specs.declared.pipe_log.LogFileContext.{LogFileContext}
-use Rattle.raft_log_record_base.proofs.Grammar.{prefix_free}
+use Rattle.raft_log_record_base.proofs.Public.{prefix_free}
 use Rattle.raft_log_record_items.specs.declared.item.LogItem.{LogItem}
 use Rattle.raft_log_file_format.specs.Header.{IsFileHeader}
 use Rattle.raft_log_file_format.specs.declared.header.LogFileFormat.{LogFileFormat}
-use Rattle.raft_log_file_format.proofs.Headers.{is_header}
+use Rattle.raft_log_file_format.proofs.Public.{is_header}
 use Rattle.raft_log_fs.specs.Disk.{File}
 use Rattle.raft_log_file_writer.specs.LawsChains.{Written, AreFrames, spelled}
 use Rattle.raft_log_engine_laws.specs.raft_log_active_file.specs.QueueFiles.{IsRecordIn}
@@ -17,7 +17,7 @@ use Rattle.raft_log_engine_laws.specs.raft_log_active_file.specs.declared.record
 use Rattle.raft_log_file_reader.specs.Batches.{HasBatch, HasBatches, context_of}
 use Rattle.raft_log_file_reader.specs.Laws.{EndsBehind}
 use Rattle.raft_log_file_reader.specs.declared.open_file.OpenFile.{OpenFile}
-use Rattle.raft_log_file_reader.proofs.Readings.{batches_go_on_is}
+use Rattle.raft_log_file_reader.proofs.Public.{batches_go_on_is}
 use Rattle.raft_log_recovery_read.specs.Faults.{TellsIfAny}
 use Rattle.raft_log_recovery_read.specs.Records.{IsRecordTorn, ReadsEarlier, StopsGood}
 use Rattle.raft_log_recovery_read.specs.Records.ReadsEarlier.{none as read_none, good as read_good, torn as read_torn}

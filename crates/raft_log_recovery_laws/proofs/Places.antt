@@ -6,16 +6,14 @@ use Rattle.std.proofs.lemmas.List.{length-drop, length-append, length-take-le, d
 use Rattle.raft_log_record_base.specs.Fault.{Fault}
 use Rattle.raft_log_record_base.specs.Files.{signature, signature_of}
 use Rattle.raft_log_record_base.specs.declared.pipe_log.LogFileContext.{LogFileContext}
-use Rattle.raft_log_record_base.proofs.Grammar.{ok_is, prefix_free}
+use Rattle.raft_log_record_base.proofs.Public.{ok_is, prefix_free}
 use Rattle.raft_log_record_items.specs.declared.item.LogItem.{LogItem}
 use Rattle.raft_log_record_items.specs.Placed.{placed}
 use Rattle.raft_log_file_format.specs.Header.{IsFileHeader}
 use Rattle.raft_log_file_format.specs.declared.header.LogFileFormat.{LogFileFormat}
-use Rattle.raft_log_file_format.proofs.Headers.{is_header}
+use Rattle.raft_log_file_format.proofs.Public.{is_header}
 use Rattle.raft_log_record_frames.specs.Record.{IsBlock, IsFrame, IsRecord, Front, block_of, frame_at, record_at}
-use Rattle.raft_log_record_frames.proofs.Blocks.{block_found}
-use Rattle.raft_log_record_frames.proofs.Frames.{frames_take_bytes}
-use Rattle.raft_log_record_frames.proofs.Fronts.{frame_is_read, frames_are_read_back, records_are_read_back}
+use Rattle.raft_log_record_frames.proofs.Public.{block_found, frame_is_read, frames_are_read_back, frames_take_bytes, records_are_read_back}
 use Rattle.raft_log_file_writer.specs.LawsChains.{Written, Refuses}
 use Rattle.raft_log_engine_laws.specs.raft_log_active_file.specs.QueueFiles.{IsRecordIn}
 use Rattle.raft_log_engine_laws.specs.raft_log_active_file.specs.declared.record.LogRecord.{LogRecord}
@@ -23,7 +21,7 @@ use Rattle.raft_log_file_reader.specs.Batches.{padding_len, GoesOnAt, HasBatch, 
 use Rattle.raft_log_file_reader.specs.Batches.GoesOnAt.{behind_padding, at_once}
 use Rattle.raft_log_file_reader.specs.Laws.{EndsBehind}
 use Rattle.raft_log_file_reader.specs.declared.open_file.OpenFile.{OpenFile}
-use Rattle.raft_log_file_reader.proofs.FrameReadings.{frame_of_batch}
+use Rattle.raft_log_file_reader.proofs.Public.{frame_of_batch}
 use Rattle.raft_log_recovery_read.specs.Records.{HasRecord, IsRecordTorn, StopsWhole}
 use Rattle.raft_log_recovery_laws.specs.Records.{IsBatchOf}
 

@@ -5,14 +5,13 @@ use Rattle.std.proofs.lemmas.List.{length-append, take-append-drop}
 use Rattle.raft_log_record_base.specs.Files.{signature_of}
 use Rattle.raft_log_record_base.specs.declared.pipe_log.FileId.{FileId}
 use Rattle.raft_log_record_base.specs.declared.pipe_log.LogQueue.{LogQueue}
-use Rattle.raft_log_record_base.proofs.Grammar.{prefix_free}
+use Rattle.raft_log_record_base.proofs.Public.{prefix_free}
 use Rattle.raft_log_record_items.specs.declared.item.LogItem.{LogItem}
 use Rattle.raft_log_record_frames.specs.Record.{Front, record_at}
-use Rattle.raft_log_record_frames.proofs.Blocks.{block_found}
-use Rattle.raft_log_record_frames.proofs.Fronts.{frame_is_read}
+use Rattle.raft_log_record_frames.proofs.Public.{block_found, frame_is_read}
 use Rattle.raft_log_fs.specs.Disk.{Disk, File as DiskFile}
 use Rattle.raft_log_file_format.specs.declared.header.LogFileFormat.{LogFileFormat}
-use Rattle.raft_log_file_format.proofs.Headers.{is_header}
+use Rattle.raft_log_file_format.proofs.Public.{is_header}
 use Rattle.raft_log_file_settings.specs.declared.recovery_mode.RecoveryMode.{RecoveryMode}
 use Rattle.raft_log_file_writer.specs.LawsChains.{spelled}
 use Rattle.raft_log_file_writer.specs.LogQueue.{Past, IsPast}
@@ -21,11 +20,11 @@ use Rattle.raft_log_file_reader.specs.Batches.GoesOnAt.{behind_padding, at_once}
 use Rattle.raft_log_file_reader.specs.Opening.{SaysFormat}
 use Rattle.raft_log_file_reader.specs.Source.{bytes_in}
 use Rattle.raft_log_file_reader.specs.declared.open_file.OpenFile.{OpenFile}
-use Rattle.raft_log_file_reader.proofs.FrameReadings.{frame_of_batch}
+use Rattle.raft_log_file_reader.proofs.Public.{frame_of_batch}
 use Rattle.raft_log_active_file.specs.Layout.{IsUnaligned, path_of}
 use Rattle.raft_log_active_file.specs.declared.format.File.{File}
 use Rattle.raft_log_file_pipe.specs.Files.{IsSpan}
-use Rattle.raft_log_file_pipe.proofs.Lists.{span_end}
+use Rattle.raft_log_file_pipe.proofs.Public.{span_end}
 use Rattle.raft_log_engine_laws.specs.raft_log_active_file.specs.QueueFiles.{IsAlignedFile, log_format, log_paths}
 use Rattle.raft_log_engine_laws.specs.raft_log_active_file.specs.declared.record.LogRecord.{LogRecord}
 use Rattle.raft_log_recovery_scan.specs.declared.recovery_config.RecoveryConfig.{RecoveryConfig}

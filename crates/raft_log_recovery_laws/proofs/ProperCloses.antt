@@ -9,8 +9,7 @@ use Rattle.raft_log_fs.specs.Disk.{Disk}
 use Rattle.raft_log_fs.specs.Causes.{Fails, IsLater}
 use Rattle.raft_log_fs.specs.Image.{IsSound}
 use Rattle.raft_log_fs.specs.Touching.{TouchesOnlyNames}
-use Rattle.raft_log_fs.proofs.CauseLaws.{fails_after, fails_still, later_then}
-use Rattle.raft_log_fs.proofs.TouchingLaws.{names_file}
+use Rattle.raft_log_fs.proofs.Public.{fails_after, fails_still, later_then, names_file}
 use Rattle.raft_log_file_writer.specs.LogQueue.{LogFiles}
 use Rattle.raft_log_file_writer.specs.Writer.{Closes, IsWritten}
 use Rattle.raft_log_file_writer.specs.declared.writer.LogFileWriter.{LogFileWriter}
@@ -25,7 +24,7 @@ use Rattle.raft_log_file_pipe.specs.declared.pipe_files.PipeFiles.{PipeFiles}
 use Rattle.raft_log_dual_pipes.specs.ClosingCalls.{ClosesAs, ClosesInOrder}
 use Rattle.raft_log_dual_pipes.specs.Pipes.{LogPipes, LogSense, RunsOn, State, queues}
 use Rattle.raft_log_dual_pipes.specs.Queues.{AreTwoQueues, QueueLayout}
-use Rattle.raft_log_dual_pipes.proofs.Aside.{pipe_stays}
+use Rattle.raft_log_dual_pipes.proofs.Public.{pipe_stays}
 use Rattle.raft_log_recovery_laws.specs.Closed.{ClosesProperly, SuccessfulClosesAreProper, UndisturbedClosesAreProper}
 use Rattle.raft_log_recovery_laws.proofs.ClosingCalls.{closes_later, closes_touch, finish_later, reserves_later, unclosed_fails}
 use Rattle.raft_log_recovery_laws.proofs.ClosingPipes.{active_own, active_written}

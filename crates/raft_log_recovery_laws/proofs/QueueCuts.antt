@@ -8,17 +8,15 @@ use Rattle.raft_log_fs.specs.Disk.{File, Disk, at_rest}
 use Rattle.raft_log_fs.specs.Image.{as_it_stands, IsSound}
 use Rattle.raft_log_fs.specs.Calls.{flushed}
 use Rattle.raft_log_file_writer.specs.KeepsSynced.{HoldsChain}
-use Rattle.raft_log_file_writer.specs.LogFormat.{Format}
 use Rattle.raft_log_file_writer.specs.LogQueue.{HoldsLast, LogFiles, NoChanceInLast, recent}
 use Rattle.raft_log_fs.specs.Touching.{HasFile}
 use Rattle.raft_log_fs.specs.declared.handle.Handle.{Handle}
 use Rattle.raft_log_fs.specs.declared.handle.Permission.TheVariants.{ReadWrite}
-use Rattle.raft_log_file_writer.proofs.KeepsSyncedLaws.{all_at_least}
-use Rattle.raft_log_fs.proofs.TouchingLaws.{same_file}
+use Rattle.raft_log_file_writer.proofs.Public.{all_at_least}
+use Rattle.raft_log_fs.proofs.Public.{same_file}
 use Rattle.raft_log_active_file.specs.Reopening.{reread, IsReadTo}
 use Rattle.raft_log_active_file.specs.Standing.{HaveOneName, Names, Stands}
-use Rattle.raft_log_active_file.proofs.Reopening.{stands_as}
-use Rattle.raft_log_active_file.proofs.Standing.{stands_rebased, stands_touched, stands_weaker}
+use Rattle.raft_log_active_file.proofs.Public.{stands_as, stands_rebased, stands_touched, stands_weaker}
 use Rattle.raft_log_active_file.specs.TakingUp.{TrimMakes, Trims}
 use Rattle.raft_log_engine_laws.specs.raft_log_active_file.specs.declared.record.LogRecord.{LogRecord}
 use Rattle.raft_log_dual_pipes.specs.OpenOrClosed.{LiesQueue}
@@ -33,9 +31,6 @@ use Rattle.raft_log_recovery_laws.proofs.Standing.{last_of, none_last, one_last,
 use Rattle.raft_log_recovery_laws.proofs.Unsynced.{steady_lies, LiesSteady, StandsSteady, Steady}
 
 module _ (layout : QueueLayout LogRecord) (told : IsQueueLayout layout) where
-  abbrev F : Format LogRecord
-  F = layout.format
-
   -- the files of a queue, of which the last one holds its records, with no checksum met by chance in it
   pub record StandsSure (q : Spanned LogRecord) (d : Disk) : Type 0 where
     pub path : List ℕ

@@ -11,10 +11,10 @@ use Rattle.raft_log_fs.specs.Disk.{Disk, File as DiskFile}
 use Rattle.raft_log_file_writer.specs.LawsChains.{Written, Reads}
 use Rattle.raft_log_file_writer.specs.LogFormat.{Format, HasHeader}
 use Rattle.raft_log_file_writer.specs.LogQueue.{LogFiles, Past, recent}
-use Rattle.raft_log_file_writer.proofs.LawsChainLaws.{reads_unique}
+use Rattle.raft_log_file_writer.proofs.Public.{reads_unique}
 use Rattle.raft_log_file_format.specs.Header.{header_bytes, magic, IsFileHeader}
 use Rattle.raft_log_file_format.specs.declared.header.LogFileFormat.{LogFileFormat}
-use Rattle.raft_log_file_format.proofs.Headers.{header_length}
+use Rattle.raft_log_file_format.proofs.Public.{header_length}
 use Rattle.raft_log_file_settings.specs.declared.recovery_mode.RecoveryMode.{RecoveryMode}
 use Rattle.raft_log_active_file.specs.Layout.{path_of}
 use Rattle.raft_log_active_file.specs.declared.format.File.{File}
@@ -23,7 +23,7 @@ use Rattle.raft_log_engine_laws.specs.raft_log_active_file.specs.QueueFilesLaws.
 use Rattle.raft_log_engine_laws.specs.raft_log_active_file.specs.declared.record.LogRecord.{LogRecord}
 use Rattle.raft_log_file_pipe.specs.Files.{IsSpan}
 use Rattle.raft_log_file_pipe.specs.Opening.{first_number}
-use Rattle.raft_log_file_pipe.proofs.Lists.{path_numbered, span_end}
+use Rattle.raft_log_file_pipe.proofs.Public.{path_numbered, span_end}
 use Rattle.raft_log_file_reader.specs.Source.{bytes_in}
 use Rattle.raft_log_recovery_read.specs.Reading.{FileReading, ReadsBytes}
 use Rattle.raft_log_recovery_read.specs.Reading.ReadsBytes.{headless, headed, torn}

@@ -30,7 +30,7 @@ use Rattle.raft_log_replay_context.specs.Batches.{AreRecordsRead}
 use Rattle.raft_log_replay_context.specs.Records.{records_of, ReadRecord}
 use Rattle.raft_log_replay_context.specs.Noting.{AllReadTo, AreWhereRead}
 use Rattle.raft_log_replay_context.specs.Opened.{AllReadIn, FilesHold}
-use Rattle.raft_log_replay_context.proofs.OpenGroups.{records_append as records_of_both}
+use Rattle.raft_log_replay_context.proofs.Public.{records_append as records_of_both}
 use Rattle.raft_log_engine_laws.specs.raft_log_block_cache.specs.Stored.{entries_at, file_bytes, part, queue_in, EntryLiesIn, IsStored}
 use Rattle.raft_log_recovery_laws.specs.FileReading.{context_in}
 use Rattle.raft_log_dual_pipes.specs.Pipes.{LogRecordValue, State}

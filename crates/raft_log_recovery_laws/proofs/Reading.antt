@@ -16,7 +16,7 @@ use Rattle.raft_log_engine_laws.specs.raft_log_active_file.specs.QueueFiles.{log
 use Rattle.raft_log_engine_laws.specs.raft_log_active_file.specs.QueueFilesLaws.{is_layout}
 use Rattle.raft_log_engine_laws.specs.raft_log_active_file.specs.declared.record.LogRecord.{LogRecord}
 use Rattle.raft_log_file_pipe.specs.Files.{IsSpan}
-use Rattle.raft_log_file_pipe.proofs.Lists.{path_numbered, span_end}
+use Rattle.raft_log_file_pipe.proofs.Public.{path_numbered, span_end}
 use Rattle.raft_log_file_reader.specs.Source.{bytes_in}
 use Rattle.raft_log_recovery_read.specs.Reading.{FileReading, ReadsBytes}
 use Rattle.raft_log_replay.specs.Machines.{Batch}

@@ -11,12 +11,10 @@ use Rattle.raft_log_fs.specs.Arguments.{WrongCreate, WrongName, WrongWriter}
 use Rattle.raft_log_file_writer.specs.LogFormat.{Format}
 use Rattle.raft_log_fs.specs.Touching.{TouchesOnly}
 use Rattle.raft_log_fs.specs.declared.handle.Handle.{Handle}
-use Rattle.raft_log_fs.proofs.KeptLaws.{IsCalm, kept_change}
-use Rattle.raft_log_fs.proofs.TouchingLaws.{touches_change, touches_same, touches_then}
-use Rattle.raft_log_fs.proofs.Updates.{name_here}
+use Rattle.raft_log_fs.proofs.Public.{kept_change, name_here, touches_change, touches_same, touches_then, IsCalm}
 use Rattle.raft_log_active_file.specs.Layout.{path_of, FilePaths}
 use Rattle.raft_log_active_file.specs.declared.format.File.{File}
-use Rattle.raft_log_file_pipe.proofs.Lists.{path_reserved}
+use Rattle.raft_log_file_pipe.proofs.Public.{path_reserved}
 use Rattle.raft_log_recovery.specs.Dropping.{DropsEach, DropsOrNot, FailsToDropEach}
 use Rattle.raft_log_recovery.specs.Dropping.DropsOrNot.{dropped, refused}
 use Rattle.raft_log_recovery.specs.Filling.{FillsOrNot, WritesPieces}

@@ -44,7 +44,7 @@ use Rattle.raft_log_engine_laws.specs.raft_log_block_cache.specs.Stored.{Each}
 use Rattle.raft_log_recovery_laws.proofs.Left.{refused_opens_leave_logs}
 use Rattle.raft_log_recovery_laws.specs.Keeping.{KeepsNumbered}
 use Rattle.raft_log_recovery_laws.proofs.Keeping.{both_lie, bounded, keeps_then, moved, numbered_kept, rests_kept}
-use Rattle.raft_log_dual_pipes.proofs.CrashSteps.{rests_lie}
+use Rattle.raft_log_dual_pipes.proofs.Public.{rests_lie}
 use Rattle.raft_log_replay.specs.Segments.{read_by}
 use Rattle.raft_log_record_base.specs.declared.pipe_log.Version.TheVariants.{V1}
 use Rattle.raft_log_recovery_laws.proofs.Calls.{keeps_all, no_sync_keeps, rest_then, rests_at_rest, sound_names, AreAtRest, AreSoundNames}

@@ -17,7 +17,7 @@ use Rattle.raft_log_replay_context.specs.declared.context.MemTableRecoverContext
 use Rattle.raft_log_dual_pipes.specs.OpenOrClosed.{none_open, LiesQueue}
 use Rattle.raft_log_dual_pipes.specs.OnDisk.{IsDurableAs}
 use Rattle.raft_log_dual_pipes.specs.Queues.{AreTwoQueues, IsQueueLayout, QueueLayout}
-use Rattle.raft_log_dual_pipes.proofs.ClosedQueues.{lies}
+use Rattle.raft_log_dual_pipes.proofs.Public.{lies}
 use Rattle.raft_log_dual_pipes.specs.Pipes.{LogRecordValue, State}
 use Rattle.raft_log_engine_laws.specs.EngineState.{log_in, LogDirectories, LogMap}
 use Rattle.raft_log_engine_laws.specs.Holding.{IsRecoverableAs}

@@ -3,7 +3,7 @@ use Rattle.std.proofs.Common.{◌≡◌, ℕ, Bool, true, false, Option, Some, N
 use Rattle.raft_log_record_base.specs.declared.pipe_log.LogQueue.{LogQueue}
 use Rattle.raft_log_record_base.specs.declared.pipe_log.LogQueue.TheVariants.{Append, Rewrite}
 use Rattle.raft_log_fs.specs.Disk.{Disk, IsPlain}
-use Rattle.raft_log_fs.proofs.ImageLaws.{absent_holds_no_name}
+use Rattle.raft_log_fs.proofs.Public.{absent_holds_no_name}
 use Rattle.raft_log_engine_laws.specs.raft_log_active_file.specs.declared.record.LogRecord.{LogRecord}
 use Rattle.raft_log_file_settings.specs.Sanitized.{IsFileName}
 use Rattle.raft_log_file_settings.specs.Settings.{settings_of}

@@ -7,14 +7,13 @@ use Rattle.raft_log_machine_laws.specs.Log.{IsLog}
 use Rattle.raft_log_machine_laws.specs.Model.{Files}
 use Rattle.raft_log_fs.specs.Disk.{Disk, File, at_rest}
 use Rattle.raft_log_fs.specs.Image.{IsFileImage, IsImage, IsSound, as_it_stands}
-use Rattle.raft_log_fs.proofs.ImageLaws.{only_at_rest, stands_is_image}
-use Rattle.raft_log_fs.proofs.TouchingLaws.{same_file}
+use Rattle.raft_log_fs.proofs.Public.{only_at_rest, same_file, stands_is_image}
 use Rattle.raft_log_file_writer.specs.LawsChains.{Meets, spelled}
 use Rattle.raft_log_file_writer.specs.KeepsSynced.{IsStale}
 use Rattle.raft_log_file_writer.specs.KeepsSynced.WasWritten.{synced_there}
 use Rattle.raft_log_file_writer.specs.LogFormat.{Format, HasHeader, IsFormat, NoChanceInFile}
 use Rattle.raft_log_file_writer.specs.LogQueue.{IsLeftover, LogFiles, NoChanceInLast, recent}
-use Rattle.raft_log_file_writer.proofs.LawsChainLaws.{frame_filled, frames_back}
+use Rattle.raft_log_file_writer.proofs.Public.{frame_filled, frames_back}
 use Rattle.raft_log_active_file.specs.Bridge.{IsFileQueue}
 use Rattle.raft_log_active_file.specs.Standing.{Names}
 use Rattle.raft_log_engine_laws.specs.raft_log_active_file.specs.declared.record.LogRecord.{LogRecord}

@@ -10,19 +10,18 @@ use Rattle.raft_log_model_laws.specs.Meaning.Slot.{Index}
 use Rattle.raft_log_model_laws.specs.Meaning.Content.{Entry}
 use Rattle.raft_log_model_laws.specs.Groups.{none_open, of_group, onto, set_open, settle, settled, Open}
 use Rattle.raft_log_model_laws.specs.Table.{content}
-use Rattle.raft_log_model_laws.proofs.Cases.{at_bool, at_option}
-use Rattle.raft_log_model_laws.proofs.Suffix.{set_same}
+use Rattle.raft_log_model_laws.proofs.Public.{at_bool, at_option, set_same}
 use Rattle.raft_log_machine_laws.specs.Directory.{IsRising}
 use Rattle.raft_log_machine_laws.specs.Files.{LogFile}
 use Rattle.raft_log_machine_laws.specs.Unbroken.{IsUnbroken, UnbrokenFrom}
-use Rattle.raft_log_machine_laws.proofs.TruthRaises.{no_entry, no_word, speaks_above}
+use Rattle.raft_log_machine_laws.proofs.Public.{no_entry, no_word, speaks_above}
 use Rattle.raft_log_machine_laws.specs.Model.{Files}
 use Rattle.raft_log_extents.specs.declared.place.Place.{Place}
 use Rattle.raft_log_memtable_index.specs.Shown.{KeyValue}
 use Rattle.raft_log_memtable_index.specs.Bridge.{located, Located}
 use Rattle.raft_log_memtable_index.specs.Noted.{file_at, place_file}
 use Rattle.raft_log_memtable_index.specs.Replayed.{standing, told}
-use Rattle.raft_log_memtable_index.proofs.Telling.{says_told, there}
+use Rattle.raft_log_memtable_index.proofs.Public.{says_told, there}
 use Rattle.raft_log_engine_laws.specs.raft_log_memtables.specs.declared.mem_tables.MemTables.{MemTables}
 use Rattle.raft_log_engine_laws.specs.raft_log_memtables.specs.Tables.{shown_of}
 use Rattle.raft_log_engine_laws.specs.raft_log_block_cache.specs.Stored.{Each, IsStored}
@@ -30,7 +29,7 @@ use Rattle.raft_log_replay_context.specs.Records.{counted, records_of, ReadItem,
 use Rattle.raft_log_replay_context.specs.Noting.{file_in, AllLieInFile, AreWhereRead, ItemsLieIn, ItemLiesIn}
 use Rattle.raft_log_replay_context.specs.Context.{is_plain, ArePlain}
 use Rattle.raft_log_replay_context.specs.Opened.{AllReadIn, FilesHold, AreTablesOf}
-use Rattle.raft_log_replay_context.proofs.Opening.{entry_stands, recovered, stands_as}
+use Rattle.raft_log_replay_context.proofs.Public.{entry_stands, recovered, stands_as}
 use Rattle.raft_log_dual_pipes.specs.Pipes.{State}
 
 -- Items in files that don't fall.

@@ -3,7 +3,7 @@ use Rattle.std.proofs.Common.{◌≡◌, ℕ, Some, List, [], ◌++◌, length, 
 use Rattle.std.proofs.lemmas.List.{drop_at, take_at}
 use Rattle.raft_log_fs.specs.Disk.{Disk, File}
 use Rattle.raft_log_fs.specs.Image.{IsImage}
-use Rattle.raft_log_fs.proofs.TouchingLaws.{same_file}
+use Rattle.raft_log_fs.proofs.Public.{same_file}
 use Rattle.raft_log_file_writer.specs.LawsChains.{spelled}
 use Rattle.raft_log_file_writer.specs.KeepsSynced.WasWritten.{handed_in, own_record}
 use Rattle.raft_log_file_writer.specs.LogFormat.{Format, NoChanceInFile}
@@ -15,7 +15,7 @@ use Rattle.raft_log_dual_pipes.specs.OnDisk.{LogLiesOn}
 use Rattle.raft_log_dual_pipes.specs.Pipes.{LogRecordValue, files_of}
 use Rattle.raft_log_dual_pipes.specs.Queues.{QueueLayout}
 use Rattle.raft_log_dual_pipes.specs.State.{RunsQueue, Spanned, Ties}
-use Rattle.raft_log_machine_laws.proofs.CallLaws.{stands_log}
+use Rattle.raft_log_machine_laws.proofs.Public.{stands_log}
 use Rattle.raft_log_engine_laws.specs.raft_log_active_file.specs.declared.record.LogRecord.{LogRecord}
 use Rattle.raft_log_engine_laws.specs.raft_log_memtables.specs.Views.{view_of}
 use Rattle.raft_log_engine_laws.specs.EngineState.{LogDirectories, LogMap, EngineState, log_in}

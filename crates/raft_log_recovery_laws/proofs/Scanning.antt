@@ -20,7 +20,7 @@ use Rattle.std.specs.declared.io.ErrorKind.{ErrorKind}
 use Rattle.std.specs.Prelude.{Result, Err}
 use Rattle.std.proofs.lemmas.List.Elements.{Contains-append_left, Contains-append_right}
 use Rattle.raft_log_fs.specs.Arguments.{WrongDirectory}
-use Rattle.raft_log_fs.proofs.KeptLaws.{kept_directory}
+use Rattle.raft_log_fs.proofs.Public.{kept_directory}
 use Rattle.raft_log_recovery_laws.proofs.Calls.{keeps_all, keeps_calm}
 use Rattle.raft_log_recovery_scan.specs.Metadata.{ChangesNoFile}
 use Rattle.raft_log_recovery_scan.specs.Opened.{AreOpen}

@@ -11,8 +11,7 @@ use Rattle.raft_log_fs.specs.Disk.{ShortenedTo, File, Disk, at_rest, with_file}
 use Rattle.raft_log_fs.specs.Calls.{after_change, flushed, Changes, Refused}
 use Rattle.raft_log_fs.specs.Calls.Refused.{after_stop, failed, stops, wrong_argument}
 use Rattle.raft_log_fs.specs.declared.handle.Handle.{Handle}
-use Rattle.raft_log_fs.proofs.TouchingLaws.{same_file}
-use Rattle.raft_log_fs.proofs.Updates.{file_apart, file_here}
+use Rattle.raft_log_fs.proofs.Public.{file_apart, file_here, same_file}
 use Rattle.raft_log_active_file.specs.TakingUp.{Trims}
 
 abbrev pub settled_if : Bool → Option File → Option File

@@ -14,15 +14,10 @@ use Rattle.raft_log_machine_laws.specs.Machine.{AllFit, Fits, RecordsFit}
 use Rattle.raft_log_machine_laws.specs.Whereabouts.{top, Whereabouts}
 use Rattle.raft_log_machine_laws.specs.Files.FileEvent.{Read}
 use Rattle.raft_log_machine_laws.specs.Machine.Event.{Reopen}
-use Rattle.raft_log_machine_laws.proofs.FileLaws.{file_step_numbers}
-use Rattle.raft_log_machine_laws.proofs.DirectoryLaws.{read_queue}
-use Rattle.raft_log_machine_laws.proofs.ImageLaws.{opens}
+use Rattle.raft_log_machine_laws.proofs.Public.{file_step_numbers, opens, read_queue, replays, sound_step, RecordsFit-back}
 use Rattle.raft_log_machine_laws.specs.Unbroken.{IsUnbroken, UnbrokenFrom}
-use Rattle.raft_log_machine_laws.proofs.FitLaws.{RecordsFit-back}
-use Rattle.raft_log_machine_laws.proofs.ReplayLaws.{replays}
 use Rattle.raft_log_machine_laws.specs.Model.{machine_of, running, Files, IsModelSound, Model}
 use Rattle.raft_log_machine_laws.specs.Calls.{read_files, ReadAgain}
-use Rattle.raft_log_machine_laws.proofs.Sound.{sound_step}
 use Rattle.raft_log_memtable_index.specs.Shown.{KeyValue}
 use Rattle.raft_log_memtable_index.specs.Bridge.{Located}
 use Rattle.raft_log_memtable_index.specs.Replayed.{told}

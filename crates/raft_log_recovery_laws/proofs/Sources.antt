@@ -20,7 +20,7 @@ use Rattle.raft_log_recovery.specs.Directories.{paths_of}
 use Rattle.raft_log_offline.specs.Copies.{copy_path}
 use Rattle.raft_log_offline.specs.Sources.{AreSources, AreSourcesOf, IsSource}
 use Rattle.raft_log_offline.specs.declared.source_file.SourceFile.{SourceFile}
-use Rattle.raft_log_offline.proofs.Lasts.{first, first_or_later, in_none, later}
+use Rattle.raft_log_offline.proofs.Public.{first, first_or_later, in_none, later}
 
 -- Directories.
 

@@ -16,7 +16,7 @@ use Rattle.raft_log_recovery_scan.specs.Found.{found_path}
 use Rattle.raft_log_recovery_scan.specs.Opened.{AreOpen, IsOpenFile, is_reserved, permission_before}
 use Rattle.raft_log_recovery_scan.specs.Runs.{FollowsNumber, IsConsecutive}
 use Rattle.raft_log_recovery_scan.specs.declared.scanning.found.FoundFile.{FoundFile}
-use Rattle.raft_log_recovery_scan.proofs.ScanLemmas.{kept_found}
+use Rattle.raft_log_recovery_scan.proofs.Public.{kept_found}
 use Rattle.raft_log_recovery_laws.specs.Scanned.{AreSpanned, ScannedFilesAreSpanned, kind_of}
 use Rattle.raft_log_recovery_laws.proofs.FoundPaths.{path_found}
 

@@ -7,8 +7,7 @@ use Rattle.std.proofs.Common.{◌≡◌, ℕ, suc, ◌<◌, Bool, true, false, S
 use Rattle.raft_log_record_base.specs.declared.pipe_log.LogQueue.TheVariants.{Append}
 use Rattle.raft_log_fs.specs.Arguments.{WrongName}
 use Rattle.raft_log_fs.specs.Disk.{Disk, zeros}
-use Rattle.raft_log_fs.proofs.KeptLaws.{kept_delete}
-use Rattle.raft_log_fs.proofs.Updates.{name_apart, name_here}
+use Rattle.raft_log_fs.proofs.Public.{kept_delete, name_apart, name_here}
 use Rattle.raft_log_active_file.specs.Standing.{Names}
 use Rattle.raft_log_active_file.specs.Layout.{path_of}
 use Rattle.raft_log_active_file.specs.declared.format.File.{File}

@@ -11,7 +11,7 @@ use Rattle.raft_log_engine_laws.specs.raft_log_active_file.specs.QueueFiles.{log
 use Rattle.raft_log_engine_laws.specs.raft_log_active_file.specs.Paths.{IsPathWith, reserved_suffix_of}
 use Rattle.raft_log_engine_laws.specs.raft_log_active_file.specs.PathLaws.{one_number, reserved_is}
 use Rattle.raft_log_file_pipe.specs.Files.{AllKept, CanBeUsed, NoneHas}
-use Rattle.raft_log_file_pipe.proofs.Lists.{path_reserved}
+use Rattle.raft_log_file_pipe.proofs.Public.{path_reserved}
 use Rattle.raft_log_recovery.specs.Readying.{next_number, number_behind}
 use Rattle.raft_log_engine_laws.specs.raft_log_block_cache.specs.Stored.{Each}
 

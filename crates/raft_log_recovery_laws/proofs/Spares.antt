@@ -14,12 +14,12 @@ use Rattle.raft_log_file_format.specs.Name.{number_text, suffix_of}
 use Rattle.raft_log_engine_laws.specs.raft_log_active_file.specs.QueueFiles.{log_format, log_paths}
 use Rattle.raft_log_engine_laws.specs.raft_log_active_file.specs.Paths.{numbered_path}
 use Rattle.raft_log_file_pipe.specs.Files.{AllKept}
-use Rattle.raft_log_file_pipe.proofs.Lists.{path_reserved}
+use Rattle.raft_log_file_pipe.proofs.Public.{path_reserved}
 use Rattle.raft_log_recovery_scan.specs.Found.{FileLiesIn, found_path}
 use Rattle.raft_log_recovery_scan.specs.Opened.{AreOpen, IsOpenFile}
 use Rattle.raft_log_recovery_scan.specs.Runs.{FollowsNumber, IsConsecutive}
 use Rattle.raft_log_recovery_scan.specs.Scanned.{IsReserveIn}
-use Rattle.raft_log_recovery_scan.proofs.FoundLemmas.{limit_small}
+use Rattle.raft_log_recovery_scan.proofs.Public.{limit_small}
 use Rattle.raft_log_recovery_scan.specs.declared.file_kind.FileKind.TheVariants.{Reserved}
 use Rattle.raft_log_recovery_scan.specs.declared.scanning.found.FoundFile.{FoundFile}
 use Rattle.raft_log_replay_context.specs.declared.context.MemTableRecoverContext.{MemTableRecoverContext}

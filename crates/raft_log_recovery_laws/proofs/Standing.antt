@@ -9,10 +9,9 @@ use Rattle.raft_log_fs.specs.Image.{as_it_stands, IsSound, IsSoundFile}
 use Rattle.raft_log_fs.specs.Calls.{flushed}
 use Rattle.raft_log_file_writer.specs.LogFormat.{Format}
 use Rattle.raft_log_file_writer.specs.LogQueue.{LogFiles}
-use Rattle.raft_log_fs.proofs.ImageLaws.{rest_sound}
-use Rattle.raft_log_fs.proofs.TouchingLaws.{same_file}
+use Rattle.raft_log_fs.proofs.Public.{rest_sound, same_file}
 use Rattle.raft_log_active_file.specs.Standing.{Names, Stands}
-use Rattle.raft_log_active_file.proofs.Standing.{place_moved}
+use Rattle.raft_log_active_file.proofs.Public.{place_moved}
 use Rattle.raft_log_dual_pipes.specs.Queues.{QueueLayout}
 use Rattle.raft_log_dual_pipes.specs.State.{Spanned}
 use Rattle.raft_log_dual_pipes.specs.OpenOrClosed.{LiesQueue}

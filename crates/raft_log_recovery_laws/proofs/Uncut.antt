@@ -12,7 +12,7 @@ use Rattle.raft_log_fs.specs.declared.handle.Permission.TheVariants.{ReadOnly}
 use Rattle.raft_log_active_file.specs.Bridge.{said, IsFileQueue}
 use Rattle.raft_log_active_file.specs.Standing.{Names}
 use Rattle.raft_log_active_file.specs.Reopening.{reread}
-use Rattle.raft_log_active_file.proofs.Standing.{stands_rebased}
+use Rattle.raft_log_active_file.proofs.Public.{stands_rebased}
 use Rattle.raft_log_active_file.specs.Layout.{path_of}
 use Rattle.raft_log_active_file.specs.TakingUp.{TrimMakes}
 use Rattle.raft_log_active_file.specs.declared.format.File.{File}

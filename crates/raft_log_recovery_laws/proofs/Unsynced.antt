@@ -15,20 +15,17 @@ use Rattle.raft_log_file_writer.specs.LawsChains.{spelled}
 use Rattle.raft_log_file_writer.specs.LogFormat.{Format, NoChanceInFile}
 use Rattle.raft_log_file_writer.specs.LogQueue.{HoldsLast, LogFiles, NoChanceInLast, recent}
 use Rattle.raft_log_fs.specs.Touching.{TouchesOnly}
-use Rattle.raft_log_fs.proofs.KeptLaws.{kept_sync, IsCalm}
-use Rattle.raft_log_fs.proofs.TouchingLaws.{touches_sync}
-use Rattle.raft_log_fs.proofs.Updates.{file_here}
+use Rattle.raft_log_fs.proofs.Public.{file_here, kept_sync, touches_sync, IsCalm}
 use Rattle.raft_log_active_file.specs.Bridge.{IsFileQueue}
 use Rattle.raft_log_active_file.specs.Standing.{HaveOneName, Names, Stands}
-use Rattle.raft_log_active_file.proofs.Standing.{place_moved, stands_rebased, stands_synced}
+use Rattle.raft_log_active_file.proofs.Public.{place_moved, stands_rebased, stands_synced}
 use Rattle.raft_log_active_file.specs.declared.format.File.{File}
 use Rattle.raft_log_engine_laws.specs.raft_log_active_file.specs.declared.record.LogRecord.{LogRecord}
 use Rattle.raft_log_dual_pipes.specs.OpenOrClosed.{none_open, LiesQueue}
 use Rattle.raft_log_dual_pipes.specs.Queues.{AreTwoQueues, IsQueueLayout, QueueLayout}
 use Rattle.raft_log_dual_pipes.specs.State.{HasSpan, Spanned}
 use Rattle.raft_log_dual_pipes.specs.Reopening.{RestsQueue}
-use Rattle.raft_log_dual_pipes.proofs.CrashSteps.{rests_lie}
-use Rattle.raft_log_dual_pipes.proofs.ClosedQueues.{lies}
+use Rattle.raft_log_dual_pipes.proofs.Public.{lies, rests_lie}
 use Rattle.raft_log_dual_pipes.specs.Pipes.{State}
 use Rattle.raft_log_engine_laws.specs.EngineState.{log_in}
 use Rattle.raft_log_recovery.specs.Finishing.{FailsToSyncLog}

@@ -4,13 +4,12 @@ use Rattle.std.proofs.lemmas.Bool.{cases_eq}
 use Rattle.raft_log_fs.specs.Calls.{flushed, Changes}
 use Rattle.raft_log_fs.specs.Disk.{Disk, File, at_rest}
 use Rattle.raft_log_fs.specs.Touching.{HasFile}
-use Rattle.raft_log_fs.proofs.TouchingLaws.{has_weaker}
-use Rattle.raft_log_fs.proofs.Updates.{file_apart, file_here}
+use Rattle.raft_log_fs.proofs.Public.{file_apart, file_here, has_weaker}
 use Rattle.raft_log_record_base.specs.declared.pipe_log.LogQueue.TheVariants.{Append}
 use Rattle.raft_log_active_file.specs.declared.format.File as listed
 use Rattle.raft_log_active_file.specs.Queue.{begun}
 use Rattle.raft_log_active_file.specs.States.{IsNew}
-use Rattle.raft_log_active_file.proofs.FileSteps.{new_over}
+use Rattle.raft_log_active_file.proofs.Public.{new_over}
 use Rattle.raft_log_engine_laws.specs.raft_log_active_file.specs.QueueFiles.{log_format}
 use Rattle.raft_log_file_pipe.specs.Files.{CanBeUsed}
 use Rattle.raft_log_recovery.specs.Syncing.{SyncsEach}

@@ -27,8 +27,9 @@ pub record AreAllFound (queue : LogQueue) (directories : List (List ℕ)) (numbe
   pub spanned : AreSpanned queue directories earlier last d
   pub begins : (m : ℕ) → suc m ≡ first_number earlier last → IsAbsent (log_format queue directories) m d
 
--- If the queue `q` is at rest in distinct directories, a scan of them returns its files from the last gap in their
--- numbers on. On disk `d`, whose names are `N`, the queue's last file is at `path` and has the node number `id`.
+-- The queue `q` is at rest in distinct directories. Then a scan of these directories returns the queue's files from the
+-- last gap in the file numbers on. On disk `d`, the queue's last file is at `path` and has the node number `id`. `N`
+-- are the names on the disk.
 abbrev pub ScannedFilesAreAll : Type 0
 ScannedFilesAreAll = (queue : LogQueue) (directories : List (List ℕ)) → AreDistinct directories
     → (mode : RecoveryMode) (d : Disk) → IsSound d

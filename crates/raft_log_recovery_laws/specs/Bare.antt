@@ -1,5 +1,5 @@
--- Opening a log's directories for the first time. `disk` gives the disk of a file system's state, and `tells` which
--- sizes it may return as a directory's free space.
+-- Opening a log's directories for the first time. `disk` gives the disk of a file system's state. `tells` says which
+-- numbers the file system may return as a directory's free space.
 use Rattle.std.specs.Prelude.{◌≡◌, ◌⊎◌, ℕ, None, List, [], Contains}
 use Rattle.raft_log_record_base.specs.declared.errors.Error.{Error}
 use Rattle.raft_log_record_base.specs.declared.pipe_log.LogQueue.{LogQueue}

@@ -22,15 +22,15 @@ pub record ForkedAs {F : Type 0} (disk : F → Disk) (tells : F → List ℕ →
   pub rests : IsDurableAs (log_in (home_of to)) (disk after) m
   pub opens : OpensAs disk tells to after m
 
--- `old` is the state before a fork. Each fork of the log of `config` into a clear target makes a log with the contents
--- `m`. The settings `to`, with which it is opened, name only the target.
+-- `old` is the state before a fork. Each fork of the log of `config` into a clear target (`IsClear`) makes a log with
+-- the contents `m`. The fork is opened with the settings `to`, which name only the target.
 abbrev pub IsForkedAs : {F : Type 0} → (F → Disk) → (F → List ℕ → ℕ → Type 0) → F → LogMap → Config → Type 0
 IsForkedAs {F} disk tells old m config = (to : Config) (target : List ℕ) (copied : List (List ℕ)) (after : F)
     → IsSound (disk after) → NamesOnly to target → IsClear target (disk old)
     → Forks (settings_of config) target copied (disk old) (disk after) → ForkedAs disk tells to after m
 
--- An open in place and an open of any fork both find the contents `now`, with all settings that name the log's
--- directories.
+-- An open in place and an open of any fork into a clear target both find the contents `now`. This holds for all
+-- settings that name the log's directories.
 pub record ShowsAlike {F : Type 0} (disk : F → Disk) (tells : F → List ℕ → ℕ → Type 0) (home : LogDirectories) (old : F)
     (m : LogMap) (pending : List LogRecordValue) (now : LogMap) : Type 0 where
   pub opens : ForAllNaming home (λ config. OpensStanding disk tells config old m pending now)

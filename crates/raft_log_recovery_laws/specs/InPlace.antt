@@ -32,8 +32,8 @@ use Rattle.raft_log_recovery_laws.specs.Opened.{HoldsFresh}
 use Rattle.raft_log_recovery_laws.specs.RefusedByCalls.{FailsToOpenByCalls}
 use Rattle.raft_log_recovery_laws.specs.ByCalls.{home_of, ForAllNaming, LogIsRecovered, OpensByCalls}
 
--- There is no CRC collision in either queue's active file, with its bytes as they are now. This is the premise for a
--- crash that keeps all bytes.
+-- There is no CRC collision in either queue's active file, with its bytes as they are now. This is the premise of an
+-- open after a crash (`IsCrashOf`), for the crash image that keeps all bytes.
 abbrev pub StandsWithoutChance : LogDirectories → State → Disk → Type 0
 StandsWithoutChance home s d = IsCrashOf home s d (as_it_stands d)
 
@@ -103,18 +103,18 @@ StandingDirectoriesOpen {F} disk tells = (home : LogDirectories) → 0 < length 
     → RestsAfterSome home (as_it_stands (disk old)) m pending
     (λ now. ForAllNaming home (λ config. OpensStanding disk tells config old m pending now))
 
--- How far an open came, if it ended before it truncated anything:
--- - `undone`: nothing was done.
--- - `unscanned`: the scan of the directories failed.
--- - `unread`: the scan succeeded, and nothing was done after it.
+-- An open ended before it synced or truncated a file of the log. It left the disk in one of these ways:
+-- - `undone`: the disk is as before.
+-- - `unscanned`: the disk is as after a scan of the directories that failed, or that ran out of memory.
+-- - `unread`: the disk is as after a scan that succeeded.
 pub data StopsUncut (config : Config) (d new : Disk) : Type 0 where
   undone : new ≡ d → StopsUncut config d new
   unscanned : (b : DualPipesBuilder) (error : Error) → IsBegun config b → FailsToScanLog b error d new
       → StopsUncut config d new
   unread : (found : DualPipesBuilder) → FindsLog config found d new → StopsUncut config d new
 
--- If an open ended before it truncated anything (`StopsUncut`), the log's files can be opened as before, with the same
--- pending batches. This needs no premise on CRC collisions.
+-- If an open ended before it synced or truncated a file (`StopsUncut`), the log's files can be opened as before, with
+-- the same pending batches. This needs no premise on CRC collisions.
 abbrev pub UncutLogsStay : Type 0
 UncutLogsStay = (config : Config) (d : Disk) (m : LogMap) (pending : List LogRecordValue)
     → IsRecoverableAs (home_of config) d m pending → (new : Disk) → StopsUncut config d new

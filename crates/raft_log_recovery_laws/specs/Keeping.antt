@@ -10,9 +10,9 @@ use Rattle.raft_log_dual_pipes.specs.Queues.{AreTwoQueues, TwoQueues}
 use Rattle.raft_log_dual_pipes.specs.OpenOrClosed.{none_open}
 use Rattle.raft_log_dual_pipes.specs.OnDisk.{LogLiesOn, IsDurableAs}
 
--- The files of a queue are unchanged. Each path of a number names the same file as before, or still names none. The
--- content and state of each such file are the same. A file can still be created at each path where one could be created
--- before.
+-- The files of a queue are unchanged. Each path that a file of the queue can have names the same file as before, or
+-- still names none. Each of these files has the same content, synced content and changes. A file can still be created
+-- at each path where one could be created before.
 pub record KeepsNumbered {R : Type 0} (F : Format R) (old new : Disk) : Type 0 where
   pub names : (m : ℕ) (path : List ℕ) → m < F.limit → F.IsPath m path → new.names path ≡ old.names path
   pub files : (m : ℕ) (path : List ℕ) (id : ℕ) → m < F.limit → F.IsPath m path → old.names path ≡ Some id

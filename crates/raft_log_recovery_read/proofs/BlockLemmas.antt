@@ -7,11 +7,10 @@ use Rattle.raft_log_record_base.specs.Fault.{Fault}
 use Rattle.raft_log_record_base.specs.Files.{signature_of}
 use Rattle.raft_log_record_base.specs.declared.pipe_log.FileBlockHandle.{FileBlockHandle}
 use Rattle.raft_log_record_frames.specs.Record.{Front, block_of, frame_at, record_at}
-use Rattle.raft_log_record_frames.proofs.Frames.{frames_take_bytes}
-use Rattle.raft_log_record_frames.proofs.Fronts.{frame_is_read}
+use Rattle.raft_log_record_frames.proofs.Public.{frame_is_read, frames_take_bytes}
 use Rattle.raft_log_file_reader.specs.Batches.{HasBlock, IsBroken, batch_at, context_of}
 use Rattle.raft_log_file_reader.specs.declared.open_file.OpenFile.{OpenFile}
-use Rattle.raft_log_file_reader.proofs.FrameReadings.{block_stands}
+use Rattle.raft_log_file_reader.proofs.Public.{block_stands}
 use Rattle.raft_log_recovery_read.specs.Records.{IsRecordTorn, IsWhole}
 
 -- the block lies where it is noted

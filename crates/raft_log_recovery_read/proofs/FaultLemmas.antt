@@ -14,7 +14,6 @@ use Rattle.raft_log_file_format.specs.Header.{header_at}
 use Rattle.raft_log_file_reader.specs.Source.{bytes_in, bytes_of, CannotRead}
 use Rattle.raft_log_file_reader.specs.Opening.{FailsToOpen}
 use Rattle.raft_log_file_reader.specs.Refused.{FailsAt, FailsBehind}
-use Rattle.raft_log_file_reader.specs.Batches.{IsBroken}
 use Rattle.raft_log_file_reader.specs.declared.source.Source.{Source}
 use Rattle.raft_log_file_reader.specs.declared.open_file.OpenFile.{OpenFile}
 use Rattle.raft_log_recovery_read.specs.Faults.{IsDamage, TellsFault}
@@ -27,11 +26,6 @@ from_front source offset d errors.Memory h = tt
 from_front source offset d _ h = absurd h
 
 -- Of the next batch.
-
-pub batch_damaged : (file : OpenFile) (d : Disk) (offset : ℕ) (e : Error) → FailsBehind file d offset e → IsDamage e → (f : Fault) × TellsFault e f × IsBroken file (bytes_of file.source d) offset f
-batch_damaged file d offset (errors.Codec c) h damaged = (number c, refl, h)
-batch_damaged file d offset (errors.Corruption text) h damaged = (corrupt (string_bytes text), refl, h)
-batch_damaged file d offset _ h damaged = absurd damaged
 
 pub batch_unread : (file : OpenFile) (d : Disk) (offset : ℕ) (e : Error) → FailsBehind file d offset e → (IsDamage e → ⊥) → CannotRead file.source 0 d e
 batch_unread file d offset (errors.Io kind) h other = record { at = h.at; count = h.count; behind = omega arith; inside = h.inside; unread = h.unread }

@@ -1,5 +1,5 @@
 -- A file's reading stops at one place: at a foreign record or not.
-use Rattle.std.proofs.Common.{◌≡◌, ◌⊎◌, inl, inr, ℕ, ◌≤◌, Bool, true, false, Option, Some, None, List, length, take, Err, sym, ap, subst, ◌∙◌, arith}
+use Rattle.std.proofs.Common.{◌≡◌, ◌⊎◌, inl, inr, ℕ, Bool, Option, List, length, take, Err, sym, ap, subst, ◌∙◌}
 use Rattle.raft_log_record_base.specs.Fault.{Fault}
 use Rattle.raft_log_record_base.specs.declared.errors.Error.{Error}
 use Rattle.raft_log_record_base.specs.declared.pipe_log.FileId.{FileId}
@@ -8,8 +8,6 @@ use Rattle.raft_log_fs.specs.declared.handle.Handle.{Handle}
 use Rattle.raft_log_record_items.specs.declared.item.LogItem.{LogItem}
 use Rattle.raft_log_file_format.specs.Header.{header_at}
 use Rattle.raft_log_file_format.specs.declared.header.LogFileFormat.{LogFileFormat}
-use Rattle.raft_log_file_reader.specs.Batches.{GoesOnAt}
-use Rattle.raft_log_file_reader.specs.Batches.GoesOnAt.{behind_padding, at_once}
 use Rattle.raft_log_file_reader.specs.Foreign.{HasForeignRecord}
 use Rattle.raft_log_file_reader.specs.Opening.{SaysFormat}
 use Rattle.raft_log_file_reader.specs.declared.open_file.OpenFile.{OpenFile}
@@ -18,34 +16,10 @@ use Rattle.raft_log_file_reader.specs.Source.{bytes_of, CannotRead}
 use Rattle.raft_log_recovery_read.specs.Foreign.{FailsToReadRecords, IsForeign, StopsAtNoForeign}
 use Rattle.raft_log_recovery_read.specs.ForeignSteps.{RefusesForeign}
 use Rattle.raft_log_recovery_read.specs.Records.{ReadsBehind}
-use Rattle.raft_log_recovery_read.specs.Records.ReadsEarlier.{none, good, torn}
 use Rattle.raft_log_recovery_read.proofs.Elsewhere.{read_from, same_behind}
 use Rattle.raft_log_recovery_read.proofs.FaultLemmas.{file_unread, from_front}
 use Rattle.raft_log_recovery_read.proofs.HeldOnce.{header_found, one_header}
 use Rattle.raft_log_recovery_read.proofs.OneReading.{one_behind}
-
--- reading goes on at or behind an offset
-goes_behind : (alignment : ℕ) (content : List ℕ) (offset at : ℕ) → GoesOnAt alignment content offset at → offset ≤ at
-goes_behind alignment content offset at (behind_padding padding is) = omega (arith, is)
-goes_behind alignment content offset at (at_once other is) = omega (arith, is)
-
--- what is read of a file ends within it
-pub ends_inside : (last : Bool) (file : OpenFile) (content : List ℕ) (offset end : ℕ) (batches : List (List LogItem)) (fault : Option Fault) → ReadsBehind last file content offset batches end fault → end ≤ length content
-ends_inside true file content offset end batches None h = goes_behind file.format.alignment content end (length content) h.1.goes_on
-ends_inside true file content offset end batches (Some f) h =
-    let later = goes_behind file.format.alignment content end h.1.at h.1.goes_on in
-    omega (arith, later, h.1.inside)
-ends_inside false file content offset end batches None (none is at s) = goes_behind file.format.alignment content end (length content) s.goes_on
-ends_inside false file content offset end batches (Some f) (none is at s) =
-    let later = goes_behind file.format.alignment content end s.at s.goes_on in
-    omega (arith, later, s.inside)
-ends_inside false file content offset end batches None (good h s) = goes_behind file.format.alignment content end (length content) s.goes_on
-ends_inside false file content offset end batches (Some f) (good h s) =
-    let later = goes_behind file.format.alignment content end s.at s.goes_on in
-    omega (arith, later, s.inside)
-ends_inside false file content offset end batches fault (torn items next f h more x t told) =
-    let later = goes_behind file.format.alignment content end t.at t.goes_on in
-    omega (arith, later, t.inside)
 
 -- whether the next record is foreign doesn't depend on where the file is read from
 foreign_from : (file : OpenFile) (s : Source) (content : List ℕ) (end at compression : ℕ) → HasForeignRecord (read_from file s) content end at compression → HasForeignRecord file content end at compression

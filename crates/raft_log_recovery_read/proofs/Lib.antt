@@ -1,3 +1,4 @@
+pub mod Public
 pub mod FaultLemmas
 pub mod BlockLemmas
 pub mod WorkLemmas

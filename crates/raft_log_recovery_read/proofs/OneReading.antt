@@ -3,14 +3,13 @@ use Rattle.std.proofs.Common.{◌≡◌, ℕ, Bool, true, false, inl, inr, Optio
 use Rattle.std.proofs.lemmas.List.{drop_all}
 use Rattle.raft_log_record_base.specs.Fault.{Fault}
 use Rattle.raft_log_record_base.specs.Files.{signature_of}
-use Rattle.raft_log_record_base.proofs.Grammar.{ok_is}
+use Rattle.raft_log_record_base.proofs.Public.{ok_is}
 use Rattle.raft_log_record_items.specs.declared.item.LogItem.{LogItem}
 use Rattle.raft_log_record_frames.specs.Record.{record_at}
 use Rattle.raft_log_file_reader.specs.Batches.{batch_at, context_of, HasBatch, HasBatches, HasNoMore}
 use Rattle.raft_log_file_reader.specs.Laws.{EndsBehind}
 use Rattle.raft_log_file_reader.specs.declared.open_file.OpenFile.{OpenFile}
-use Rattle.raft_log_file_reader.proofs.Extents.{extent_short, batch_broken}
-use Rattle.raft_log_file_reader.proofs.Readings.{one_place, one_reading_is, one_fault_is, batches_go_on_is}
+use Rattle.raft_log_file_reader.proofs.Public.{batch_broken, batches_go_on_is, extent_short, one_fault_is, one_place, one_reading_is}
 use Rattle.raft_log_recovery_read.specs.Records.{EndsWhole, HasRecord, HasRecords, IsRecordTorn, IsWhole, ReadsBehind, ReadsEarlier, StopsGood, StopsWhole}
 use Rattle.raft_log_recovery_read.specs.Records.ReadsEarlier.{none, good, torn}
 

@@ -1,13 +1,13 @@
 -- A reader at work behind a file's header.
-use Rattle.std.proofs.Common.{◌≡◌, ℕ, ◌<◌, inl, inr, Option, Some, None, List, [], ◌∷◌, ◌++◌, refl, sym, ap, subst, ◌∙◌, arith}
+use Rattle.std.proofs.Common.{◌≡◌, ℕ, inl, inr, Option, Some, None, List, [], ◌∷◌, ◌++◌, refl, sym, subst, ◌∙◌, arith}
 use Rattle.raft_log_record_base.specs.Fault.{Fault}
 use Rattle.raft_log_record_items.specs.declared.item.LogItem.{LogItem}
 use Rattle.raft_log_fs.specs.Disk.{Disk}
 use Rattle.raft_log_file_reader.specs.Batches.{HasBatches}
 use Rattle.raft_log_file_reader.specs.Foreign.{IsOffsetInside}
 use Rattle.raft_log_file_reader.specs.Laws.{EndsBehind}
-use Rattle.raft_log_file_reader.proofs.Readings.{batches_go_on_is}
-use Rattle.raft_log_file_reader.specs.Reader.{IsReading, file_of, end_of, size_in, left_of}
+use Rattle.raft_log_file_reader.proofs.Public.{batches_go_on_is}
+use Rattle.raft_log_file_reader.specs.Reader.{IsReading, file_of, end_of}
 use Rattle.raft_log_file_reader.specs.declared.open_file.OpenFile.{OpenFile}
 use Rattle.raft_log_file_reader.specs.declared.reader.LogItemBatchFileReader.{LogItemBatchFileReader}
 use Rattle.raft_log_recovery_read.specs.Records.{HasRecord, HasRecords, StopsGood}
@@ -24,14 +24,6 @@ records_go_on file content offset m n (xs ∷ more) items a b = (a.0, a.1, recor
 pub one_at_least : {X : Type 0} (xs : List X) (x : X) → xs ++ x ∷ [] ≡ [] → ⊥
 one_at_least [] x e = absurd cc
 one_at_least (y ∷ xs) x e = absurd cc
-
--- a reader that went on in its file has less behind it
-pub less_left : (d : Disk) (old new : LogItemBatchFileReader) (file : OpenFile) → file_of old ≡ Some file → file_of new ≡ file_of old → IsReading d new → end_of old < end_of new → left_of new < left_of old
-less_left d old new file opened same reading further =
-    let within = (reading file (same ∙ opened)).within in
-    let size : size_in (file_of old) ≡ file.source.size = ap size_in opened in
-    let kept : size_in (file_of new) ≡ file.source.size = ap size_in (same ∙ opened) in
-    omega (arith, within, size, kept, further)
 
 -- the offset of a reader is inside the file that another reader has open, too
 pub end_inside : (d : Disk) (old new : LogItemBatchFileReader) (end : ℕ) → IsReading d old → file_of new ≡ file_of old → end ≡ end_of old → IsOffsetInside end new

@@ -15,8 +15,8 @@ said id batches = map (batch_in id) batches
 abbrev pub TakesBatches : {M : Type 0} → (List Batch → M → Type 0) → List Batch → M → M → Type 0
 TakesBatches reads batches old new = (before : List Batch) → reads before old → reads (before ++ batches) new
 
--- The machine rejected the last batch of `first` with `error`, and got none of `rest`. `declines` allows this error for
--- all batches that the machine got, the rejected one included.
+-- `batches` are `first` and then `rest`. The machine got `first` and rejected the last of these with `error`:
+-- `declines` holds for `error` and all batches that the machine got, the rejected one included.
 pub record DeclinesSome {M : Type 0} (reads : List Batch → M → Type 0) (declines : List Batch → Error → Type 0)
     (batches : List Batch) (machine : M) (error : Error) : Type 0 where
   pub first : List Batch

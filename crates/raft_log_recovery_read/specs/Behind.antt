@@ -19,7 +19,7 @@ use Rattle.raft_log_recovery_read.specs.Records.{ReadsBehind}
 use Rattle.raft_log_recovery_read.specs.declared.behind.Behind.{Behind}
 use Rattle.raft_log_recovery_read.specs.declared.behind.LastRecord.{LastRecord}
 
--- What was read of the file from `offset` on; `last` says whether it is its queue's last file:
+-- What was read of the file from `offset` on; `last` says whether the file is its queue's last:
 -- - batches, which were passed to a machine
 -- - the offset where the last one ends, and what is wrong there
 -- - for a last file, whether there are no batches
@@ -33,7 +33,8 @@ pub record WasReadBehind {M : Type 0} (last : Bool) (reads : List Batch → M �
   pub bare : last ≡ true → IsTrue behind.is_bare ↔ (batches ≡ [])
   pub taken : HasTaken reads declines (said id batches) old new behind.declined
 
--- the reader still has the same file open, its offset and window fit that file, and the offset `end` is inside the file
+-- The reader has the same file open as before, or still none. If it has one open, its offset and its window (the bytes
+-- that it keeps in memory) fit that file, and offset `end` is within the file.
 pub record KeepsFile (d : Disk) (old new : LogItemBatchFileReader) (end : ℕ) : Type 0 where
   pub reading : IsReading d new
   pub same : file_of new ≡ file_of old
@@ -58,15 +59,17 @@ abbrev pub with_noted : List (List LogItem) → Option LastRecord → List (List
 with_noted before None = before
 with_noted before (Some last) = before ++ last.items.items ∷ []
 
--- The batches `before` follow one another from `offset` on. After them comes the record that the reader remembers,
--- with its location, its entry block and its items, up to `end`. If it remembers none, there are no batches.
+-- The batches `before` follow one another from `offset` on. After these comes the record that the reader remembers,
+-- with its location, its entry block and its items, up to `end`. If the reader remembers none, there are no batches,
+-- and `end` is `offset`.
 abbrev pub StandsAtLast :
     OpenFile → List ℕ → ℕ → List (List LogItem) → Option LastRecord → ℕ → Type 0
 StandsAtLast file content offset before None end = (before ≡ []) × (end ≡ offset)
 StandsAtLast file content offset before (Some last) end = HasBatches file content offset before last.start
     × HasBatch file content last.start last.items.items end × HasBlock file content last.start last.block
 
--- the record that the reader remembers begins inside the file, and its entry block is there too
+-- If the reader remembers a record and has a file open, the record begins within the file, and its entry block ends
+-- within the file.
 abbrev pub LiesInside : Option LastRecord → LogItemBatchFileReader → Type 0
 LiesInside None reader = Unit {0}
 LiesInside (Some last) reader = IsInsideFile last.block reader × IsOffsetInside last.start reader

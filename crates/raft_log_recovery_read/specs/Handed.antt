@@ -7,8 +7,8 @@ use Rattle.raft_log_recovery_read.specs.Batches.{HasTaken, said}
 use Rattle.raft_log_recovery_read.specs.Reading.{FileReading}
 use Rattle.raft_log_recovery_read.specs.declared.found_file.FoundFile.{FoundFile}
 
--- `found` has the format, end and fault of the file, as `reading` has them. The file's batches were passed to a
--- machine, which went from `old` to `new`.
+-- `found` has the same format, end and fault as `reading`, the content of the file. The file's batches were passed to
+-- the machine `old`. It accepted all of them, and is `new`, or rejected one (`HasTaken`).
 pub record WasHanded {M : Type 0} (reads : List Batch → M → Type 0) (declines : List Batch → Error → Type 0)
     (id : FileId) (old new : M) (reading : FileReading) (found : FoundFile) : Type 0 where
   pub format : found.format ≡ reading.format

@@ -18,8 +18,9 @@ abbrev pub told_damage : FileId → ℕ → List ℕ → List ℕ
 told_damage id at wrong = queue_name id.queue ++ (codes " file " ++ (decimal id.seq ++ (codes ": damaged at offset "
     ++ (decimal at ++ (codes ": " ++ wrong)))))
 
--- The error names the damaged file, and says what is wrong (`fault`); or memory ran out for its text. The offset is
--- `end`, where the last good record ends, or the header. Without a header it is 0.
+-- The error names the damaged file, an offset, and what is wrong (`fault`); or memory ran out for its text. The offset
+-- is `end`: where the last good record ends, or the header if there is no good record. If the header is missing or
+-- torn, `end` is `None`, and the offset is 0.
 abbrev pub NamesDamage : FileId → Option ℕ → Error → Error → Type 0
 NamesDamage id end fault (errors.Corruption text) =
     string_bytes text ≡ told_damage id (unwrap_or end 0) (fault_text fault)

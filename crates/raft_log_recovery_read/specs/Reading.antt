@@ -20,7 +20,7 @@ use Rattle.raft_log_recovery_read.specs.Records.{ReadsBehind}
 
 -- what a log file contains, from its start to its end, or to the first damage
 pub record FileReading : Type 0 where
-  -- the header's format; the format of a file without a header, if it has none
+  -- the header's format; `first_format` if there is no header or a torn one
   pub format : LogFileFormat
   -- the items of the good records, in order, with the places of their entries
   pub batches : List (List LogItem)
@@ -42,9 +42,9 @@ HasTornHeader last format bare = (last ≡ true) × (IsUnaligned format → ⊥)
 abbrev pub torn_header : List ℕ
 torn_header = codes "log file header has an alignment, and no record after it"
 
--- What the bytes of a file contain; `last` says whether it is its queue's last file. If they begin with no header, or
--- with a torn one, they contain no batch, and the fault says why. Else they contain the header's format and the batches
--- after it.
+-- What the bytes of a file contain; `last` says whether the file is its queue's last. If the bytes don't begin with a
+-- header, or begin with a torn one, they contain no batch, and the fault says why. Else they contain the header's
+-- format and the batches after the header.
 pub data ReadsBytes (last : Bool) (id : FileId) (content : List ℕ) (read : FileReading) : Type 0 where
   headless : (fault : Fault) → header_at (take 69 content) ≡ Err fault
       → TellsIfAny read.fault (Some fault) → read.batches ≡ [] → read.end ≡ None

@@ -56,7 +56,7 @@ pub record EndsWhole (file : OpenFile) (content : List ℕ) (offset : ℕ) (batc
   pub record_last : HasRecord file content between last end
 
 -- What is read of a file that isn't its queue's last, from `offset` on: the batches up to the file's end or to a broken
--- frame. If the last of these has a torn entry block, it isn't read, and the batches end before it.
+-- frame. The exception is a last batch with a torn entry block: it isn't read, and the batches end before it.
 pub data ReadsEarlier (file : OpenFile) (content : List ℕ) (offset : ℕ) (batches : List (List LogItem))
     (end : ℕ) (fault : Option Fault) : Type 0 where
   none : batches ≡ [] → end ≡ offset → StopsGood file content end fault
@@ -72,7 +72,7 @@ abbrev pub ReadsLastFile : OpenFile → List ℕ → ℕ → List (List LogItem)
 ReadsLastFile file content offset batches end fault =
     HasRecords file content offset batches end × StopsWhole file content end fault
 
--- what is read of a file from an offset on; the flag says whether it is its queue's last file
+-- what is read of a file from an offset on; the flag says whether the file is its queue's last
 abbrev pub ReadsBehind :
     Bool → OpenFile → List ℕ → ℕ → List (List LogItem) → ℕ → Option Fault → Type 0
 ReadsBehind true = ReadsLastFile

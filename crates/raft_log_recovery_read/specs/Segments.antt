@@ -30,13 +30,15 @@ pub record ReadsAt (mode : RecoveryMode) (queue : LogQueue) (files : List File) 
   pub is : (other : File) → file ≡ slice_index_or files index other
   pub reads : ReadsFound mode (is_at_end files index) (id_of queue file) file.handle d read
 
--- how a recovery treats a file with this content: its format, where it ends, and whether it is damaged there
+-- what a recovery keeps of a file with this content: the format, where the last good record ends, and whether the file
+-- is damaged
 pub record EndsAs (read : FileReading) (ending : FileEnding) : Type 0 where
   pub format : ending.format ≡ read.format
   pub end : ending.end ≡ read.end
   pub damaged : ending.is_damaged ≡ is_some read.fault
 
--- the file at position `index` contains these batches, and `ending` says how the recovery treats it
+-- The file at position `index` contains these batches. `ending` has its format, where its last good record ends, and
+-- whether it is damaged.
 pub record HoldsFile (mode : RecoveryMode) (queue : LogQueue) (files : List File) (d : Disk) (index : ℕ)
     (batches : List Batch) (ending : FileEnding) : Type 0 where
   pub file : File
@@ -45,7 +47,7 @@ pub record HoldsFile (mode : RecoveryMode) (queue : LogQueue) (files : List File
   pub holds : batches ≡ said (id_of queue file) read.batches
   pub ends : EndsAs read ending
 
--- the first batches that the file at position `index` contains are these
+-- the batches that the file at position `index` contains begin with these
 pub record BeginsFile (mode : RecoveryMode) (queue : LogQueue) (files : List File) (d : Disk) (index : ℕ)
     (batches : List Batch) : Type 0 where
   pub file : File
@@ -62,8 +64,8 @@ pub record RefusesFile (mode : RecoveryMode) (queue : LogQueue) (files : List Fi
   pub is : (other : File) → file ≡ slice_index_or files index other
   pub refused : FailsToReadFound mode (is_at_end files index) (id_of queue file) file.handle d error
 
--- `found` is what was found of the file at position `index`. Its records were passed to a machine, which was `old`
--- before and is `new` after.
+-- `found` is what was found of the file at position `index`. Its batches were passed to the machine `old`. It accepted
+-- all of them, and is `new`, or rejected one (`WasHanded`).
 pub record IsSegment {M : Type 0} (mode : RecoveryMode) (queue : LogQueue) (files : List File) (d : Disk)
     (index : ℕ) (takes : List Batch → M → Type 0) (declines : List Batch → Error → Type 0) (old new : M)
     (found : FoundFile) : Type 0 where

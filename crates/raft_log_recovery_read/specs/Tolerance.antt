@@ -1,5 +1,5 @@
 -- Which damage of a log file each recovery mode tolerates. The file is `id` of the log, open under `handle` on disk
--- `d`, and `last` says whether it is its queue's last.
+-- `d`, and `last` says whether the file is its queue's last.
 use Rattle.std.specs.Prelude.{◌≡◌, ◌⊎◌, Bool, true, false, Option, Some, None}
 use Rattle.raft_log_record_base.specs.declared.errors.Error.{Error}
 use Rattle.raft_log_record_base.specs.declared.pipe_log.FileId.{FileId}
@@ -12,7 +12,7 @@ use Rattle.raft_log_recovery_read.specs.Foreign.{FailsToReadRecords, StopsAtNoFo
 use Rattle.raft_log_recovery_read.specs.Naming.{NamesDamage}
 use Rattle.raft_log_recovery_read.specs.Reading.{FileReading, ReadsFileAs}
 
--- whether this recovery mode tolerates damage in a file; `last` says whether it is its queue's last file
+-- whether this recovery mode tolerates damage in a file; `last` says whether the file is its queue's last
 abbrev pub tolerates : RecoveryMode → Bool → Bool
 tolerates AbsoluteConsistency last = false
 tolerates TolerateTailCorruption last = last

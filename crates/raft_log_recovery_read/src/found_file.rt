@@ -19,11 +19,13 @@ pub struct ListedFile {
 /// to a machine.
 #[derive(Drop, Debug)]
 pub struct FoundFile {
-    /// The format in the file's header; the format of a file without a header, if it has none.
+    /// The format in the file's header; if the header is missing or torn, that of a file without a header.
     pub format: LogFileFormat,
-    /// The end of the last good record, in bytes from the start, or of the header; `None` if it has no header.
+    /// The end of the last good record, in bytes from the start, or of the header if there is no good record; `None` if
+    /// the header is missing or torn.
     pub end: Option<usize>,
-    /// What is wrong after that end, or with the header: `Corruption` or `Codec`; `None` if the file ends there.
+    /// What is wrong after that end, or with the header: `Corruption` or `Codec`. `None` if the file has nothing or
+    /// only padding after that end.
     pub fault: Option<Error>,
     /// The error of the first record that the machine declined; it was handed none after that one.
     pub declined: Option<Error>,

@@ -7,13 +7,12 @@ use Rattle.std.specs.declared.io.ErrorKind.TheVariants.{OutOfMemory, NotFound}
 use Rattle.std.proofs.lemmas.Bool.{cases_Bool, false≢true}
 use Rattle.std.proofs.lemmas.List.Elements.{Contains-push, Contains-push_cases, Contains-append_left}
 use Rattle.std.proofs.lemmas.Slice.Eq.{bytes_eq-Decides}
-use Rattle.raft_log_record_base.specs.declared.errors.Error.{Error}
 use Rattle.raft_log_record_base.specs.declared.errors.Error.TheVariants as errors
 use Rattle.raft_log_fs.specs.Disk.{Disk}
 use Rattle.raft_log_fs.specs.Arguments.{WrongListing, IsAfterStop, IsDeclined}
 use Rattle.raft_log_fs.specs.Calls.{with_directory}
 use Rattle.raft_log_fs.specs.Reading.{IsNotListed}
-use Rattle.raft_log_recovery_scan.specs.Directories.{IsFreePath, MakesIfAbsent, HasDirectories, FailsToHave, TellsNoDirectory, TellsRefusal, FailsToList}
+use Rattle.raft_log_recovery_scan.specs.Directories.{IsFreePath, MakesIfAbsent, HasDirectories}
 
 -- what is there, once one more was made
 
@@ -73,18 +72,3 @@ wrong_or_memory path d kind runs other (IsDeclined.no_memory going is) = absurd 
 
 pub lists_none : (path : List ℕ) (d : Disk) (kind : ErrorKind) → d.stopped ≡ false → (kind ≡ OutOfMemory → ⊥) → kind ≡ NotFound → IsNotListed path d kind → IsFreePath path d
 lists_none path d kind runs other is not = elim (wrong_or_memory path d kind runs other not) [ inl file ↦ absurd (let input = file.0 in cc) | inr absent ↦ (absent.1, absent.2) ]
-
-pub lists_file : (path : List ℕ) (d : Disk) (kind : ErrorKind) (error : Error) → d.stopped ≡ false → (kind ≡ OutOfMemory → ⊥) → (kind ≡ NotFound → ⊥) → IsNotListed path d kind
-    → TellsNoDirectory path error → FailsToHave path error d d
-lists_file path d kind (errors.Other why) runs other found not tells =
-    (runs, elim (wrong_or_memory path d kind runs other not) [ inl file ↦ file.1 | inr absent ↦ absurd (found absent.0) ], tells, refl)
-lists_file path d kind errors.Memory runs other found not tells = (runs, refl)
-lists_file path d kind _ runs other found not tells = absurd tells
-
-pub not_listed : (path : List ℕ) (d : Disk) (kind : ErrorKind) (error : Error) → IsNotListed path d kind → TellsRefusal d.stopped kind error → FailsToList path d error
-not_listed path d kind (errors.Io told) not (is, inl stop) = inl (after_stop not stop is)
-not_listed path d kind (errors.Io told) (IsDeclined.stopped stop tells) (is, inr other) = inl (stop, is ∙ tells)
-not_listed path d kind (errors.Io told) (IsDeclined.wrong_argument runs why) (is, inr other) = inr (runs, subst (WrongListing path d) (sym is) why)
-not_listed path d kind (errors.Io told) (IsDeclined.no_memory runs memory) (is, inr other) = absurd (other memory)
-not_listed path d kind errors.Memory not runs = runs
-not_listed path d kind _ not tells = absurd tells

@@ -8,7 +8,7 @@ use Rattle.raft_log_record_base.specs.declared.pipe_log.LogQueue.TheVariants as 
 use Rattle.raft_log_fs.specs.Disk.{Disk, IsPlain}
 use Rattle.raft_log_fs.specs.Reading.{IsListing}
 use Rattle.raft_log_file_format.specs.Name.{IsNamed, name_limit, number_text}
-use Rattle.raft_log_file_format.proofs.Names.{written_text, one_number, signs_apart}
+use Rattle.raft_log_file_format.proofs.Public.{one_number, signs_apart, written_text}
 use Rattle.raft_log_active_file.specs.PathLaws.{plain_append, reserved_plain, suffix_plain, text_plain}
 use Rattle.raft_log_recovery_scan.specs.Names.{end_of, built_name, name_of, IsNameOf, IsOther, IsMisnamed}
 use Rattle.raft_log_recovery_scan.specs.Found.{AreAmong, AreAmongAll, AreDistinct, AreFilesIn, FileLiesIn, HasName}

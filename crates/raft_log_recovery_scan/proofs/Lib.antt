@@ -1,3 +1,4 @@
+pub mod Public
 pub mod NameLemmas
 pub mod DirectoryLemmas
 pub mod FoundLemmas
@@ -5,4 +6,3 @@ pub mod Steps
 pub mod RunLemmas
 pub mod OpeningLemmas
 pub mod ScanLemmas
-pub mod MetadataLemmas

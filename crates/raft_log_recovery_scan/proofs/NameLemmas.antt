@@ -11,7 +11,7 @@ use Rattle.raft_log_record_base.specs.declared.errors.Error.TheVariants as error
 use Rattle.raft_log_record_base.specs.declared.pipe_log.FileId.{FileId}
 use Rattle.raft_log_record_base.specs.declared.pipe_log.LogQueue.{LogQueue}
 use Rattle.raft_log_file_format.specs.Name.{IsNamed, IsNumberText, IsNameRefusal, name_limit, suffix_of}
-use Rattle.raft_log_file_format.proofs.Names.{text_signed, text_unsigned}
+use Rattle.raft_log_file_format.proofs.Public.{text_signed, text_unsigned}
 use Rattle.raft_log_active_file.specs.PathLaws.{no_plus}
 use Rattle.raft_log_recovery_scan.specs.Names.{end_of, name_of, IsNameOf, IsMisnamed, FailsToName, TellsMisnamed}
 use Rattle.raft_log_recovery_scan.specs.declared.file_kind.FileKind.{FileKind}

@@ -1,32 +1,9 @@
 -- The last run, one file further, and what is kept.
-use Rattle.std.proofs.Common.{◌≡◌, ℕ, ◌+◌, ◌-◌, ◌<◌, ◌≤◌, false, List, length, take, drop, get_or, refl, sym, ◌∙◌, ap, subst, inl, inr, arith}
+use Rattle.std.proofs.Common.{◌≡◌, ℕ, ◌+◌, ◌-◌, ◌<◌, false, List, length, take, drop, get_or, sym, ◌∙◌, ap, subst, inl, inr, arith}
 use Rattle.std.specs.List.Sorted.{IsPermutation, IsSorted}
-use Rattle.std.proofs.lemmas.Bool.{cases_lt}
 use Rattle.std.proofs.lemmas.List.{take_more, drop_more, take-append-drop, get_or-drop, length-drop}
 use Rattle.raft_log_recovery_scan.specs.Runs.{found_cmp, FollowsNumber, IsBreak, IsRunOf, IsBrokenAt, BeginsRun}
 use Rattle.raft_log_recovery_scan.specs.declared.scanning.found.FoundFile.{FoundFile}
-
-pub run_begins : (files : List FoundFile) → BeginsRun files 1 0
-run_begins files = record { run = λ k d low lt. absurd (omega (arith, lt)); broken = inl refl }
-
-pub run_goes_on : (files : List FoundFile) (at first : ℕ) → BeginsRun files at first → 0 < at → ((d : FoundFile) → FollowsNumber (get_or files (at - 1) d) (get_or files at d)) → BeginsRun files (at + 1) first
-run_goes_on files at first is some follows = record {
-  run = λ k d low lt. elim (cases_lt (k + 1) at) [
-    | inl before ↦ is.run k d low before
-    | inr here ↦ (let i : k ≡ at - 1 = omega (arith, lt, here, some) in let j : k + 1 ≡ at = omega (arith, lt, here) in
-        subst (λ (n : ℕ). FollowsNumber (get_or files k d) (get_or files n d)) (sym j) (subst (λ (n : ℕ). FollowsNumber (get_or files n d) (get_or files at d)) (sym i) (follows d)))
-  ];
-  broken = is.broken;
-}
-
-pub run_restarts : (files : List FoundFile) (at : ℕ) → 0 < at → at < length files → ((d : FoundFile) → FollowsNumber (get_or files (at - 1) d) (get_or files at d) → ⊥) → BeginsRun files (at + 1) at
-run_restarts files at some lt breaks = record { run = λ k d low below. absurd (omega (arith, low, below)); broken = inr (some, lt, breaks) }
-
-pub run_ends : (files : List FoundFile) (end first : ℕ) → BeginsRun files end first → length files ≤ end → (first ≤ length files) × BeginsRun files (length files) first
-run_ends files end first is all = (
-  elim is.broken [ inl none ↦ omega (arith, none) | inr broken ↦ omega (arith, broken.1) ],
-  record { run = λ k d low lt. is.run k d low (omega (arith, lt, all)); broken = is.broken },
-)
 
 no_file : FoundFile
 no_file = record { seq = 0; path_id = 0; signed = false }

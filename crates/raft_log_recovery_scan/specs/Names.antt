@@ -26,8 +26,8 @@ built_name kind n = name_of kind false n
 abbrev pub IsNameOf : FileKind → Bool → ℕ → List ℕ → Type 0
 IsNameOf kind signed n name = (n < name_limit signed) × (name ≡ name_of kind signed n)
 
--- the name doesn't both begin with a number and end with the suffix of this kind; so no file of this kind has it, and
--- it isn't misnamed
+-- The name doesn't begin with a number, or doesn't end with the suffix of this kind. So no file of this kind has the
+-- name, and the name isn't misnamed.
 abbrev pub IsOther : FileKind → List ℕ → Type 0
 IsOther kind name = (n : ℕ) → IsNamed (end_of kind) name n → ⊥
 

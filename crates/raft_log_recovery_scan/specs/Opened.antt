@@ -23,8 +23,8 @@ abbrev pub is_reserved : FileKind → Bool
 is_reserved Reserved = true
 is_reserved _ = false
 
--- `file` is the file that was found, open with this permission. Its header isn't read yet, so its format is that of a
--- file without a header.
+-- `file` is the file that was found, open with this permission. Its header isn't read yet: its format is still set to
+-- version 1 without an alignment.
 pub record IsOpenFile (kind : FileKind) (directories : List (List ℕ)) (d : Disk) (permission : Permission)
     (found : FoundFile) (file : File) : Type 0 where
   pub seq : file.seq ≡ found.seq

@@ -73,8 +73,8 @@ pub record Scans (directories : List (List ℕ)) (mode : RecoveryMode) (scanned 
   pub made : HasDirectories directories old new
   pub is : IsScanned directories new mode scanned
 
--- Why a scan fails: a directory couldn't be made; or all are there, and finding or opening their files failed. Nothing
--- else changed.
+-- Why a scan fails. Either a directory couldn't be made. Or all directories exist, and finding or opening their files
+-- failed. No file changed.
 abbrev pub FailsToScan : List (List ℕ) → Error → Disk → Disk → Type 0
 FailsToScan directories error old new = FailsToHaveAll directories error old new
     ⊎ (HasDirectories directories old new × FailsToFindFiles directories new error)

@@ -1,5 +1,6 @@
 -- Replay machines. During recovery, such a machine takes the batches of a queue one after another; the tables of all
--- groups are an example. `reads` says which batches a machine has read, `declines` with which error it fails at them.
+-- groups are an example. `reads` says which batches a machine has read. `declines` says with which errors a machine may
+-- fail at which batches.
 use Rattle.std.specs.Prelude.{ℕ, List, [], ◌∷◌, ◌++◌}
 use Rattle.raft_log_record_base.specs.declared.errors.Error.{Error}
 use Rattle.raft_log_record_base.specs.declared.pipe_log.FileId.{FileId}

@@ -1,7 +1,10 @@
 -- The result of reading the segments of a queue, possibly by several workers. A segment here is one file or several
--- consecutive files; its ending is what reading it returns. What a source defines: `holds` says which batches and which
--- ending a segment has, `begins` with which batches it begins, `refuses` why it can't be read. What a machine defines:
--- `reads` says which batches it has read, `declines` at which it fails.
+-- consecutive files. Its ending is the value that reading the segment returns. A source and a machine define these:
+-- - `holds`: which batches and which ending a segment has.
+-- - `begins`: with which batches a segment begins.
+-- - `refuses`: why a segment can't be read.
+-- - `reads`: which batches a machine has read.
+-- - `declines`: with which errors a machine may fail at which batches.
 use Rattle.std.specs.Prelude.{◌≡◌, ℕ, zero, suc, ◌+◌, ◌*◌, ◌<◌, ◌≤◌, min, List, [], ◌∷◌, ◌++◌, length, Result, Ok, Err}
 use Rattle.std.specs.List.{flat_map}
 use Rattle.raft_log_record_base.specs.declared.errors.Error.{Error}
@@ -50,8 +53,8 @@ abbrev pub read_by : ℕ → ℕ → ℕ
 read_by zero count = zero
 read_by (suc workers) count = count
 
--- the result for a chunk, the consecutive segments from number `first` on, below `last`: all were read, or reading
--- failed
+-- the result for a chunk: all its segments were read, or reading failed; a chunk has the consecutive segments from
+-- number `first` on, below `last`
 abbrev pub IsChunk : {M E : Type 0} → (ℕ → List Batch → E → Type 0) → (List Batch → M → Type 0)
     → (ℕ → List Batch → Type 0) → (ℕ → Error → Type 0) → (List Batch → Error → Type 0) → ℕ → ℕ
     → Result (ReadSegments M E) Error → Type 0
@@ -64,8 +67,8 @@ IsChunk holds reads begins refuses declines first last (Err error) =
 abbrev pub chunk_start : ℕ → ℕ → ℕ → ℕ
 chunk_start size count index = min (index * size) count
 
--- Each element covers a range of numbers, as `between` says. A range begins where the one before ends; together they
--- cover `first` up to `last`.
+-- Each element covers a range of numbers, as `between` says. Each range begins where the range before it ends. Together
+-- the ranges cover the numbers from `first` on, below `last`.
 abbrev pub Follow : {A : Type 0} → (ℕ → ℕ → A → Type 0) → ℕ → ℕ → List A → Type 0
 Follow between first last [] = first ≡ last
 Follow between first last (x ∷ xs) =

@@ -1,6 +1,10 @@
--- A machine replays one segment of a queue; the segment's ending is what reading it returns. What a source defines:
--- `holds` says which batches and which ending a segment has, `begins` with which batches it begins, `refuses` why it
--- can't be read. What a machine defines: `reads` says which batches it has read, `declines` at which it fails.
+-- A machine replays one segment of a queue. The segment's ending is the value that reading the segment returns. A
+-- source and a machine define these:
+-- - `holds`: which batches and which ending the segment has.
+-- - `begins`: with which batches the segment begins.
+-- - `refuses`: why the segment can't be read.
+-- - `reads`: which batches a machine has read.
+-- - `declines`: with which errors a machine may fail at which batches.
 use Rattle.std.specs.Prelude.{◌≡◌, ℕ, suc, ◌⊎◌, List, [], ◌∷◌, ◌++◌}
 use Rattle.raft_log_record_base.specs.declared.errors.Error.{Error}
 use Rattle.raft_log_record_base.specs.declared.errors.Error.TheVariants.{Memory}

@@ -3,10 +3,10 @@ use Rattle.std.proofs.Common.{◌≡◌, ℕ, suc, List, [], ◌∷◌, length, 
 use Rattle.raft_log_record_base.specs.declared.pipe_log.LogQueue.{LogQueue}
 use Rattle.raft_log_model_laws.specs.Table.{content}
 use Rattle.raft_log_memtable_index.specs.Replayed.{standing}
-use Rattle.raft_log_memtable_index.proofs.Joining.{same_content}
+use Rattle.raft_log_memtable_index.proofs.Public.{same_content}
 use Rattle.raft_log_memtable.specs.Replays.{in_append}
 use Rattle.raft_log_memtables.specs.Tables.{replayed_of}
-use Rattle.raft_log_memtables.proofs.Rereading.{table_is}
+use Rattle.raft_log_memtables.proofs.Public.{table_is}
 use Rattle.raft_log_replay.specs.Machines.{Batch}
 use Rattle.raft_log_replay.specs.Sources.{HoldEach}
 use Rattle.raft_log_replay.specs.Segments.{all_batches, HasReadSegments, HaveReadSame, HoldsOne}

@@ -6,8 +6,8 @@ use Rattle.raft_log_model_laws.specs.Item.Mark.{Begin, Middle, End}
 use Rattle.raft_log_model_laws.specs.Groups.{Open, none_open, onto, opens, opened, set_open, settle}
 use Rattle.raft_log_model_laws.specs.Fragments.{Head, head}
 use Rattle.raft_log_model_laws.specs.Fragments.Head.{GoesOn, Ends, BeginsAnew}
-use Rattle.raft_log_model_laws.proofs.Cases.{at_bool, if_true, if_false, from_eq_true}
-use Rattle.raft_log_machine_laws.proofs.TruthRaises.{no_word}
+use Rattle.raft_log_model_laws.proofs.Public.{at_bool, from_eq_true, if_false, if_true}
+use Rattle.raft_log_machine_laws.proofs.Public.{no_word}
 use Rattle.raft_log_memtable_index.specs.Shown.{KeyValue}
 use Rattle.raft_log_memtable_index.specs.Bridge.{Located}
 use Rattle.raft_log_replay_context.specs.Records.{ReadItem, ReadRecord}

@@ -5,8 +5,7 @@ use Rattle.std.proofs.Math.Path.{fun_ext}
 use Rattle.raft_log_model_laws.specs.Item.{Record}
 use Rattle.raft_log_model_laws.specs.Fragments.Head.{GoesOn, Ends, BeginsAnew}
 use Rattle.raft_log_model_laws.specs.Fragments.{carried_on, completed, finish, go_on, head, then_head, unfinished, Head, Unfinished}
-use Rattle.raft_log_model_laws.proofs.Cases.{at_option}
-use Rattle.raft_log_model_laws.proofs.Chunks.{open_in}
+use Rattle.raft_log_model_laws.proofs.Public.{at_option, open_in}
 use Rattle.raft_log_memtable_index.specs.Shown.{KeyValue}
 use Rattle.raft_log_memtable_index.specs.Bridge.{Located}
 use Rattle.std.specs.Global.{Vec}

@@ -11,18 +11,14 @@ use Rattle.raft_log_model_laws.specs.Item.Mark.{End}
 use Rattle.raft_log_model_laws.specs.Groups.{appended, contents, counts, none_open, of_group, onto, opened, rewritten, settle, Open}
 use Rattle.raft_log_model_laws.specs.Meaning.{says}
 use Rattle.raft_log_model_laws.specs.Tidy.{Tidy}
-use Rattle.raft_log_model_laws.proofs.Cases.{at_option, eq_true, if_true}
-use Rattle.raft_log_model_laws.proofs.Chunks.{cut_anywhere}
-use Rattle.raft_log_model_laws.proofs.TidyLaws.{tidy_back, tidy_front}
+use Rattle.raft_log_model_laws.proofs.Public.{at_option, cut_anywhere, eq_true, head_append, if_true, tidy_back, tidy_front}
 use Rattle.raft_log_machine_laws.specs.Machine.{AllFit, RecordsFit}
-use Rattle.raft_log_machine_laws.proofs.FitLaws.{RecordsFit-append}
-use Rattle.raft_log_machine_laws.proofs.TruthRaises.{no_word}
+use Rattle.raft_log_machine_laws.proofs.Public.{no_word, RecordsFit-append}
 use Rattle.std.specs.Global.{Vec}
 use Rattle.raft_log_memtable_index.specs.declared.group_files.GroupFiles.{GroupFiles}
 use Rattle.raft_log_memtable_index.specs.Noted.{start_of}
 use Rattle.raft_log_model_laws.specs.Fragments.{completed, head, next_unfinished, unfinished, unfinished_after, Unfinished}
 use Rattle.raft_log_model_laws.specs.Fragments.Head.{Ends, GoesOn}
-use Rattle.raft_log_model_laws.proofs.Heads.{head_append}
 use Rattle.raft_log_record_frames.specs.Meaning.{tagged_items}
 use Rattle.raft_log_extents.specs.Entries.{place_of}
 use Rattle.raft_log_memtable_index.specs.Shown.{whereabouts, KeyValue}
@@ -32,10 +28,10 @@ use Rattle.raft_log_memtables.specs.declared.mem_tables.MemTables.{MemTables}
 use Rattle.raft_log_memtables.specs.Tables.{counts as counting_of, replayed_of, shown_of, IsAtRest}
 use Rattle.raft_log_memtables.specs.Replaying.{ReadsAll}
 use Rattle.raft_log_memtables.specs.Joining.{JoinsAll, MergesAll}
-use Rattle.raft_log_memtables.proofs.Rereading.{table_is}
+use Rattle.raft_log_memtables.proofs.Public.{table_is}
 use Rattle.raft_log_memtable_index.specs.Replayed.{merged, told, IsReplayed}
 use Rattle.raft_log_memtable_index.specs.Bridge.{IsMeant}
-use Rattle.raft_log_memtable_index.proofs.Merging.{means, recovers}
+use Rattle.raft_log_memtable_index.proofs.Public.{means, recovers}
 use Rattle.raft_log_machine_laws.specs.Recovery.{IsRecovered}
 use Rattle.raft_log_replay_context.specs.declared.context.MemTableRecoverContext.{MemTableRecoverContext}
 use Rattle.raft_log_replay_context.specs.Batches.{MergeDeclined, ReplayDeclined}

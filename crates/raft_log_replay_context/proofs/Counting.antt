@@ -12,12 +12,9 @@ use Rattle.raft_log_model_laws.specs.Groups.{none_open, of_group, opened, rewrit
 use Rattle.raft_log_model_laws.specs.Fragments.{head}
 use Rattle.raft_log_model_laws.specs.Fragments.Head.{Ends}
 use Rattle.raft_log_model_laws.specs.Holes.{has_clean}
-use Rattle.raft_log_model_laws.proofs.Cases.{at_bool, at_option}
-use Rattle.raft_log_model_laws.proofs.Records.{of_group_append, settle_append}
-use Rattle.raft_log_model_laws.proofs.Words.{says_append}
+use Rattle.raft_log_model_laws.proofs.Public.{at_bool, at_option, of_group_append, says_append, settle_append}
 use Rattle.raft_log_machine_laws.specs.Survival.{IsSpoken}
-use Rattle.raft_log_machine_laws.proofs.TruthGrows.{spoken_after, spoken_now}
-use Rattle.raft_log_machine_laws.proofs.TruthRaises.{no_word}
+use Rattle.raft_log_machine_laws.proofs.Public.{no_word, spoken_after, spoken_now}
 use Rattle.raft_log_memtable_index.specs.declared.group_files.GroupFiles.{GroupFiles}
 use Rattle.raft_log_memtable_index.specs.Shown.{KeyValue}
 use Rattle.raft_log_memtable_index.specs.Bridge.{Located}

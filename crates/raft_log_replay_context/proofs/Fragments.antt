@@ -7,9 +7,7 @@ use Rattle.raft_log_model_laws.specs.Item.Mark.{Begin, Middle, End}
 use Rattle.raft_log_model_laws.specs.Groups.{Open, none_open, onto, counts, opens, opened}
 use Rattle.raft_log_model_laws.specs.Fragments.{Head, head, then_head, Unfinished, without, more, next_unfinished, unfinished_after, unfinished, finish, go_on, completed, carried_on}
 use Rattle.raft_log_model_laws.specs.Fragments.Head.{GoesOn, Ends, BeginsAnew}
-use Rattle.raft_log_model_laws.proofs.Cases.{at_bool, if_true, if_false, eq_true, eq_false, from_eq_true, from_eq_false}
-use Rattle.raft_log_model_laws.proofs.Heads.{head_append}
-use Rattle.raft_log_model_laws.proofs.Chunks.{open_in, open_after}
+use Rattle.raft_log_model_laws.proofs.Public.{at_bool, eq_false, eq_true, from_eq_false, from_eq_true, head_append, if_false, if_true, open_after, open_in}
 
 pub absent_parts : {A : Type 0} (b : Bool) (x : A) (v : Option A) → (if b then Some x else v) ≡ None → (b ≡ false) × (v ≡ None)
 absent_parts true x v h = let never : ⊥ = cc in absurd never
@@ -39,20 +37,6 @@ module _ {E V : Type 0} where
   then_nothing (GoesOn xs) = ap GoesOn (append-nil xs)
   then_nothing (Ends xs) = refl
   then_nothing BeginsAnew = refl
-
-  pub nothing_then : (h : Head E V) → then_head (GoesOn []) h ≡ h
-  nothing_then (GoesOn xs) = refl
-  nothing_then (Ends xs) = refl
-  nothing_then BeginsAnew = refl
-
-  pub then_assoc : (a b c : Head E V) → then_head (then_head a b) c ≡ then_head a (then_head b c)
-  then_assoc (GoesOn xs) (GoesOn ys) (GoesOn zs) = ap GoesOn (append_assoc xs ys zs)
-  then_assoc (GoesOn xs) (GoesOn ys) (Ends zs) = ap Ends (append_assoc xs ys zs)
-  then_assoc (GoesOn xs) (GoesOn ys) BeginsAnew = refl
-  then_assoc (GoesOn xs) (Ends ys) c = refl
-  then_assoc (GoesOn xs) BeginsAnew c = refl
-  then_assoc (Ends xs) b c = refl
-  then_assoc BeginsAnew b c = refl
 
   -- A segment knows what becomes of a group that is open before it, where it leaves one of its number open.
   abbrev pub IsKnown : Head E V → Type 0
@@ -161,20 +145,6 @@ module _ {E V : Type 0} where
       let there = open_at front u back d.1 in
       if_false (v.number == u.number) (Some v.items) (open_in (front ++ u ∷ back) u.number) (apart_at v front u back d there) ∙ there
 
-  pub without_none : (n : ℕ) (us : List (Unfinished E V)) → open_in us n ≡ None → without n us ≡ us
-  without_none n [] h = refl
-  without_none n (u ∷ us) h =
-      let parts = absent_parts (u.number == n) u.items (open_in us n) h in
-      if_false (u.number == n) (without n us) (u ∷ without n us) parts.0 ∙ ap (λ l. u ∷ l) (without_none n us parts.1)
-
-  pub without_at : (front : List (Unfinished E V)) (u : Unfinished E V) (back : List (Unfinished E V)) → AreDistinct (front ++ u ∷ back)
-      → without u.number (front ++ u ∷ back) ≡ front ++ back
-  without_at [] u back d =
-      if_true (u.number == u.number) (without u.number back) (u ∷ without u.number back) (eq_true u.number u.number refl) ∙ without_none u.number back d.0
-  without_at (v ∷ front) u back d =
-      if_false (v.number == u.number) (without u.number (front ++ u ∷ back)) (v ∷ without u.number (front ++ u ∷ back)) (apart_at v front u back d (open_at front u back d.1))
-      ∙ ap (λ l. v ∷ l) (without_at front u back d.1)
-
   -- the group with more items, if it is the one
   abbrev pub grown : Bool → List (Tagged E V) → Unfinished E V → Unfinished E V
   grown b ys u = record { number = u.number; items = if b then u.items ++ ys else u.items }
@@ -184,11 +154,6 @@ module _ {E V : Type 0} where
   more_none n ys (u ∷ us) h =
       let parts = absent_parts (u.number == n) u.items (open_in us n) h in
       ap₂ (λ b l. grown b ys u ∷ l) parts.0 (more_none n ys us parts.1)
-
-  pub more_at : (ys : List (Tagged E V)) (front : List (Unfinished E V)) (u : Unfinished E V) (back : List (Unfinished E V)) → AreDistinct (front ++ u ∷ back)
-      → more u.number ys (front ++ u ∷ back) ≡ front ++ grown true ys u ∷ back
-  more_at ys [] u back d = ap₂ (λ b l. grown b ys u ∷ l) (eq_true u.number u.number refl) (more_none u.number ys back d.0)
-  more_at ys (v ∷ front) u back d = ap₂ (λ b l. grown b ys v ∷ l) (apart_at v front u back d (open_at front u back d.1)) (more_at ys front u back d.1)
 
   -- Heads with one more record.
   at_number : (b : Bool) (h d : Head E V) → (if b then then_head h d else h) ≡ then_head h (if b then d else GoesOn [])

@@ -8,9 +8,7 @@ use Rattle.raft_log_model_laws.specs.Holes.{has_clean}
 use Rattle.raft_log_model_laws.specs.Groups.{counts as brings, none_open, of_group, opened, rewritten}
 use Rattle.raft_log_model_laws.specs.Fragments.{completed, head, unfinished}
 use Rattle.raft_log_model_laws.specs.Tidy.{Tidy}
-use Rattle.raft_log_model_laws.proofs.Chunks.{cut_anywhere}
-use Rattle.raft_log_model_laws.proofs.Records.{of_group_append}
-use Rattle.raft_log_model_laws.proofs.TidyLaws.{tidy_back, tidy_front}
+use Rattle.raft_log_model_laws.proofs.Public.{cut_anywhere, of_group_append, tidy_back, tidy_front}
 use Rattle.raft_log_record_frames.specs.Meaning.{tagged_items}
 use Rattle.raft_log_extents.specs.declared.place.Place.{Place}
 use Rattle.raft_log_extents.specs.Entries.{place_of}
@@ -20,7 +18,7 @@ use Rattle.raft_log_memtables.specs.Batch.{counts_after, counts_at_end}
 use Rattle.raft_log_memtables.specs.Joining.{JoinsAll, MergesAll}
 use Rattle.raft_log_memtables.specs.Replaying.{ReadsAll}
 use Rattle.raft_log_memtables.specs.Tables.{counts, replayed_of, shown_of}
-use Rattle.raft_log_memtables.proofs.Rereading.{table_is}
+use Rattle.raft_log_memtables.proofs.Public.{table_is}
 use Rattle.raft_log_replay_context.specs.declared.part.GroupPart.{GroupPart}
 use Rattle.raft_log_replay_context.specs.Records.{counted, records_of, said_in, AreHealthy, AreReplayed, ReadItem, ReadRecord}
 use Rattle.raft_log_replay_context.specs.Pieces.{as_said, groups_items, part_items, parts_items, whole_seen}

@@ -1,3 +1,4 @@
+pub mod Public
 pub mod Parts
 pub mod Fragments
 pub mod OpenGroups

@@ -11,13 +11,9 @@ use Rattle.raft_log_model_laws.specs.Meaning.Slot.{Index, Key}
 use Rattle.raft_log_model_laws.specs.Groups.{none_open, of_group, opened}
 use Rattle.raft_log_model_laws.specs.Fragments.{head}
 use Rattle.raft_log_model_laws.specs.Holes.{is_past}
-use Rattle.raft_log_model_laws.proofs.Cases.{at_bool}
-use Rattle.raft_log_model_laws.proofs.Joins.{table_holds}
-use Rattle.raft_log_model_laws.proofs.Summaries.{nothing_stands}
+use Rattle.raft_log_model_laws.proofs.Public.{at_bool, nothing_stands, of_group_append, says_append, table_holds}
 use Rattle.raft_log_model_laws.specs.Table.{content}
-use Rattle.raft_log_model_laws.proofs.Records.{of_group_append}
-use Rattle.raft_log_model_laws.proofs.Words.{says_append}
-use Rattle.raft_log_machine_laws.proofs.TruthRaises.{no_word}
+use Rattle.raft_log_machine_laws.proofs.Public.{no_word}
 use Rattle.raft_log_record_frames.specs.Meaning.{tagged_items}
 use Rattle.raft_log_extents.specs.declared.place.Place.{Place}
 use Rattle.raft_log_extents.specs.Entries.{place_of}
@@ -26,14 +22,13 @@ use Rattle.raft_log_memtable_index.specs.Shown.{span, KeyValue, Shown}
 use Rattle.raft_log_memtable_index.specs.Bridge.{Located}
 use Rattle.raft_log_memtable_index.specs.Noted.{start_of}
 use Rattle.raft_log_memtable_index.specs.Replayed.{both_noted, joined, nothing_replayed, placed, replay_step, replayed, standing, summary_of, IsReplayed, Replayed}
-use Rattle.raft_log_memtable_index.proofs.Covering.{both_cover, joined_cover}
-use Rattle.raft_log_memtable_index.proofs.Replays.{read_noted}
+use Rattle.raft_log_memtable_index.proofs.Public.{both_cover, joined_cover, read_noted}
 use Rattle.raft_log_memtables.specs.declared.mem_tables.MemTables.{MemTables}
 use Rattle.raft_log_memtables.specs.Batch.{mentions}
 use Rattle.raft_log_memtables.specs.Replaying.{all_replayed, ReadsAll}
 use Rattle.raft_log_memtables.specs.Joining.{JoinsAll}
 use Rattle.raft_log_memtables.specs.Tables.{replayed_of}
-use Rattle.raft_log_memtables.proofs.Items.{none_said}
+use Rattle.raft_log_memtables.proofs.Public.{none_said}
 use Rattle.raft_log_replay_context.specs.declared.part.GroupPart.{GroupPart}
 use Rattle.raft_log_replay_context.specs.Records.{counted, in_file, said_in, AreHealthy, KeepsRead, ReadItem, ReadRecord, TablesTake}
 use Rattle.raft_log_replay_context.specs.Pieces.{as_file, as_said, groups_items, part_items, parts_items, parts_seen, seen_by, with_file, AllGroups, GoesToEnd, IsCompleted, Reading}

@@ -6,8 +6,7 @@ use Rattle.raft_log_model_laws.specs.Item.Record.{Part, Plain}
 use Rattle.raft_log_model_laws.specs.Item.Mark.{End}
 use Rattle.raft_log_model_laws.specs.Groups.{counts, none_open, onto, opened}
 use Rattle.raft_log_model_laws.specs.Fragments.{head, more, next_unfinished, unfinished, without, Unfinished}
-use Rattle.raft_log_model_laws.proofs.Cases.{at_bool, if_false}
-use Rattle.raft_log_model_laws.proofs.Chunks.{open_in}
+use Rattle.raft_log_model_laws.proofs.Public.{at_bool, if_false, open_in}
 use Rattle.raft_log_memtable_index.specs.Shown.{KeyValue}
 use Rattle.raft_log_memtable_index.specs.Bridge.{Located}
 use Rattle.raft_log_replay_context.specs.declared.part.GroupPart.{GroupPart}

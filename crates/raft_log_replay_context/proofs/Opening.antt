@@ -11,19 +11,12 @@ use Rattle.raft_log_model_laws.specs.Groups.{appended, contents, of_group, rewri
 use Rattle.raft_log_model_laws.specs.Holes.{IsSolid}
 use Rattle.raft_log_model_laws.specs.Table.{content}
 use Rattle.raft_log_model_laws.specs.Tidy.{Tidy}
-use Rattle.raft_log_model_laws.proofs.AnySummary.{directory_of_any}
-use Rattle.raft_log_model_laws.proofs.Cases.{at_option, if_true, le_true}
-use Rattle.raft_log_model_laws.proofs.Joins.{table_holds}
-use Rattle.raft_log_model_laws.proofs.Records.{appended_append, of_group_append}
-use Rattle.raft_log_model_laws.proofs.Suffix.{suffix}
-use Rattle.raft_log_model_laws.proofs.TidyLaws.{tidy_back}
-use Rattle.raft_log_model_laws.proofs.Words.{says_append}
+use Rattle.raft_log_model_laws.proofs.Public.{appended_append, at_option, directory_of_any, if_true, le_true, of_group_append, says_append, suffix, table_holds, tidy_back}
 use Rattle.raft_log_machine_laws.specs.Files.{records_of as file_records, span, FileQueue, LogFile}
 use Rattle.raft_log_machine_laws.specs.Directory.{IsRising}
 use Rattle.raft_log_machine_laws.specs.Recovery.{IsRecovered}
 use Rattle.raft_log_machine_laws.specs.Survival.{IsSpoken}
-use Rattle.raft_log_machine_laws.proofs.TruthGrows.{spoken_now}
-use Rattle.raft_log_machine_laws.proofs.TruthRaises.{no_word}
+use Rattle.raft_log_machine_laws.proofs.Public.{no_word, spoken_now}
 use Rattle.raft_log_machine_laws.specs.Calls.{IsMadeOf}
 use Rattle.raft_log_machine_laws.specs.Model.{Files}
 use Rattle.raft_log_machine_laws.specs.Notes.{AllFrom, IsAmong, IsAppended, IsInRewrite, RecordLiesIn, SpeaksFrom, SpeaksIn}
@@ -32,9 +25,7 @@ use Rattle.raft_log_memtable_index.specs.Shown.{is_in_append, whereabouts, KeyVa
 use Rattle.raft_log_memtable_index.specs.Bridge.{in_queue, located, Located}
 use Rattle.raft_log_memtable_index.specs.Noted.{file_at, held_file, noted_at, place_file, start_of}
 use Rattle.raft_log_memtable_index.specs.Replayed.{merged, standing, summary_of, told}
-use Rattle.raft_log_memtable_index.proofs.Covering.{merged_cover}
-use Rattle.raft_log_memtable_index.proofs.Merging.{merged_stands, recovers}
-use Rattle.raft_log_memtable_index.proofs.Telling.{directory_told, says_told, solid_told, there}
+use Rattle.raft_log_memtable_index.proofs.Public.{directory_told, merged_cover, merged_stands, recovers, says_told, solid_told, there}
 use Rattle.raft_log_memtables.specs.declared.mem_tables.MemTables.{MemTables}
 use Rattle.raft_log_memtables.specs.Tables.{shown_of}
 use Rattle.raft_log_memtables.specs.Views.{view_of}

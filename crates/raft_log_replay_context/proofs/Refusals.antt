@@ -12,20 +12,18 @@ use Rattle.raft_log_model_laws.specs.Groups.{of_group, rewritten}
 use Rattle.raft_log_model_laws.specs.Fragments.{completed, head, unfinished}
 use Rattle.raft_log_model_laws.specs.Tidy.{Tidy}
 use Rattle.raft_log_model_laws.specs.Holes.{FitsOn}
-use Rattle.raft_log_model_laws.proofs.Records.{of_group_append}
-use Rattle.raft_log_model_laws.proofs.TidyLaws.{tidy_back, tidy_front}
-use Rattle.raft_log_model_laws.proofs.Chunks.{cut_anywhere}
+use Rattle.raft_log_model_laws.proofs.Public.{cut_anywhere, of_group_append, tidy_back, tidy_front}
 use Rattle.raft_log_record_frames.specs.Meaning.{tagged_items}
 use Rattle.raft_log_extents.specs.declared.place.Place.{Place}
 use Rattle.raft_log_extents.specs.Entries.{place_of}
 use Rattle.raft_log_memtable_index.specs.Shown.{span, MayFollow}
 use Rattle.raft_log_memtable_index.specs.Replayed.{placed, IsReplayed, LeavesHole, Replayed}
-use Rattle.raft_log_memtable_index.proofs.Joining.{healthy_fits, healthy_joint}
+use Rattle.raft_log_memtable_index.proofs.Public.{healthy_fits, healthy_joint}
 use Rattle.raft_log_memtables.specs.declared.mem_tables.MemTables.{MemTables}
 use Rattle.raft_log_memtables.specs.Tables.{replayed_of, shown_of}
 use Rattle.raft_log_memtables.specs.Replaying.{ReadsAll, ReadsUpTo}
 use Rattle.raft_log_memtables.specs.Joining.{JoinRefused}
-use Rattle.raft_log_memtables.proofs.Rereading.{of_group_here, table_is}
+use Rattle.raft_log_memtables.proofs.Public.{of_group_here, table_is}
 use Rattle.raft_log_replay_context.specs.declared.context.MemTableRecoverContext.{MemTableRecoverContext}
 use Rattle.raft_log_replay_context.specs.declared.pieces.GroupPieces.{GroupPieces}
 use Rattle.raft_log_replay_context.specs.Records.{counted, in_file, record_read, records_of, said_in, AreHealthy, AreReplayed, ReadRecord, TablesTake}

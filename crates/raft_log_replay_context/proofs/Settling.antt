@@ -1,11 +1,11 @@
 -- Atomic groups that count: their records are taken, and their files noted.
-use Rattle.std.proofs.Common.{◌≡◌, ◌⊎◌, ℕ, zero, suc, ◌+◌, ◌-◌, slice_get, ◌<◌, ◌==◌, ◌||◌, Bool, true, false, List, [], ◌∷◌, ◌++◌, take, length, get_or, min, max, Option, Some, None, option_map, refl, sym, ap, ap₂, subst, ◌∙◌, inl, inr, arith}
+use Rattle.std.proofs.Common.{◌≡◌, ℕ, zero, suc, ◌+◌, ◌-◌, slice_get, ◌<◌, ◌==◌, ◌||◌, Bool, true, false, List, [], ◌∷◌, ◌++◌, take, length, get_or, min, max, Option, Some, None, option_map, refl, sym, ap, ap₂, subst, ◌∙◌, inl, inr, arith}
 use Rattle.std.proofs.lemmas.List.{take_more}
 use Rattle.std.specs.Global.{Vec}
 use Rattle.std.specs.BTreeMap.{get}
 use Rattle.std.specs.Ordering.{nat_cmp}
-use Rattle.raft_log_model_laws.proofs.Cases.{from_eq_true}
-use Rattle.raft_log_machine_laws.proofs.TruthRaises.{no_word}
+use Rattle.raft_log_model_laws.proofs.Public.{from_eq_true}
+use Rattle.raft_log_machine_laws.proofs.Public.{no_word}
 use Rattle.raft_log_record_frames.specs.Meaning.{tagged_items}
 use Rattle.raft_log_extents.specs.Entries.{place_of}
 use Rattle.raft_log_memtable_index.specs.declared.group_files.GroupFiles.{GroupFiles}
@@ -17,7 +17,7 @@ use Rattle.raft_log_memtables.specs.Batch.{mentions}
 use Rattle.raft_log_memtables.specs.Joining.{read_noted_in}
 use Rattle.raft_log_memtables.specs.Replaying.{ReadsAll}
 use Rattle.raft_log_memtables.specs.Tables.{counts, raw_of, replayed_in, replayed_of}
-use Rattle.raft_log_memtables.proofs.Ready.{by_group, same_or_apart}
+use Rattle.raft_log_memtables.proofs.Public.{by_group, same_or_apart}
 use Rattle.raft_log_replay_context.specs.declared.part.GroupPart.{GroupPart}
 use Rattle.raft_log_replay_context.specs.Pieces.{ends_with, is_number, with_file}
 use Rattle.raft_log_replay_context.specs.Noting.{files_after, is_listed, parts_mention, NotesAll, NotesAt, ReadsParts, SettlesAll, SettlesGroup}
@@ -99,17 +99,9 @@ noted_there files (Some t) z is = inl is
 pub noted_none : (files : GroupFiles) (z : ℕ → Replayed) → NotesAll (Some files) (λ g. is_listed g []) z z
 noted_none files z g = (λ h. absurd (let clash : false ≡ true = h in let never : ⊥ = cc in never), λ h. refl)
 
-either : (a b : Bool) → (a || b) ≡ true → (a ≡ true) ⊎ (b ≡ true)
-either true b h = inl refl
-either false b h = inr h
-
 neither : (a b : Bool) → (a || b) ≡ false → (a ≡ false) × (b ≡ false)
 neither true b h = let clash : true ≡ false = h in let never : ⊥ = cc in absurd never
 neither false b h = (refl, h)
-
-by_bool : {P : Type 0} (b : Bool) → (b ≡ true → P) → (b ≡ false → P) → P
-by_bool true f h = f refl
-by_bool false f h = h refl
 
 pub noted_more : (files : GroupFiles) (hs : List ℕ) (i h d : ℕ) (a b c : MemTables) → i < length hs → h ≡ get_or hs i d
     → NotesAll (Some files) (λ g. is_listed g (take i hs)) (replayed_of a) (replayed_of b) → replayed_of c h ≡ read_noted_in files (raw_of b h)

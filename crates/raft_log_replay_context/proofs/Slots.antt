@@ -5,7 +5,7 @@ use Rattle.std.proofs.lemmas.List.{take_more}
 use Rattle.std.specs.BTreeMap.{get, is_at, BTreeMap}
 use Rattle.std.specs.Map.{lookup}
 use Rattle.std.specs.Ordering.{is_eq, nat_cmp}
-use Rattle.raft_log_model_laws.proofs.Cases.{at_bool, at_option, if_false, if_true, eq_true, eq_false, from_eq_true, from_eq_false}
+use Rattle.raft_log_model_laws.proofs.Public.{at_bool, at_option, eq_false, eq_true, from_eq_false, from_eq_true, if_false, if_true}
 use Rattle.raft_log_replay_context.specs.declared.part.GroupPart.{GroupPart}
 use Rattle.raft_log_replay_context.specs.declared.open_groups.OpenGroup.{OpenGroup}
 use Rattle.raft_log_replay_context.proofs.Fragments.{absent_parts}
@@ -227,16 +227,6 @@ placed_pushed ss m l u placed none known others = (there, back)
 -- before the group comes, its slot isn't there: the number alone leads to it
 pub same_in_slots : (ss ts : Slots) → ((i : ℕ) → get_or ts i None ≡ get_or ss i None) → (i : ℕ) → number_at ts i ≡ number_at ss i
 same_in_slots ss ts same i = ap (option_map (λ (u : OpenGroup). u.number)) (same i)
-
--- a slot whose group has the same number
-pub number_same : (ss : Slots) (i : ℕ) (u w : OpenGroup) → get_or ss i None ≡ Some u → w.number ≡ u.number → (j : ℕ) → number_at (set ss i (Some w)) j ≡ number_at ss j
-number_same ss i u w is same j = at_bool (j == i) (λ _. number_at (set ss i (Some w)) j ≡ number_at ss j)
-    (λ e.
-    let at = from_eq_true j i e in
-    ap (number_at (set ss i (Some w))) at
-    ∙ ap (option_map (λ (v : OpenGroup). v.number)) (number_set ss i (Some w) (number_within ss i u.number (ap (option_map (λ (v : OpenGroup). v.number)) is)))
-    ∙ ap Some same ∙ sym (ap (option_map (λ (v : OpenGroup). v.number)) is) ∙ ap (number_at ss) (sym at))
-    (λ apart. number_other ss i j (Some w) (from_eq_false j i apart))
 
 -- the numbers in a map of the same entries
 pub placed_entries : (ss : Slots) (m l : Places) → l.entries ≡ m.entries → ArePlaced ss m → ArePlaced ss l

@@ -1,9 +1,6 @@
 -- Tables that take items, and what they have read then.
-use Rattle.std.proofs.Common.{◌≡◌, ℕ, ◌+◌, ◌≤◌, ◌==◌, Bool, true, false, if◌then◌else◌, List, [], ◌∷◌, ◌++◌, map, Option, Some, None, option_map, refl, sym, ap, subst, ◌∙◌, append_assoc, append-nil}
+use Rattle.std.proofs.Common.{◌≡◌, ℕ, ◌+◌, ◌≤◌, ◌==◌, Bool, true, false, if◌then◌else◌, List, [], ◌∷◌, ◌++◌, map, refl, sym, ap, subst, ◌∙◌, append_assoc, append-nil}
 use Rattle.std.proofs.lemmas.List.{length-map}
-use Rattle.std.specs.BTreeMap.{get}
-use Rattle.std.specs.Ordering.{nat_cmp}
-use Rattle.raft_log_memtables.proofs.Ready.{by_group, same_or_apart}
 use Rattle.raft_log_record_items.specs.declared.item.LogItem.{LogItem}
 use Rattle.raft_log_model_laws.specs.Item.{Item, Tagged}
 use Rattle.raft_log_model_laws.specs.Item.Item.{Run, Clean, Compact, Put, Del}
@@ -11,27 +8,20 @@ use Rattle.raft_log_model_laws.specs.Groups.{of_group, counts, none_open, opened
 use Rattle.raft_log_model_laws.specs.Fragments.{completed, head, unfinished}
 use Rattle.raft_log_model_laws.specs.Tidy.{Tidy}
 use Rattle.raft_log_model_laws.specs.Holes.{nothing, Window}
-use Rattle.raft_log_model_laws.proofs.Cases.{at_bool, eq_true}
-use Rattle.raft_log_model_laws.proofs.Records.{of_group_append, settle_append}
-use Rattle.raft_log_model_laws.proofs.TidyLaws.{tidy_back, tidy_front}
-use Rattle.raft_log_model_laws.proofs.Holes.{no_hole_front, no_hole_later}
-use Rattle.raft_log_model_laws.proofs.Chunks.{cut_anywhere}
+use Rattle.raft_log_model_laws.proofs.Public.{at_bool, cut_anywhere, eq_true, no_hole_front, no_hole_later, of_group_append, settle_append, tidy_back, tidy_front}
 use Rattle.raft_log_machine_laws.specs.Machine.{AllFit, Fits}
 use Rattle.raft_log_machine_laws.specs.Whereabouts.{top}
 use Rattle.raft_log_record_frames.specs.Meaning.{tagged_items}
 use Rattle.raft_log_extents.specs.declared.place.Place.{Place}
 use Rattle.raft_log_extents.specs.Entries.{place_of}
-use Rattle.raft_log_memtable_index.specs.declared.group_files.GroupFiles.{GroupFiles}
 use Rattle.raft_log_memtable_index.specs.Shown.{next_span, span, KeyValue, MayAllFollow}
 use Rattle.raft_log_memtable_index.specs.Bridge.{in_queue, Located}
 use Rattle.raft_log_memtable_index.specs.Replayed.{placed, replayed, IsReplayed, Replayed}
-use Rattle.raft_log_memtable_index.proofs.Replays.{read_noted, read_one}
-use Rattle.raft_log_memtable_index.proofs.Joining.{healthy_fits, joined_is}
+use Rattle.raft_log_memtable_index.proofs.Public.{healthy_fits, joined_is, read_one}
 use Rattle.raft_log_memtables.specs.declared.mem_tables.MemTables.{MemTables}
-use Rattle.raft_log_memtables.specs.declared.group_table.GroupTable.{GroupTable}
-use Rattle.raft_log_memtables.specs.Tables.{raw_of, replayed_in, replayed_of, shown_of}
+use Rattle.raft_log_memtables.specs.Tables.{replayed_of, shown_of}
 use Rattle.raft_log_memtables.specs.Replaying.{all_replayed, ReadsAll}
-use Rattle.raft_log_memtables.specs.Joining.{noted_in, JoinsAll}
+use Rattle.raft_log_memtables.specs.Joining.{JoinsAll}
 use Rattle.raft_log_replay_context.specs.Records.{counted, placed_tagged, records_of, said_in, AreHealthy, AreReplayed, KeepsRead, ReadItem, ReadRecord, RunsFit, TablesTake}
 use Rattle.raft_log_replay_context.proofs.OpenGroups.{records_append}
 
@@ -135,12 +125,6 @@ takes_both q xs ys a b c first later g before healthy r =
     subst (λ l. IsReplayed q l (c g)) (assoc ∙ ap (λ l. before ++ l) (sym parted))
     (later g (before ++ of_group g xs) whole (first g before (healthy_front (before ++ of_group g xs) (of_group g ys) whole) r))
 
--- the tables took what is noted in them
-noted_same : (q : Bool) (before : List (Item Located KeyValue)) (files : GroupFiles) (o : Option GroupTable)
-    → IsReplayed q before (replayed_in o) → IsReplayed q before (noted_in files (option_map (λ t. t.table) o))
-noted_same q before files None r = r
-noted_same q before files (Some t) r = read_noted q before (replayed_in (Some t)) _ r
-
 -- What the records come to, with one more.
 pub counted_more : (g : ℕ) (rs : List ReadRecord) (r : ReadRecord)
     → counted g (rs ++ r ∷ []) ≡ counted g rs ++ of_group g (counts (opened none_open (records_of rs)) r.taken)
@@ -180,16 +164,6 @@ tables_joined q xs ys a old later new so_far behind takes joins tidy g healthy =
     subst (λ l. IsReplayed q l (replayed_of new g)) (sym parted)
     (subst (λ z. IsReplayed q ((counted g xs ++ between) ++ counted g ys) z) (sym (joins g).read)
     (joined_is q (counted g xs ++ between) (counted g ys) (replayed_of old g) (replayed_of later g) first last whole.0))
-
--- noting the files of an atomic group changes nothing of what was read
-pub noting_keeps : (old new : MemTables) (group : ℕ) (files : GroupFiles) → replayed_of new group ≡ noted_in files (raw_of old group)
-    → ((g : ℕ) → (group == g) ≡ false → replayed_of new g ≡ replayed_of old g)
-    → (g : ℕ) (q : Bool) (xs : List (Item Located KeyValue)) → IsReplayed q xs (replayed_of old g) → IsReplayed q xs (replayed_of new g)
-noting_keeps old new group files noted others g q xs r =
-    by_group group g (same_or_apart group g)
-    (λ t e. subst (λ z. IsReplayed q xs z) (sym noted ∙ ap (replayed_of new) e)
-    (noted_same q xs files (get nat_cmp old.groups group) (subst (λ k. IsReplayed q xs (replayed_of old k)) (sym e) r)))
-    (λ t. subst (λ z. IsReplayed q xs z) (sym (others g t)) r)
 
 -- what stays read was taken
 pub takes_kept : (q : Bool) (xs : List ReadItem) (a b c : ℕ → Replayed) → TablesTake q xs a b → KeepsRead b c → TablesTake q xs a c

@@ -31,16 +31,18 @@ abbrev pub IsDisorder : List ReadRecord → Option ReadRecord → Type 0
 IsDisorder rs None = ⊥
 IsDisorder rs (Some r) = AreOrderly (rs ++ r ∷ []) → ⊥
 
--- Why a batch of Rewrite isn't read. `r` is the record that the batch decodes to. If the batch has a broken mark or two
--- marks, `r` is `None`, and the error is `Corruption` with the text `invalid_mark`. It may be `Memory` in any case.
+-- Why a batch of Rewrite isn't read. `r` is the record that the batch decodes to, or `None` if the batch has a broken
+-- mark or two marks. The error is `Corruption`, with the text `invalid_mark`, only if `r` is `None`. It may be `Memory`
+-- in any case.
 abbrev pub RewriteIsUnread : Option ReadRecord → Error → Type 0
 RewriteIsUnread r (errors.Corruption text) = (r ≡ None) × (string_bytes text ≡ invalid_mark)
 RewriteIsUnread r errors.Memory = Unit {0}
 RewriteIsUnread r _ = ⊥
 
 -- Why a batch isn't read after the records `rs`. `r` is the record that the batch decodes to, or `None` if it has a
--- broken mark of an atomic group, or two marks. The error is `Hole` if `rs` with `r` after them are not in order
--- (`AreOrderly`), or `Corruption` with the text `invalid_mark` if `r` is `None`. It may be `Memory` in any case.
+-- broken mark of an atomic group, or two marks. The error is `Hole` only if `rs` with `r` after them are not in order
+-- (`AreOrderly`). It is `Corruption`, with the text `invalid_mark`, only if `r` is `None`. It may be `Memory` in any
+-- case.
 abbrev pub IsBatchDeclined : List ReadRecord → Option ReadRecord → Error → Type 0
 IsBatchDeclined rs r errors.Hole = IsDisorder rs r
 IsBatchDeclined rs r (errors.Corruption text) = (r ≡ None) × (string_bytes text ≡ invalid_mark)
@@ -54,7 +56,7 @@ ReplayDeclined file items old error =
     → IsBatchDeclined rs (record_read file.queue file.seq items) error
 
 -- Why the contexts of two segments aren't merged; `rs` are the records of both, one segment after the other. The error
--- is `Hole` if `rs` are not in order. It may be `Memory` in any case.
+-- is `Hole` only if `rs` are not in order. It may be `Memory` in any case.
 abbrev pub StayApart : List ReadRecord → Error → Type 0
 StayApart rs errors.Hole = AreOrderly rs → ⊥
 StayApart rs errors.Memory = Unit {0}
@@ -83,9 +85,9 @@ pub record AreDisorderly (queue : LogQueue) (bs : List Batch) : Type 0 where
   pub told : AreRecordsRead queue bs records
   pub disorder : AreOrderly records → ⊥
 
--- Why a context fails to read batches of a queue. The error is `Hole` if their records are not in order, for example
--- because a run leaves a hole. It is `Corruption` with the text `invalid_mark` if some batch has a broken mark or two
--- marks. It may be `Memory` in any case.
+-- Why a context fails to read batches of a queue. The error is `Hole` only if their records are not in order, for
+-- example because a run leaves a hole. It is `Corruption`, with the text `invalid_mark`, only if some batch has a
+-- broken mark or two marks. It may be `Memory` in any case.
 abbrev pub Declines : LogQueue → List Batch → Error → Type 0
 Declines queue bs errors.Hole = AreDisorderly queue bs
 Declines queue bs (errors.Corruption text) =

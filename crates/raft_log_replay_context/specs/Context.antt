@@ -49,7 +49,8 @@ AreCounting rs counting =
 -- - `tables`, `counting`: its tables are those of the items that take effect, and know which raft groups count.
 -- - `plain`, `fit`, `none`: in Append, records take effect at once, indexes are below 2 ^ 64 - 1, no file is recorded.
 -- - `notes`, `ends`: in Rewrite, the tables record the files of atomic groups, but none past those that were read.
--- - `pieces`: it has the pieces of atomic groups that the records leave open, or that began before them.
+--   `notes` also requires that each entry and value is in the file that it was read from (`AreWhereRead`).
+-- - `pieces`: it has the pieces: the parts of atomic groups that the records leave open, or that began before them.
 pub record HasRead (queue : LogQueue) (rs : List ReadRecord) (c : MemTableRecoverContext) : Type 0 where
   pub plain : in_append queue ≡ true → ArePlain rs
   pub fit : in_append queue ≡ true → RecordsFit (records_of rs)
@@ -66,7 +67,8 @@ ContextReadsOne queue None old new = ⊥
 ContextReadsOne queue (Some r) old new =
     (rs : List ReadRecord) → HasRead queue rs old → HasRead queue (rs ++ r ∷ []) new
 
--- the batch of these items, read in this file, decodes to a record; `new` has read it after all that `old` had read
+-- the batch of these items, read in this file, decodes to a record; `new` has read what `old` had read, then this
+-- record
 abbrev pub ContextReadsOn : FileId → List LogItem → MemTableRecoverContext → MemTableRecoverContext → Type 0
 ContextReadsOn file items old new = ContextReadsOne file.queue (record_read file.queue file.seq items) old new
 
@@ -92,8 +94,7 @@ AppendRefused file items old new error =
     in_append file.queue ≡ true
     → ReadsUpTo true file.seq (tables_of old) (tables_of new) (tagged_items place_of items) error
 
--- the tables of `new` are those of `later` joined to some earlier tables, and no run of `later` leaves a hole after
--- these
+-- the tables of `new` are those of `later` joined to some earlier tables, after which no run of `later` leaves a hole
 abbrev pub JoinsOn : MemTableRecoverContext → MemTableRecoverContext → Type 0
 JoinsOn later new = (between : MemTables) × JoinsAll between (tables_of later) (tables_of new)
 
@@ -104,8 +105,9 @@ MergesInto queue old later new =
     (xs ys : List ReadRecord) → HasRead queue xs old → HasRead queue ys later → HasRead queue (xs ++ ys) new
 
 -- In raft group `g`, the tables `m` show what was read from Append (`append`) over what was read from Rewrite
--- (`rewrite`). They record the files of Rewrite's atomic groups, and none past those that were read. All of Append
--- comes after all of Rewrite. The group counts if items of it took effect, and the last one isn't a Clean.
+-- (`rewrite`). They record the files of Rewrite's atomic groups (`noted`, if the records satisfy `AreWhereRead`), and
+-- no file past those that were read. The group counts if items of it took effect, and the last one isn't a Clean. For
+-- this, all of Append comes after all of Rewrite.
 pub record IsOverAt (rewrite append : List ReadRecord) (m : MemTables) (g : ℕ) : Type 0 where
   pub rewritten : Replayed
   pub appended : Replayed

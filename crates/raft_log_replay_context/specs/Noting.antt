@@ -1,5 +1,5 @@
 -- The first and the last file of Rewrite's atomic groups, which tables record, and what takes effect if a replay starts
--- at the first one.
+-- at the first of these files.
 use Rattle.std.specs.Prelude.{◌≡◌, ℕ, ◌==◌, ◌||◌, ◌≤◌, ◌⊎◌, Bool, true, false, List, [], ◌∷◌, ◌++◌, Option, Some, None}
 use Rattle.std.specs.Global.{Vec}
 use Rattle.raft_log_model_laws.specs.Item.{Item, items_of}
@@ -131,8 +131,9 @@ pub record CountsFrom (rs : List ReadRecord) (g n : ℕ) (s : Slot) : Type 0 whe
   pub from : n ≤ first.file
   pub spoken : IsSpoken (says s (counted g (first ∷ back)))
 
--- Each slot of raft group `g` that has content counts (`CountsFrom`) from a certain file on (`start_of`). This is the
--- first file of the recorded atomic groups if these reach from there into the content's file, else the content's file.
+-- Each slot of raft group `g` that has content counts (`CountsFrom`) from a certain file on (`start_of`). If the
+-- recorded files of atomic groups begin before the content's file and reach it, this is the first recorded file.
+-- Otherwise it is the content's file.
 abbrev pub NotesCover : List ReadRecord → ℕ → Option GroupFiles → Type 0
 NotesCover rs g noted =
     (s : Slot) (c : Content Located KeyValue) → says s (counted g rs) ≡ Some (Some c)

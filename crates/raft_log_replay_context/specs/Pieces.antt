@@ -1,5 +1,6 @@
 -- Pieces: what a segment has of atomic groups that are only partly in it. A segment (not a segment file) is a list of
--- consecutive records that one worker reads by itself. It may begin within a group and leave a group open at its end.
+-- consecutive records that one worker reads by itself. It may begin within an atomic group, and leave one open at its
+-- end.
 use Rattle.std.specs.Prelude.{◌≡◌, ℕ, ◌-◌, min, max, slice_get, ◌==◌, Bool, false, List, [], ◌∷◌, ◌++◌, map, length, Option, Some, None, codes}
 use Rattle.std.specs.String.{string_bytes}
 use Rattle.std.specs.Global.{Vec}
@@ -136,8 +137,8 @@ abbrev pub AllGroups : (List GroupPart → Type 0) → List (Vec GroupPart) → 
 AllGroups P [] = Unit {0}
 AllGroups P (ps ∷ pss) = P ps.items × AllGroups P pss
 
--- An atomic group was open: `state` has its items so far. The next segment ends it: `head` has its items there. `ps`
--- are the group's records from both.
+-- An atomic group was open: `state` has its items so far. The next segment ends it: `head` has the group's items in
+-- that segment. `ps` are the group's records from both.
 pub record GoesToEnd (φ : Reading) (state : Option (List ReadItem)) (head : Head Located KeyValue)
     (ps : List GroupPart) : Type 0 where
   pub so_far : List ReadItem
@@ -167,9 +168,9 @@ JoinsPieces old later new done =
     (xs ys : List ReadRecord) → ArePieces xs old → ArePieces ys later
     → ArePieces (xs ++ ys) new × IsBorder xs ys done
 
--- The groups `old` are open after the records `rs`, and the next segment does with each what `before` says. `done` has
--- the items of the groups that the segment ends, and `new` are those that it leaves open. To each group, `rs` and then
--- `after` do the same as `rs` and then `before`.
+-- Let the groups `old` be open after the records `rs`. The next segment does with each of them what `before` says.
+-- `done` has the items of the groups that the segment ends. `new` are the groups that it leaves open. To each group,
+-- `rs` and then `after` do the same as `rs` and then `before`.
 pub record CarryOn (old : List (Unfinished Located KeyValue)) (before : ℕ → Head Located KeyValue)
     (new : List (Unfinished Located KeyValue)) (after : ℕ → Head Located KeyValue) (done : List ReadItem)
     (rs : List (Record Located KeyValue)) : Type 0 where

@@ -19,7 +19,7 @@ use Rattle.raft_log_memtable_index.specs.Shown.{KeyValue}
 use Rattle.raft_log_memtable_index.specs.Bridge.{Located}
 use Rattle.raft_log_memtable_index.specs.Replayed.{placed, IsReplayed, Replayed}
 
--- an item that was read, with its group: places for its entries, and for a value its file
+-- an item that was read, with its group; it has the places of its entries, or the file of its value
 abbrev pub ReadItem : Type 0
 ReadItem = Tagged Located KeyValue
 

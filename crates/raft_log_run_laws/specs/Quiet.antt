@@ -1,4 +1,4 @@
--- Runs of a log in which nothing chooses the bytes that are left: no premise on CRC collisions is needed.
+-- Runs of a log in which no crash can replace written bytes by others. Such runs need no premise on CRC collisions.
 use Rattle.std.specs.Prelude.{◌≡◌, List, [], ◌∷◌, false}
 use Rattle.std.specs.String.{string_bytes}
 use Rattle.raft_log_engine.specs.raft_log_fs.specs.Image.{IsImage, IsSound}
@@ -23,11 +23,14 @@ use Rattle.raft_log_world.specs.Run.{IsLogRun, Moment}
 use Rattle.raft_log_world_engine.specs.Instance.{IsFilesLog, Parts, engine_log}
 use Rattle.raft_voter_log.specs.Chance.{LosesWrites}
 
--- The event leads from `at` to `now`, and nothing in it chooses the bytes that are left:
--- - A call of an engine, and a fault that is armed below it, may end in any way.
+-- The event leads from `at` to `now`, and is quiet:
+-- - A call of an engine, and a fault that is armed in its file system, may end in any way.
 -- - An engine that crashes hasn't failed, and the crash only loses writes.
--- - A close succeeds and is proper. The settings of its files name the engine's directories.
--- - An open succeeds. A copy succeeds, in a clear target. A crash of files leaves an image of them.
+-- - A close of an engine on a sound disk succeeds and is proper. The settings of its files name the engine's
+--   directories.
+-- - An open succeeds.
+-- - A copy succeeds, and no directory in its target has the name of a log file.
+-- - A crash of files leaves an image of them.
 -- - A call or a close without an engine changes nothing.
 abbrev pub IsQuiet : {S G C : Type 0} → Parts S G → Storage S G → Event Batch C → Answer → Storage S G → Type 0
 IsQuiet p (Open e) (Serve call) answer (Open now) = Unit {0}
@@ -49,8 +52,8 @@ AllQuiet p at [] = Unit {0}
 AllQuiet p at (m ∷ ms) = IsQuiet p at m.event m.answer m.now × AllQuiet p m.now ms
 
 -- Suppose that a run begins with files that are a log at rest with the contents `m`, and each moment is quiet. Then the
--- model explains the report's answers, without a premise on CRC collisions. What is left is the log that the model has
--- become.
+-- model explains the report's answers, without a premise on CRC collisions. The engine or the files at the end are the
+-- log `last` that the model has become.
 abbrev pub QuietRunsAskNothing : {S G : Type 0} → Type 0 → Parts S G → Type 0
 QuietRunsAskNothing {S} {G} C p = (files : G) (events : List (Event Batch C)) (report : LogReport S G)
     → (run : IsLogRun (engine_log p) files events report) → (m : Contents)

@@ -72,10 +72,6 @@ pub sync_answered : (r : Result (Unit {0}) Error) (s t : EngineState) → IfErr 
 sync_answered (Ok done) s t only = refl
 sync_answered (Err error) s t only = ap (λ (e : Error). answer_of {A = Unit {0}} (Err e)) only.0
 
--- a batch that wasn't handed to the engine
-pub unwritten_home : (batch back : Batch) → back ≡ batch → IsHome batch back (Err errors.Memory)
-unwritten_home batch back is = subst (λ (b : Batch). IsHome batch b (Err errors.Memory)) (sym is) (record { emptied = tt; bounded = tt; kept = inl refl; again = λ may. may })
-
 -- Lists.
 
 -- one of those to come was added

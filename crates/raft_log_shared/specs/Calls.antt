@@ -1,5 +1,6 @@
--- The history of a shared engine: the calls that the engine served, in order, and how the model log of `raft_log_world`
--- explains it. `began` are the logs that the engine had open when it was shared.
+-- The history of a shared engine: the calls that the engine served, in order, each with its answer. The model log of
+-- `raft_log_world` explains a history if it gives the same answers. `began` are the model logs that the engine had open
+-- when it was shared.
 use Rattle.std.specs.Prelude.{◌++◌, false, List, [], ◌∷◌, map, Result, Ok, Err}
 use Rattle.raft_log_engine_laws.specs.EngineState.{EngineState, LogDirectories, said_of}
 use Rattle.raft_log_engine_core.specs.ModelCalls.{IsEngineLog}
@@ -18,7 +19,8 @@ use Rattle.raft_log_world.specs.Questions.{contents_of}
 use Rattle.raft_log_world.specs.Reads.{Contents}
 use Rattle.raft_log_shared.specs.declared.served.Served.{Served}
 
--- how a call ended that returned this: with `Failed` if the engine has failed, and with `Refused` for any other error
+-- the answer in the history for a call with this result: `Failed` if the engine has failed, `Refused` for any other
+-- error
 abbrev pub answer_of : {A : Type 0} → Result A Error → Answer
 answer_of (Ok value) = Done
 answer_of (Err errors.Failed) = Failed
@@ -36,26 +38,27 @@ synced answer = record { call = Sync; answer = answer }
 abbrev pub events_of : List Served → List (Event Batch (Unit {0}))
 events_of history = map (λ s. Serve s.call) history
 
--- from `log` on, the model gives the answers of this history in turn, and becomes `last`
+-- from `log` on, the model log gives the answers of this history, one after another; `last` is the model log after that
 abbrev pub IsExplained : ModelLog → List Served → ModelLog → Type 0
 IsExplained log history last = Explains said_of log (events_of history) (map (λ s. s.answer) history) last
 
--- by this history, `log` becomes a log that the engine `e` has open
+-- after the calls of this history, the model log `log` is one that the engine `e` has open
 abbrev pub Leads : LogDirectories → ModelLog → List Served → EngineState → Type 0
 Leads home log history e = (last : ModelLog) × IsExplained log history last × IsEngineLog home e last
 
--- each log of `began` becomes, by this history, a log that the engine `e` has open
+-- each model log of `began` is, after the calls of this history, one that the engine `e` has open
 abbrev pub AllLead : (LogDirectories → ModelLog → Type 0) → List Served → EngineState → Type 0
 AllLead began history e = (home : LogDirectories) (log : ModelLog) → began home log → ∥ Leads home log history e ∥₁
 
--- `value` was read when the engine had served some history: the contents after it have this value, as `is` says
+-- `value` was read when the engine had served some history. By `is`, the contents of the model log after this history
+-- have this value.
 pub record WasRead {A : Type 0} (began : LogDirectories → ModelLog → Type 0) (is : Contents → A → Type 0) (value : A)
     : Type 0 where
   pub history : List Served
   pub read : (home : LogDirectories) (log : ModelLog) → began home log
       → ∥ ((last : ModelLog) × IsExplained log history last × is (contents_of last) value) ∥₁
 
--- the engine served this call, with this answer, after some history
+-- the engine served this call with this answer, after some history; the model log explains both
 pub record WasServed (began : LogDirectories → ModelLog → Type 0) (call : Call Batch) (answer : Answer) : Type 0 where
   pub history : List Served
   pub explained : (home : LogDirectories) (log : ModelLog) → began home log

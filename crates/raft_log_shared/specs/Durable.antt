@@ -1,4 +1,4 @@
--- What a receipt with a sync says of the log: its batch is durable.
+-- What the receipt of a write with a sync says of the log: the batch that was written is durable.
 use Rattle.std.specs.Prelude.{◌≡◌, ◌++◌, ℕ, true, List, ◌∷◌, length, Ok}
 use Rattle.raft_log_model_laws.specs.Groups.{taken}
 use Rattle.raft_log_engine_laws.specs.EngineState.{said_of}
@@ -14,9 +14,9 @@ use Rattle.raft_log_shared.specs.Receipts.{IsIn, IsStamped, Stamp}
 abbrev pub written_by : List Served → List BatchRecord
 written_by history = written_in said_of (events_of history)
 
--- The batch was written at `place` of the history, and it is durable in the log `last`. Its record is there whole,
--- after some of the batches that were pending in `log` or written before, and before some of those that were written
--- later.
+-- The batch was written at `place` of the history, and it is durable in the model log `last`. The durable contents of
+-- `last` are those of `log` after the batches `before`, this batch, and the batches `after`. `before` are some of the
+-- batches that were pending in `log` or written earlier. `after` are some of those that were written later.
 pub record IsDurable (log : ModelLog) (history : List Served) (place : ℕ) (batch : Batch) (last : ModelLog)
     : Type 0 where
   pub old : List Served
@@ -29,8 +29,8 @@ pub record IsDurable (log : ModelLog) (history : List Served) (place : ℕ) (bat
   pub earlier : IsPart before (pending_in log ++ written_by old)
   pub later : IsPart after (written_by new)
 
--- Suppose a write with a sync returned `Ok`, and a history has its receipt. Whatever log the history began with, the
--- batch is durable in the log that it becomes.
+-- Suppose a write with a sync returned `Ok`, and a history has the records of its receipt. Then the batch is durable in
+-- the model log after this history. This holds for any model log `log` before the history.
 abbrev pub SyncedWritesAreDurable : Type 0
 SyncedWritesAreDurable =
     (log last : ModelLog) (history : List Served) (stamp : Stamp) (batch : Batch) (len : ℕ)

@@ -76,9 +76,9 @@ impl<P: PipeLog, L: Opening> SharedEngine<P, L> {
     /// that came after the write. Batches of other callers may be written with it, and share the sync. The batch is
     /// emptied, and keeps at most 8 MiB of its buffer.
     ///
-    /// If the write fails, the error is that of the engine's `write`, and the batch is kept. If the sync fails, the
-    /// engine has failed: each caller that waits for the sync gets `Failed`. A caller that didn't ask for a sync keeps
-    /// its `Ok`: its batch was written, and a later open may find it.
+    /// If the write fails, the error is that of the engine's `write`. The batch is kept; after `Failed` it may have
+    /// been emptied. If the sync fails, the engine has failed: each caller that waits for the sync gets `Failed`. A
+    /// caller that didn't ask for a sync keeps its `Ok`: its batch was written, and a later open may find it.
     ///
     /// The receipt proves that the history has the records of the write and of the sync. There is none, and the error
     /// is `Memory`, if memory ran out before the engine was called; the batch is unchanged then.

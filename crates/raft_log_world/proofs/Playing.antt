@@ -1,15 +1,14 @@
 -- Events after events, and what the model says of all.
-use Rattle.std.proofs.Common.{◌≡◌, List, [], ◌∷◌, ◌++◌, map, append_assoc, append-nil, ap, refl, sym, subst, ◌∙◌}
+use Rattle.std.proofs.Common.{List, [], ◌∷◌, ◌++◌, map, append_assoc, append-nil, ap, refl, sym, subst, ◌∙◌}
 use Rattle.raft_log_world.specs.declared.event.Answer.{Answer}
 use Rattle.raft_log_world.specs.declared.event.Event.{Event}
-use Rattle.raft_log_world.specs.declared.report.LogReport.{LogReport}
 use Rattle.raft_log_world.specs.declared.storage.Storage.{Storage}
 use Rattle.raft_log_world.specs.declared.storage.Storage.TheVariants.{Closed}
 use Rattle.raft_log_world.specs.declared.world.World.{World}
 use Rattle.raft_log_world.specs.Explained.{AllExplained, AllGoOn, Explains, Goes, NoneCollides}
 use Rattle.raft_log_world.specs.Model.{ModelLog}
 use Rattle.raft_log_world.specs.Logs.{LogOf, Stands}
-use Rattle.raft_log_world.specs.Run.{FollowAll, IsLogRun, Moment, behind}
+use Rattle.raft_log_world.specs.Run.{FollowAll, Moment, behind}
 use Rattle.raft_log_world.specs.Steps.{HasPlayed, IsStep}
 
 module _ {S F B C : Type 0} (l : LogOf S F B C) where
@@ -33,16 +32,6 @@ module _ {S F B C : Type 0} (l : LogOf S F B C) where
   going (m ∷ ms) at f log known = λ asks.
       let (next, answers, still) = f.0 log known asks in
       (next, answers, (still, going ms m.now f.1 next still))
-
-  pub is_run : (files : F) (events : List (Event B C)) (first last : World S F) (report : LogReport S F) → first.storage ≡ Closed files → first.answers.items ≡ [] → HasPlayed l first events last
-      → report.answers.items ≡ last.answers.items → report.storage ≡ last.storage → IsLogRun l files events report
-  is_run files events first last report begins none p told left = record {
-    moments = p.moments;
-    played = p.played;
-    told = sym (told ∙ p.noted ∙ ap (λ (before : List Answer). before ++ map (λ m. m.answer) p.moments) none);
-    ended = ap (λ (at : Storage S F). behind at p.moments) (sym begins) ∙ p.now ∙ sym left;
-    explained = subst (λ (at : Storage S F). FollowAll l at p.moments) begins p.follow;
-  }
 
   -- where nothing collides, the answers are those of the model
   explained : (ms : List (Moment S F B C)) (at : Storage S F) (log : ModelLog) (known : Stands l at log) → Goes l at log known ms → NoneCollides l at ms

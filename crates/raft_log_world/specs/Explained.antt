@@ -1,4 +1,5 @@
--- What it means that the model explains a run's moments, or answers to events; and the laws that it explains all runs.
+-- What it means that the model explains a run's moments, or answers to events. Also the laws that it explains all runs.
+-- A moment is an event, its answer, and the engine or the files after it.
 use Rattle.std.specs.Prelude.{◌≡◌, List, [], ◌∷◌}
 use Rattle.raft_log_world.specs.declared.event.Answer.{Answer}
 use Rattle.raft_log_world.specs.declared.event.Event.{Event}
@@ -9,7 +10,7 @@ use Rattle.raft_log_world.specs.Model.{Answers, BatchRecord, ModelLog}
 use Rattle.raft_log_world.specs.Logs.{Asks, LogOf, Stands}
 use Rattle.raft_log_world.specs.Run.{IsLogRun, Moment}
 
--- From `log` on, which `at` represents, the model gives each moment's answer in turn. After each moment, the engine or
+-- `at` represents `log`. From `log` on, the model gives each moment's answer in turn. After each moment, the engine or
 -- the files represent the log that the model becomes. The claim ends before the first moment that doesn't meet `Asks`:
 -- one with a CRC collision, or a copy whose target isn't clear.
 abbrev pub Goes :

@@ -10,11 +10,12 @@ use Rattle.raft_log_world.specs.declared.storage.Storage.TheVariants.{Closed, Op
 use Rattle.raft_log_world.specs.Model.{Answers, BatchRecord, ModelLog, is_open}
 use Rattle.raft_log_world.specs.Model.ModelLog.{resting, left}
 
--- What an implementation of a log defines. `S` are engines, `F` files, `B` batches, and `C` says what a crash leaves:
+-- What an implementation of a log defines, for its types of engines `S`, of files `F` and of batches `B`. A value of
+-- `C` says what a crash leaves.
 -- - `is`: an engine, or the files, represent this log of the model;
 -- - `says`: the record of a batch;
--- - `read_spared`: if they represent the log, there is no CRC collision in the files;
--- - `crash_spared`: if they represent the log, there is no CRC collision in the files that a crash left;
+-- - `read_spared`: there is no CRC collision in the files, which represent this log;
+-- - `crash_spared`: there is no CRC collision in the files that a crash left of an engine or files with this log;
 -- - `is_clear`: files may be copied into this directory.
 pub record LogOf (S F B C : Type 0) : Type 1 where
   pub is : Storage S F → ModelLog → Type 0
@@ -55,8 +56,9 @@ Asks l at log is (Fork target) now = l.is_clear at (string_bytes target) × IfLe
 Asks l at log is (Crash what) (Closed files) = UnlessResting log (l.crash_spared at log is what files)
 Asks l at log is event now = Unit {0}
 
--- The model explains that the event had this answer and led from `at` to `now`. Take a log of the model that `at`
--- represents and that meets `Asks`. The model may give this answer, and `now` represents the log that it becomes.
+-- The model explains that the event had this answer and led from `at` to `now`. Take any log of the model that `at`
+-- represents, and suppose that `Asks` is met. Then the log may give this answer, and `now` represents what the log
+-- becomes.
 abbrev pub Follows :
     {S F B C : Type 0} → LogOf S F B C → Storage S F → Event B C → Answer → Storage S F → Type 0
 Follows l at event answer now =

@@ -74,8 +74,8 @@ Compacts m pending group index next = RunsOn m (pending ++ compacts group index 
 abbrev pub FailsAt : Contents → List BatchRecord → BatchRecord → ModelLog → Type 0
 FailsAt m pending batch next = (next ≡ failed m pending) ⊎ (next ≡ failed m (pending ++ batch ∷ []))
 
--- How an engine that runs answers a call, and what the log is afterwards. Before the call its durable contents are `m`,
--- and `pending` are the pending batches. `says` gives the record of a batch.
+-- How an engine that runs answers a call, and what the log is afterwards. Before the call, the log has the durable
+-- contents `m` and the pending batches `pending`. `says` gives the record of a batch.
 -- - A write that succeeds adds its batch, and a compaction its record. A sync that succeeds makes all batches durable,
 --   and so does a purge after which the engine runs on.
 -- - A read returns what the contents have once all batches are applied. A read of the first or last index doesn't fail.
@@ -124,9 +124,9 @@ IsIdle opened (Arm fault) = ⊥
 -- How the log answers an event, and what it is then:
 -- - After an open that succeeds, the engine runs. The last few pending batches may be lost, and the others are durable.
 --   If the open fails, the log is as before, or has what a successful open would have found.
--- - A close that succeeds makes all batches durable. One that fails leaves them pending.
--- - A copy that succeeds is the log from then on. All of it is durable, but the last few pending batches may be
---   missing. One that fails leaves the log as before.
+-- - A close that succeeds makes all batches durable. A close that fails leaves them pending.
+-- - A copy that succeeds is the log from then on. All of the copy is durable, but the last few pending batches may be
+--   missing. A copy that fails leaves the log as before.
 -- - A crash may lose the last few pending batches, and nothing else.
 -- - An engine that has failed fails each call, and a close, and changes nothing.
 -- - A fault that is armed changes nothing. Later events may fail.

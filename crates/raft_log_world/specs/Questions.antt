@@ -34,9 +34,8 @@ Syncs (Serve (PurgeCall kind)) = Unit {0}
 Syncs Close = Unit {0}
 Syncs event = ⊥
 
--- Let a write with a sync, a sync, a purge or a close succeed. After any later events, the contents begin with those
--- before this event and the batch that it wrote, if any. Then come some of the batches that later events asked to
--- write.
+-- Let a write with a sync, a sync, a purge or a close succeed. After any later events, the contents are those before
+-- this event, then the batch that it wrote, if any, and then some of the batches that later events asked to write.
 abbrev pub SyncedBatchesAreKept : Type 0 → Type 0 → Type 0
 SyncedBatchesAreKept B C =
     (says : B → BatchRecord) (log next last : ModelLog) (event : Event B C)
@@ -52,8 +51,8 @@ BatchesAreWhole B C =
     → Explains says log events answers last
     → Continues (durable log) (pending_in log ++ written_in says events) last
 
--- After any events that ask for no write and no compaction, the contents of `log` are `m`, and then the first few of
--- these batches.
+-- After any events from `log` on that ask for no write and no compaction, the contents are `m`, and then the first few
+-- of these batches.
 abbrev pub ShowsFirst : {B : Type 0} → Type 0 → (B → BatchRecord) → ModelLog → Contents → List BatchRecord → Type 0
 ShowsFirst {B} C says log m batches =
     (events : List (Event B C)) (answers : List Answer) (last : ModelLog)
@@ -61,9 +60,9 @@ ShowsFirst {B} C says log m batches =
 
 -- What a write that fails leaves of its batch:
 -- - `refused`: if the engine runs on, the contents are those before the write.
--- - `failed`: if the engine fails, then until the next write or compaction the contents are the durable ones and then
---   the first few of these batches: the pending ones, and this write's last. So this batch is there whole, after all
---   others, or not at all.
+-- - `failed`: suppose the engine fails. Until the next write or compaction, the contents are then the durable ones and
+--   the first few of these batches: the pending ones, and after them this write's. So this write's batch is there
+--   whole, after all others, or not at all.
 pub record LeavesNoTrace {B : Type 0} (C : Type 0) (says : B → BatchRecord) (log next : ModelLog) (batch : B)
     (sync : Bool) : Type 0 where
   pub refused : Answers {C = C} says log (Serve (Write batch sync)) Refused next → contents_of next ≡ contents_of log

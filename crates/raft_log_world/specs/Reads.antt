@@ -25,7 +25,7 @@ all_bytes entries = map (λ bytes. bytes.items) entries
 abbrev pub pairs_of : List (Vec ℕ × Vec ℕ) → List (List ℕ × List ℕ)
 pairs_of pairs = map (λ pair. (pair.0.items, pair.1.items)) pairs
 
--- the group has no entry from index `begin` on, below `end`
+-- the group has no entry at the indexes from `begin` to below `end`
 abbrev pub HasNone : Contents → ℕ → ℕ → ℕ → Type 0
 HasNone m group begin end = (index : ℕ) → begin ≤ index → index < end → m group (Index index) ≡ None
 
@@ -52,16 +52,16 @@ abbrev pub IsCount : Option ℕ → ℕ → ℕ → Type 0
 IsCount None all count = count ≡ all
 IsCount (Some max) all count = (count ≤ all) × (0 < all → 0 < count)
 
--- The group has an entry at each index from `begin` on, below `end`. `entries` are the first of these. Without a
--- greatest size `max`, they are all of these; with one, at least one, if there are any.
+-- The group has an entry at each index from `begin` to below `end`. `entries` are the first of these. Without a
+-- greatest size `max`, they are all of these. With one, they are at least one, if there are any.
 pub record AreFetched (m : Contents) (group begin end : ℕ) (max : Option ℕ) (entries : List (List ℕ)) : Type 0 where
   pub are : HasEntries m group begin entries
   pub all : (index : ℕ) → begin ≤ index → index < end → m group (Index index) ≡ None → ⊥
   pub count : IsCount max (end - begin) (length entries)
 
--- A read of the entries from `begin` on, below `end`, may return `entries`. If the group has none of them, it returns
--- none. If the group has all of them, it returns the first ones (`AreFetched`). If the group has only some, no result
--- is right.
+-- A read of the entries from `begin` to below `end` may return `entries`. If the group has none of them, the read
+-- returns none. If the group has all of them, the read returns the first ones (`AreFetched`). If the group has only
+-- some, no result is right.
 abbrev pub Fetches : Contents → ℕ → ℕ → ℕ → Option ℕ → List (List ℕ) → Type 0
 Fetches m group begin end max entries =
     (HasNone m group begin end × (entries ≡ [])) ⊎ AreFetched m group begin end max entries

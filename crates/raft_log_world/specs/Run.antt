@@ -1,4 +1,4 @@
--- A run of events: each makes a moment, and the model explains all of these.
+-- A run of events. Each event makes a moment, and the model explains all moments.
 use Rattle.std.specs.Prelude.{◌≡◌, List, [], ◌∷◌, map}
 use Rattle.raft_log_world.specs.declared.event.Answer.{Answer}
 use Rattle.raft_log_world.specs.declared.event.Event.{Event}

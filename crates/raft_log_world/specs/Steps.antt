@@ -1,4 +1,4 @@
--- What one event, and several, do to a world, that is, an engine or files with the answers so far.
+-- What one event, and several, do to a world. A world is an engine or the files of a log, with the answers so far.
 use Rattle.std.specs.Prelude.{◌≡◌, List, [], ◌∷◌, ◌++◌, map}
 use Rattle.raft_log_world.specs.declared.event.Answer.{Answer}
 use Rattle.raft_log_world.specs.declared.event.Event.{Event}

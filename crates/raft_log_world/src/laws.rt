@@ -4,8 +4,9 @@ ghost use Rattle.raft_log_world.specs.Kept.{KeepsDurable};
 
 use crate::files::LogFiles;
 
-/// If the first files of a run represent a model log, each event leads it to the one that is represented after the
-/// event. This ends at the first event that meets a CRC collision, or copies to a target that isn't clear.
+/// Suppose the first files of a run represent a model log. Then after each event, the engine or the files represent
+/// what this log becomes. This ends at the first event that meets a CRC collision, or copies to a target that isn't
+/// clear.
 pub fn known_logs_go_on<R, S, B, C, F: LogFiles<R, S, B, C>>()
     ensures { AllGoOn F.log }
 {}

@@ -1,5 +1,5 @@
-//! Plays events on a log, one by one, and explains the answers by a model log. In a crash, this loses at most its last
-//! unsynced batches.
+//! Plays events on a log, one by one, and explains the answers by a model log. In a crash, the model log loses at most
+//! its last unsynced batches.
 #![tactic(auto)]
 
 mod event;

@@ -4,7 +4,7 @@ use Rattle.std.proofs.lemmas.Bool.{cases_order}
 use Rattle.raft_log_engine.specs.raft_log_model_laws.specs.Groups.{taken}
 use Rattle.raft_log_engine.specs.raft_log_fs.specs.Disk.{Disk as OnDisk, File, at_rest}
 use Rattle.raft_log_engine.specs.raft_log_fs.specs.Image.{IsFileImage, IsImage, IsSound}
-use Rattle.raft_log_engine.specs.raft_log_fs.proofs.ImageLaws.{only_at_rest}
+use Rattle.raft_log_engine.specs.raft_log_fs.proofs.Public.{only_at_rest}
 use Rattle.raft_log_engine.specs.raft_log_file_settings.specs.declared.config.Config.{Config}
 use Rattle.raft_log_file_writer.specs.LawsChains.{spelled}
 use Rattle.raft_log_file_writer.specs.LogQueue.{LogFiles}
@@ -20,8 +20,7 @@ use Rattle.raft_log_recovery_laws.specs.ByCalls.{home_of}
 use Rattle.raft_log_recovery_laws.specs.Keeping.{KeepsBothQueues, KeepsNumbered}
 use Rattle.raft_log_recovery_laws.specs.Left.{CrashedLogsRest, IsCrashOf}
 use Rattle.raft_log_recovery_laws.specs.Running.{CrashedEnginesOpen, LeavesNoChance}
-use Rattle.raft_log_recovery_laws.proofs.ByCalls.{two_queues}
-use Rattle.raft_log_recovery_laws.proofs.Keeping.{kept_logs_stay}
+use Rattle.raft_log_recovery_laws.proofs.Public.{kept_logs_stay, two_queues}
 use Rattle.raft_log_world.specs.Model.{LosesSome}
 use Rattle.raft_log_world_engine.specs.Instance.{Rests}
 use Rattle.raft_log_world_engine.specs.Instance.Rests.{bare, rests}

@@ -25,9 +25,7 @@ use Rattle.raft_log_recovery_laws.specs.ForkLeft.{LeftLogsShowAlike}
 use Rattle.raft_log_recovery_laws.specs.ForkResting.{ForkedLogsRest, HoldsNoDirectory, IsClear, NamesOnly, TargetsAreClear}
 use Rattle.raft_log_recovery_laws.specs.InPlace.{StandsWithoutChance}
 use Rattle.raft_log_recovery_laws.specs.Scanned.{kind_of}
-use Rattle.raft_log_recovery_laws.proofs.Copies.{found_at, in_target}
-use Rattle.raft_log_recovery_laws.proofs.Resting.{clear_free}
-use Rattle.raft_log_recovery_laws.proofs.Sources.{in_one, source_is}
+use Rattle.raft_log_recovery_laws.proofs.Public.{clear_free, found_at, in_one, in_target, source_is}
 use Rattle.raft_log_world.specs.Model.{LosesSome}
 use Rattle.raft_log_world_engine.specs.Instance.{Rests}
 use Rattle.raft_log_world_engine.specs.Instance.Rests.{bare, rests}

@@ -3,9 +3,6 @@ use Rattle.std.proofs.Common.{◌≡◌, ◌<◌, ℕ, false, List, length, ap, 
 use Rattle.std.specs.Prelude.{Contains}
 use Rattle.raft_log_file_format.specs.Name.{suffix_of}
 use Rattle.raft_log_engine.specs.raft_log_fs.specs.Disk.{Disk, empty_disk}
-use Rattle.raft_log_engine.specs.raft_log_fs.specs.Image.{IsSound}
-use Rattle.raft_log_engine.specs.raft_log_fs_memory.specs.Memory.{disk_of}
-use Rattle.raft_log_engine.specs.raft_log_fs_memory.specs.declared.memory.MemoryFileSystem.{MemoryFileSystem}
 use Rattle.raft_log_engine.specs.raft_log_record_base.specs.declared.pipe_log.LogQueue.TheVariants.{Append}
 use Rattle.raft_log_engine.specs.raft_log_file_settings.specs.declared.config.Config.{Config}
 use Rattle.raft_log_engine.specs.raft_log_engine_laws.specs.raft_log_active_file.specs.Paths.{IsPathWith, reserved_suffix_of}
@@ -47,14 +44,3 @@ alive home e m pending h =
     let one : e.pipes.append.failed ≡ false = h.runs.append.alive in
     let other : e.pipes.rewrite.failed ≡ false = h.runs.rewrite.alive in
     rw (one, other) refl
-
--- a file system in memory is consistent
-pub memory_sound : (system : MemoryFileSystem) → IsSound (disk_of system)
-memory_sound system = let storage = system.whole.sound in record {
-  named = storage.named;
-  one_name = storage.one_name;
-  apart = storage.apart;
-  home = storage.home;
-  fresh = storage.fresh;
-  files = storage.files;
-}

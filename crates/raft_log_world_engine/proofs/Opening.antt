@@ -35,10 +35,6 @@ pub record IsUnopened (config : Config) (d new : OnDisk) : Type 0 where
   pub left_log : (m : LogMap) (pending : List LogRecordValue) (is : IsRecoverableAs (home_of config) d m pending) → StandsWithoutChance (home_of config) is.1.lies.state d
       → IsRecoverableAs (home_of config) new m pending ⊎ ((now : LogMap) × LosesSome m pending now × IsRecoverableAs (home_of config) new now [])
 
--- an open that did nothing
-pub same_files : (config : Config) (d : OnDisk) → IsUnopened config d d
-same_files config d = record { resting_log = λ m is. inl is; left_log = λ m pending is spared. inl is }
-
 module _ {F : Type 0} (disk : F → OnDisk) (tells : F → List ℕ → ℕ → Type 0) (sound : (system : F) → IsSound (disk system))
     (bares_open : BareDirectoriesOpen disk tells) (resting_open : RestingDirectoriesOpen disk tells) (left_open : StandingDirectoriesOpen disk tells)
     (config settings : Config) (named : home_of settings ≡ home_of config) (old : F) where

@@ -26,17 +26,17 @@ use Rattle.raft_log_world.specs.Logs.{IfLeft, UnlessResting}
 use Rattle.raft_log_world.specs.Model.{Answers, ModelLog}
 use Rattle.raft_log_world_engine.specs.Instance.{CrashSparesEngine, CrashSparesFiles, IsFilesLog, ReadSparesFiles}
 
--- An open or a copy of a log's files, the event `event`, had the answer `answer`. Take any log of the model that the
--- files on disk `d` are. On this event it gives the same answer, and becomes a log for which `is` holds. If a close or
--- a failed open left the files, they must have no CRC collision.
+-- An open or a copy of a log's files, the event `event`, had the answer `answer`. Take any model log that the files on
+-- disk `d` represent. On this event the model log may give the same answer, and become a log for which `is` holds. If a
+-- close or a failed open left the files, they must have no CRC collision.
 abbrev pub FollowsFiles : {C : Type 0} → Config → OnDisk → Event Batch C → Answer → (ModelLog → Type 0) → Type 0
 FollowsFiles config d event answer is =
     (log : ModelLog) (known : IsFilesLog config d log) → IfLeft log (ReadSparesFiles config d log known)
     → (next : ModelLog) × Answers said_of log event answer next × is next
 
--- An open of the log of `config`, by any settings that name its directories:
--- - `done`: if it succeeds, the engine has the log open that the model becomes.
--- - `refused`: if it fails, the log's files are the log that the model becomes.
+-- An open of the log of `config` with the settings `settings`:
+-- - `done`: if it succeeds, the engine represents what the model log becomes.
+-- - `refused`: if it fails, the log's files represent what the model log becomes.
 pub record OpensAsModel {F : Type 0} (C : Type 0) (disk : F → OnDisk) (tells : F → List ℕ → ℕ → Type 0)
     (config settings : Config) (old : F) : Type 0 where
   pub done : (workers : ℕ) (v : LogPipes) (tables : MemTables) (cache : BlockCache) → cache.place ≡ None
@@ -45,16 +45,16 @@ pub record OpensAsModel {F : Type 0} (C : Type 0) (disk : F → OnDisk) (tells :
   pub refused : (workers : ℕ) (error : Error) (new : F) → FailsToOpenDirectory disk tells settings error old new
       → FollowsFiles {C = C} config (disk old) (Open workers) Refused (IsFilesLog config (disk new))
 
--- each open of a log's files is one of the model, as `OpensAsModel` says
+-- each open of a log's files, by settings that name the log's directories, is an open of the model log (`OpensAsModel`)
 abbrev pub OpensFollowTheModel : {F : Type 0} → Type 0 → (F → OnDisk) → (F → List ℕ → ℕ → Type 0) → Type 0
 OpensFollowTheModel {F} C disk tells =
     (config settings : Config) → home_of settings ≡ home_of config
     → (old : F) → OpensAsModel C disk tells config settings old
 
 -- A copy of the log of `config`:
--- - `done`: if it succeeds, the files of the copy are the log that the model becomes, by settings that name only the
+-- - `done`: if it succeeds, the files of the copy represent what the model log becomes, for settings that name only the
 --   target. No directory in the target may have the name of a log file.
--- - `refused`: if it fails, the files of the copied log are the log that the model becomes.
+-- - `refused`: if it fails, the files of the copied log represent what the model log becomes.
 pub record CopiesAsModel {F : Type 0} (C : Type 0) (disk : F → OnDisk) (config : Config) (target : String Global)
     (old new : F) : Type 0 where
   pub done : (to : Config) (copied : List (List ℕ)) → NamesOnly to (string_bytes target)
@@ -64,13 +64,13 @@ pub record CopiesAsModel {F : Type 0} (C : Type 0) (disk : F → OnDisk) (config
   pub refused : (error : Error) → FailsToFork (settings_of config) (string_bytes target) error (disk old) (disk new)
       → FollowsFiles {C = C} config (disk old) (Fork target) Refused (IsFilesLog config (disk new))
 
--- each copy of a log's files is one of the model, as `CopiesAsModel` says
+-- each copy of a log's files is a copy of the model log, as `CopiesAsModel` says
 abbrev pub CopiesFollowTheModel : {F : Type 0} → Type 0 → (F → OnDisk) → Type 0
 CopiesFollowTheModel {F} C disk =
     (config : Config) (target : String Global) (old new : F) → CopiesAsModel C disk config target old new
 
--- Each crash of a log's files is one of the model. Take any log of the model that the files are. By the crash it
--- becomes the log that the image has. The crash must leave no CRC collision, unless the log was at rest.
+-- Each crash of a log's files is a crash of the model log. Take any model log that the files represent. The crash image
+-- represents what this model log becomes. The crash must leave no CRC collision, unless the log was at rest.
 abbrev pub FileCrashesFollowTheModel : Type 0 → Type 0
 FileCrashesFollowTheModel C =
     (config : Config) (d image : OnDisk) (what : C) → IsImage d image
@@ -78,8 +78,8 @@ FileCrashesFollowTheModel C =
     → UnlessResting log (CrashSparesFiles config d log known image)
     → (next : ModelLog) × Answers said_of log (Crash what) Done next × IsFilesLog config image next
 
--- Each crash under an engine is one of the model. By the crash, the log that the engine has open becomes the log that
--- the image has. The crash must leave no CRC collision.
+-- Each crash under an engine is a crash of the model log. Take any model log that the engine represents. The crash
+-- image represents what this model log becomes. The crash must leave no CRC collision.
 abbrev pub EngineCrashesFollowTheModel : {F : Type 0} → Type 0 → (F → OnDisk) → Type 0
 EngineCrashesFollowTheModel {F} C disk =
     (config : Config) (e : EngineState) (image : F) (what : C) → IsImage e.pipes.disk (disk image)

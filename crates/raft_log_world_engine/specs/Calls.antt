@@ -28,10 +28,10 @@ HasCopiedKeys pairs (Keys told) = pairs_of told.items ≡ pairs
 HasCopiedKeys pairs Refused = Unit {0}
 HasCopiedKeys pairs _ = ⊥
 
--- A call of engine `s` had this answer, and the engine is `t` after it:
--- - If the engine had the contents `m` and these pending batches, it gave the model's answer. The log that it has open
---   is the one that the model becomes.
--- - If it had failed, the answer is `Failed`, and nothing changed.
+-- A call of engine `s` had this answer, and the engine is `t` after the call:
+-- - If engine `s` had the contents `m` and these pending batches, the model log may give this answer. Engine `t`
+--   represents what the model log becomes.
+-- - If engine `s` had failed, the answer is `Failed`, and nothing changed.
 pub record ServesAs (s : EngineState) (call : Call Batch) (answer : Answer) (t : EngineState) : Type 0 where
   pub runs : (home : LogDirectories) (m : LogMap) (pending : List LogRecordValue) → Represents home s m pending
       → (next : ModelLog) × Serves said_of m pending call answer next × IsEngineLog home t next

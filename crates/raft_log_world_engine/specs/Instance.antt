@@ -27,27 +27,29 @@ pub data Rests (config : Config) (d : OnDisk) (m : LogMap) : Type 0 where
   bare : IsBare config d → m ≡ nothing_stands → Rests config d m
   rests : IsDurableAs (log_in (home_of config)) d m → Rests config d m
 
--- The files on disk `d` are this log of the model, in the directories that the settings name. No engine has it open.
+-- The files on disk `d`, in the directories that the settings name, represent this model log. No engine has the log
+-- open.
 abbrev pub IsFilesLog : Config → OnDisk → ModelLog → Type 0
 IsFilesLog config d (resting m) = Rests config d m
 IsFilesLog config d (left m pending) = IsRecoverableAs (home_of config) d m pending
 IsFilesLog config d (running m pending) = ⊥
 IsFilesLog config d (failed m pending) = ⊥
 
--- What an open or a copy requires of the files, which it reads as they are. If a close or a failed open left them, they
--- must have no CRC collision.
+-- What an open or a copy requires of the files that it reads. If a close or a failed open left them, and no crash
+-- followed, they must have no CRC collision.
 abbrev pub ReadSparesFiles : (config : Config) (d : OnDisk) (log : ModelLog) → IsFilesLog config d log → Type 0
 ReadSparesFiles config d (left m pending) is = StandsWithoutChance (home_of config) is.1.lies.state d
 ReadSparesFiles config d log is = Unit {0}
 
--- If a close or a failed open left the files on disk `d`, a crash left `image` of them, without a CRC collision.
+-- What is required of a crash that left `image` of the files on disk `d`. If a close or a failed open had left these
+-- files, `image` must have no CRC collision.
 abbrev pub CrashSparesFiles :
     (config : Config) (d : OnDisk) (log : ModelLog) → IsFilesLog config d log → OnDisk → Type 0
 CrashSparesFiles config d (left m pending) is image = IsCrashOf (home_of config) is.1.lies.state d image
 CrashSparesFiles config d log is image = Unit {0}
 
--- A crash under the engine left `image` without a CRC collision. `LeavesNoChance` says so for an engine that ran, by
--- its pipes. `IsCrashOf` says so for one that had failed, by the files that it left.
+-- A crash under the engine left `image` without a CRC collision. For an engine that ran, `LeavesNoChance` says this of
+-- its pipes. For an engine that had failed, `IsCrashOf` says this of the files that it left.
 abbrev pub CrashSparesEngine :
     (home : LogDirectories) (e : EngineState) (log : ModelLog) → IsEngineLog home e log → OnDisk → Type 0
 CrashSparesEngine home e (running m pending) is image = LeavesNoChance home e.pipes image
@@ -61,7 +63,7 @@ pub record Parts (S G : Type 0) : Type 0 where
   pub settings : G → Config
   pub disk : G → OnDisk
 
--- an engine, or a closed log, is this log of the model
+-- an engine, or a closed log, represents this model log
 abbrev pub IsLog : {S G : Type 0} → Parts S G → Storage S G → ModelLog → Type 0
 IsLog p (Closed closed) log = IsFilesLog (p.settings closed) (p.disk closed) log
 IsLog p (Open engine) log = IsEngineLog (home_of (p.config engine)) (p.shows engine) log
@@ -83,7 +85,7 @@ abbrev pub MayHoldCopy : {S G : Type 0} → Parts S G → Storage S G → List �
 MayHoldCopy p (Closed closed) target = HoldsNoDirectory target (p.disk closed)
 MayHoldCopy p (Open engine) target = Unit {0}
 
--- the engine as a log of the model
+-- the engine and its closed logs, as an implementation of the model log
 abbrev pub engine_log : {S G C : Type 0} → Parts S G → LogOf S G Batch C
 engine_log p = record {
   is = IsLog p;

@@ -17,7 +17,7 @@ abbrev pub receipts_in : Result Statement SharedFault → List Statement
 receipts_in (Ok receipt) = receipt ∷ []
 receipts_in (Err fault) = []
 
--- if the round has a receipt, it has these requests
+-- if the round has a receipt, the receipt has these requests
 abbrev pub IsReceiptOf : List (ℕ × Request) → Result Statement SharedFault → Type 0
 IsReceiptOf requests (Ok receipt) = receipt.requests ≡ requests
 IsReceiptOf requests (Err fault) = Unit {0}
@@ -30,7 +30,7 @@ pub record HasRecord (journal : List Round) (requests : List (ℕ × Request)) (
   pub requested : round.requests ≡ requests
   pub replied : round.outcome ≡ Answered replies
 
--- if a round of these requests has a place, its record is there
+-- if a round of these requests has a place, the journal's record at this place is that of the round
 abbrev pub IsAt : List Round → List (ℕ × Request) → Option ℕ → Type 0
 IsAt journal requests None = Unit {0}
 IsAt journal requests (Some place) = HasRecord journal requests place
@@ -40,7 +40,8 @@ abbrev pub AreApart : Option ℕ → Option ℕ → Type 0
 AreApart (Some place) (Some other) = place ≢ other
 AreApart _ _ = Unit {0}
 
--- Two threads served a round each, of the requests `one` and `other`. Each round with replies has a record of its own.
+-- Two threads each asked for a round, with the requests `one` and `other`. If such a round has a place (`first` or
+-- `second`), the journal has its record there. If both rounds have a place, these differ.
 pub record AreServed (journal : List Round) (one : List (ℕ × Request)) (first : Option ℕ) (other : List (ℕ × Request))
     (second : Option ℕ) : Type 0 where
   pub of_one : IsAt journal one first

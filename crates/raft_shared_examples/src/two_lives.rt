@@ -33,7 +33,7 @@ pub struct TwoLives {
 }
 
 /// Opens the store of these settings. Two threads share it, and each serves a round. Then the store is settled and
-/// closed, opened again, and its voters are listed. Each group's voter is that of a voter that never stopped.
+/// closed, opened again, and its voters are listed. Each group's voter is what one that never stops would be.
 pub fn live_twice<R: Threads + Wait + Send + Sync, F: FileSystem + Send + Sync + Drop>(
     rt: &Quiet<'_, R>,
     alloc: Global,
@@ -68,7 +68,7 @@ pub fn live_twice<R: Threads + Wait + Send + Sync, F: FileSystem + Send + Sync +
     })
 }
 
-/// The same, in memory. After the store is closed there is a crash, and `what` says what it leaves.
+/// The same, in memory. After the store is closed there is a crash, and `what` says what the crash leaves.
 pub fn live_across_a_crash<R: Threads + Wait + Send + Sync>(
     rt: &Quiet<'_, R>,
     alloc: Global,

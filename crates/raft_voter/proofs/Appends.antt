@@ -10,8 +10,7 @@ use Rattle.raft_voter_outline.specs.State.{State, adopt_term, entry_at, last_ind
 use Rattle.raft_voter_outline.specs.Rules.{agrees_at, appended, matching, merged, merged_log, next, reply}
 use Rattle.raft_voter_messages.specs.Ranges.{in_range}
 use Rattle.raft_voter.specs.Laws.{BringsOther, MatchedAppend, sent_at}
-use Rattle.raft_voter_outline.proofs.Indexes.{get_back, get_drop, get_front, get_merged_back, get_merged_front, matches_before, matching-le, other_there, Pair, term_of}
-use Rattle.raft_voter_outline.proofs.Steps.{base-adopt_term, log-adopt_term, reaches}
+use Rattle.raft_voter_outline.proofs.Public.{base-adopt_term, get_back, get_drop, get_front, get_merged_back, get_merged_front, log-adopt_term, matches_before, matching-le, other_there, reaches, term_of, Pair}
 
 -- What a matched Append had to meet.
 pub record Matches (v : State) (t p u commit last : ℕ) (sent : List Pair) : Type 0 where

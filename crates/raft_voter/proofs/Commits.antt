@@ -12,7 +12,7 @@ use Rattle.raft_voter_outline.specs.Rules.{is_retire}
 use Rattle.raft_voter.specs.Accounts.{account, group_account, NoRetire, voter_from}
 use Rattle.raft_voter.specs.Laws.{BaseIsCommitted, CommitNeverFalls}
 use Rattle.raft_voter.proofs.Following.{account_follows, own_runs}
-use Rattle.raft_voter_outline.proofs.Steps.{append_next, by_test, compact_next, install_next, vote_next, HasCommittedBase, base_next, raised}
+use Rattle.raft_voter_outline.proofs.Public.{append_next, base_next, by_test, compact_next, install_next, raised, vote_next, HasCommittedBase}
 
 -- The commit only rises.
 

@@ -17,8 +17,7 @@ use Rattle.raft_voter_outline.specs.declared.outline.decision.Write.{Write}
 use Rattle.raft_voter_outline.specs.declared.outline.decision.Write.TheVariants.{StateAlone}
 use Rattle.raft_voter_outline.specs.Rules.{agrees_at, appended, can_compact, compacted, grants, installed, matching, merged, next_in_range}
 use Rattle.raft_voter_outline.specs.State.{State, adopt_term, entry_at, fresh, last_index, term_at}
-use Rattle.raft_voter_outline.proofs.Deciding.{Does, append_small, does_append, does_compact, does_install, does_vote, written_small}
-use Rattle.raft_voter_outline.proofs.Steps.{base_small-next, by_test}
+use Rattle.raft_voter_outline.proofs.Public.{append_small, base_small-next, by_test, does_append, does_compact, does_install, does_vote, written_small, Does}
 
 left : (a b : Bool) → (a && b) ≡ true → a ≡ true
 left true b h = refl

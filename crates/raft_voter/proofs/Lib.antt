@@ -1,3 +1,4 @@
+pub mod Public
 pub mod Places
 pub mod Joining
 pub mod Following
@@ -13,5 +14,3 @@ pub mod Numbering
 mod Reading
 mod Restored
 pub mod Keeping
-pub use Rattle.raft_voter_outline.proofs.Ordered
-pub use Rattle.raft_voter_outline.proofs.Steps

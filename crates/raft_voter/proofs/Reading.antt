@@ -11,7 +11,7 @@ use Rattle.raft_voter_messages.specs.Ranges.{in_range}
 use Rattle.raft_voter_outline.specs.State.{State, entry_at, last_index}
 use Rattle.raft_voter_outline.specs.Rules.{entries_between, numbered}
 use Rattle.raft_voter.specs.Laws.{EntriesAreTheLog}
-use Rattle.raft_voter_outline.proofs.Indexes.{get_drop, Pair}
+use Rattle.raft_voter_outline.proofs.Public.{get_drop, Pair}
 use Rattle.raft_voter.proofs.Numbering.{length-numbered}
 
 -- the k-th of them

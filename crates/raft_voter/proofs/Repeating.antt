@@ -14,12 +14,9 @@ use Rattle.raft_voter_outline.specs.Rules.{agrees_at, appended, can_compact, com
 use Rattle.raft_voter_messages.specs.Ranges.{in_range}
 use Rattle.raft_voter.specs.Accounts.{voter_after}
 use Rattle.raft_voter.specs.Laws.{is_repeatable, RepeatIsIdempotent}
-use Rattle.raft_voter_outline.proofs.Steps.{base-adopt_term, reaches, matching-merged}
+use Rattle.raft_voter_outline.proofs.Public.{agrees_above, base-adopt_term, by_test, matching-merged, reaches, term_of, Pair}
 use Rattle.raft_voter.proofs.Appends.{entry_before}
 use Rattle.raft_voter.proofs.Following.{group_runs, runs_append, voter_from-append}
-use Rattle.raft_voter_outline.proofs.Indexes.{Pair, term_of}
-use Rattle.raft_voter_outline.proofs.Steps.{agrees_above}
-use Rattle.raft_voter_outline.proofs.Steps.{by_test}
 
 -- The same request again gets the same reply and leaves the voter.
 pub record Again (v : State) (q : Request) : Type 0 where

@@ -6,12 +6,12 @@ use Rattle.raft_voter_messages.specs.declared.reply.Entry.{Entry}
 use Rattle.raft_voter_messages.specs.declared.reply.VoterState.{VoterState}
 use Rattle.raft_voter_messages.specs.Laws.{bare}
 use Rattle.raft_voter_messages.specs.StoredForms.{entry_text, state_text, stored_entry_fits}
-use Rattle.raft_voter_messages.proofs.ReadingBack.{entries_are_read_back, one_entry, one_state, states_are_read_back}
+use Rattle.raft_voter_messages.proofs.Public.{entries_are_read_back, one_entry, one_state, states_are_read_back}
 use Rattle.raft_voter.specs.InRange.{IsStorable}
 use Rattle.raft_voter_outline.specs.Restoring.{restored}
 use Rattle.raft_voter_outline.specs.Rules.{numbered}
 use Rattle.raft_voter_outline.specs.State.{State, state_of}
-use Rattle.raft_voter_outline.proofs.Ordered.{restored_ok}
+use Rattle.raft_voter_outline.proofs.Public.{restored_ok}
 use Rattle.raft_voter.specs.Laws.{AreReadAs, IsReadOfWritten, StoredVotersAreRestored, log_entries}
 use Rattle.raft_voter.proofs.Numbering.{entries_in_range, numbered_in_order, state_in_range, unnumbered}
 

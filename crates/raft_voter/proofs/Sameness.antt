@@ -1,5 +1,5 @@
 -- Voters are the same where their states and logs are.
-use Rattle.std.proofs.Common.{◌≡◌, ℕ, ◌+◌, ◌==◌, ◌&&◌, eqb, Bool, true, false, List, length, Option, None, Some, is_some, unwrap_or, ap, refl, sym, subst, ◌∙◌}
+use Rattle.std.proofs.Common.{◌≡◌, ℕ, ◌+◌, ◌==◌, ◌&&◌, eqb, true, false, List, length, Option, None, Some, is_some, unwrap_or, ap, refl, sym, subst, ◌∙◌}
 use Rattle.std.specs.Bool.{Decides}
 use Rattle.std.specs.BTreeMap.{BTreeMap, get, is_at}
 use Rattle.std.specs.Cmp.Derive.{both_true}
@@ -11,9 +11,6 @@ use Rattle.std.proofs.lemmas.Bool.{and_parts, eqb-true, eq-eqb, false≢true}
 use Rattle.std.proofs.lemmas.Map.Made.{is_some-lookup}
 use Rattle.raft_voter_messages.specs.declared.reply.VoterState.{VoterState}
 use Rattle.raft_voter_outline.specs.State.{State, state_of}
-
-same_pair : ℕ × List ℕ → ℕ × List ℕ → Bool
-same_pair a b = (a.0 == b.0) && pointwise eqb a.1 b.1
 
 pair_from : (a b : ℕ × List ℕ) → ((a.0 == b.0) && pointwise eqb a.1 b.1) ≡ true → a ≡ b
 pair_from a b h =

@@ -11,11 +11,9 @@ use Rattle.raft_voter_outline.specs.Rules.{agrees_at, can_compact, matching, nex
 use Rattle.raft_voter_messages.specs.Ranges.{in_range}
 use Rattle.raft_voter.specs.Accounts.{voter_after, voter_from}
 use Rattle.raft_voter.specs.Laws.{AllSpare, BringsOther, MatchedEntriesStand, MatchedIsAcknowledged, sent_at, SparesEntry}
-use Rattle.raft_voter_outline.proofs.Steps.{base-adopt_term, log-adopt_term, reaches, agrees_above}
+use Rattle.raft_voter_outline.proofs.Public.{agrees_above, base-adopt_term, by_test, log-adopt_term, reaches, vote_next, Pair}
 use Rattle.raft_voter.proofs.Appends.{base-next_matched, brings_first, entry_in, entry_kept, entry_own, log_kept, Matches, matches_of, matched_there}
 use Rattle.raft_voter.proofs.Following.{group_runs, runs_append, voter_from-append}
-use Rattle.raft_voter_outline.proofs.Indexes.{Pair}
-use Rattle.raft_voter_outline.proofs.Steps.{by_test, vote_next}
 
 -- a term that is taken over moves no entry
 entry-adopt_term : (v : State) (t i : ℕ) → entry_at (adopt_term v t) i ≡ entry_at v i

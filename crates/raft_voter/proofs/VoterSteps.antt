@@ -9,7 +9,7 @@ use Rattle.raft_voter_outline.specs.Rules.{grants, may_vote, next, next_in_range
 use Rattle.raft_voter_messages.specs.Ranges.{in_range}
 use Rattle.raft_voter_outline.specs.Rules.{is_retire}
 use Rattle.raft_voter.specs.Accounts.{NoRetire, voter_from}
-use Rattle.raft_voter_outline.proofs.Steps.{append_next, by_test, compact_next, install_next, vote_next}
+use Rattle.raft_voter_outline.proofs.Public.{append_next, by_test, compact_next, install_next, vote_next}
 
 -- the term only rises
 term-same : (v : State) → v.term ≤ v.term

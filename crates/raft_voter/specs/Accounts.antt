@@ -17,8 +17,8 @@ pub record Taken : Type 0 where
   pub request : Request
   pub told : Option Reply
 
--- These requests of a round with replies, each with its reply. Their positions in the round count from `place`, and
--- those at the positions in `refused` are left out.
+-- These requests of a round with replies, each with its reply. The first one is at position `place` of the round.
+-- Requests at the positions in `refused` are left out.
 abbrev pub told_from : ℕ → List ℕ → List (ℕ × Request) → List Reply → List Taken
 told_from place refused [] replies = []
 told_from place refused (q ∷ qs) [] = []

@@ -99,10 +99,12 @@ MatchedAppend =
     ((j : ℕ) → ¬ BringsOther v prev sent j) → (next v (Append term prev prev_term commit sent)).log ≡ v.log
     )
 
--- When voter `v` keeps its entry at index `i` while it takes this request:
--- - Append: if the reply is `Matched`, it brings no term up to `i` that the voter doesn't have at the same index.
+-- The condition under which voter `v` keeps its entry at index `i` when it takes this request:
+-- - Append: if the reply is `Matched`, the Append brings no term up to `i` that the voter doesn't have at the same
+--   index.
 -- - Compact: the base stays below `i`.
--- - Install: the base stays below `i`. If it moves, the voter has the snapshot's term at the snapshot's last index.
+-- - Install: the base stays below `i`. If the base moves, the voter has the snapshot's term at the snapshot's last
+--   index.
 -- - Retire: never. Every other request: always.
 abbrev pub SparesEntry : State → ℕ → Request → Type 0
 SparesEntry v i (Append term prev prev_term commit sent) =
@@ -117,7 +119,7 @@ SparesEntry v i (Vote term candidate index last) = Unit {0}
 SparesEntry v i (Read from to) = Unit {0}
 SparesEntry v i Status = Unit {0}
 
--- voter `v` takes these requests in order, and keeps its entry at index `i` through each of them
+-- voter `v` takes these requests in order, and each of them spares the entry at index `i` (`SparesEntry`)
 abbrev pub AllSpare : State → ℕ → List (Request × Option Reply) → Type 0
 AllSpare v i [] = Unit {0}
 AllSpare v i (t ∷ ts) = SparesEntry v i t.0 × AllSpare (next v t.0) i ts
@@ -225,14 +227,14 @@ AreReadAs index [] [] = Unit {0}
 AreReadAs index (bytes ∷ others) (e ∷ es) = IsEntry bytes index e × AreReadAs (index + 1) others es
 AreReadAs index others es = ⊥
 
--- The bytes that are written for voter `v` can be read as state `s` and entries `es`: those of its state as `s`, and
--- those of each entry as the entry of `es` at the same position.
+-- The bytes that are written for the state of voter `v` can be read as state `s`. The bytes that are written for each
+-- of its entries can be read as the entry of `es` at the same position.
 pub record IsReadOfWritten (v : State) (s : VoterState) (es : List Entry) : Type 0 where
   pub state : IsState (state_text (state_of v)) s
   pub entries : AreReadAs (v.base_index + 1) (map entry_text (log_entries v)) es
 
--- Suppose voter `v` can be stored. The bytes that are written for it can be read as its entries and its state, with its
--- base in place of the last entry. Whatever is read from these bytes restores `v`.
+-- Suppose voter `v` can be stored. The bytes that are written for `v` can be read as its entries and its state. This
+-- state has the base in place of the last entry. Whatever is read from these bytes restores `v`.
 abbrev pub StoredVotersAreRestored : Type 0
 StoredVotersAreRestored =
     (v : State) → IsStorable v

@@ -39,8 +39,8 @@ after W (q ∷ qs) = after (after_one W q) qs
 abbrev pub is_among : List ℕ → ℕ → Bool
 is_among refused place = list_any (λ p. p == place) refused
 
--- The requests before position `cut`, in order, without those at the positions in `refused`. The positions of these
--- requests count from `place`.
+-- The requests before position `cut`, in order, without those at the positions in `refused`. The first of all requests
+-- is at position `place`.
 abbrev pub taken_from : ℕ → ℕ → List ℕ → List (ℕ × Request) → List (ℕ × Request)
 taken_from place cut refused [] = []
 taken_from place cut refused (q ∷ qs) =
@@ -51,7 +51,7 @@ taken_from place cut refused (q ∷ qs) =
 abbrev pub taken_below : Round → ℕ → List (ℕ × Request)
 taken_below r cut = taken_from 0 cut r.refused r.requests
 
--- The replies to these requests, whose positions count from `place`, starting in world `W`. At a position in
+-- The replies to these requests, starting in world `W`. The first request is at position `place`. At a position in
 -- `refused`, the reply is `Refused`, and no voter takes the request. At any other position, the reply is that of the
 -- group's voter after the earlier requests. A voter also replies `Refused` to a request out of range.
 abbrev pub replies_from : ℕ → List ℕ → World → List (ℕ × Request) → List Reply

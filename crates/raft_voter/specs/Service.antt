@@ -1,5 +1,5 @@
--- What a service of voters promises for each round of requests. Also what an open finds in its files, which keep the
--- voters from a close or a crash to the next open.
+-- What a service of voters promises for each round of requests, and what an open finds in the service's files. From a
+-- close or a crash to the next open, these files keep the voters.
 use Rattle.std.specs.Prelude.{◌≡◌, ℕ, ◌+◌, ◌<◌, ◌≤◌, IsTrue, Bool, true, false, if◌then◌else◌, List, [], ◌∷◌, length}
 use Rattle.raft_voter_messages.specs.declared.reply.Reply.{Reply}
 use Rattle.raft_voter_messages.specs.declared.reply.Reply.TheVariants.{Refused}
@@ -48,7 +48,7 @@ pub record Service (S : Type 0) : Type 1 where
 -- - `refuses`: an open of the first files may fail for this cause and leave the second files;
 -- - `closes`: a close of this service may leave these files;
 -- - `crashes`: a crash may leave the second files of the first;
--- - `refuses_crash`: a call that takes what a crash leaves of these files may fail.
+-- - `refuses_crash`: the call that returns what a crash leaves of these files may fail.
 pub record Files (S F : Type 0) : Type 1 where
   pub leaves : F → CutRound → Type 0
   pub without_chance : F → F → Type 0
@@ -65,10 +65,6 @@ pub record IsOpenAt {S : Type 0} (v : Service S) (store : S) (W : World) : Type 
   pub serves : v.serves store W
   pub left : v.leaves store (uncut W)
 
--- the next open of these files, even after a crash, finds exactly the voters of world `W`
-abbrev pub IsClosedAt : {S F : Type 0} → Files S F → F → World → Type 0
-IsClosedAt f files W = f.leaves files (uncut W)
-
 -- Suppose these files have no CRC collision, and an open finds only voters that are possible after the round `cut`.
 -- Then `store`, opened from these files, serves such voters.
 abbrev pub FindsVoters : {S F : Type 0} → Service S → Files S F → F → S → Type 0
@@ -76,9 +72,9 @@ FindsVoters v f files store =
     f.without_chance files files
     → (cut : CutRound) → f.leaves files cut → (W : World) × MayFollow cut W × IsOpenAt v store W
 
--- A crash, or an open that failed, made the files `left` from `files`. `read` are `left` after a crash, and `files`
--- after an open. Without a CRC collision in `read`, an open of `left` finds only voters that an open of `files` may
--- find.
+-- If the files `read` have no CRC collision, an open of the files `left` finds only voters that an open of `files` may
+-- find. This is used for two cases, in which `files` became `left`. In a crash, `read` is the same as `left`. In an
+-- open that failed, `read` is the same as `files`.
 abbrev pub LeavesStanding : {S F : Type 0} → Files S F → F → F → F → Type 0
 LeavesStanding f read files left =
     f.without_chance files read → (cut : CutRound) → f.leaves files cut → f.leaves left cut
@@ -94,13 +90,13 @@ abbrev pub is_refused : Reply → Bool
 is_refused Refused = true
 is_refused reply = false
 
--- the positions of the replies `Refused` in this list; positions count from `place`
+-- the positions of the replies `Refused` in this list, whose first reply is at position `place`
 abbrev pub refused_from : ℕ → List Reply → List ℕ
 refused_from place [] = []
 refused_from place (reply ∷ replies) =
     if is_refused reply then place ∷ refused_from (place + 1) replies else refused_from (place + 1) replies
 
--- the positions of the requests out of range in this list; positions count from `place`
+-- the positions of the requests out of range in this list, whose first request is at position `place`
 abbrev pub out_of_range : ℕ → List (ℕ × Request) → List ℕ
 out_of_range place [] = []
 out_of_range place (q ∷ qs) =

@@ -6,7 +6,7 @@ use Rattle.raft_log_model_laws.specs.Groups.{taken}
 use Rattle.raft_log_engine_laws.specs.EngineState.{LogDirectories, LogMap, EngineState}
 use Rattle.raft_log_engine_laws.specs.Holding.{EndsAt, Represents}
 use Rattle.raft_log_engine_laws.specs.raft_log_dual_pipes.specs.Pipes.{LogRecordValue}
-use Rattle.raft_voter_records.proofs.Pending.{taken_in_two}
+use Rattle.raft_voter_records.proofs.Public.{taken_in_two}
 
 pub later_same : (d : Disk) → IsLater d d
 later_same d = record { failures = omega arith; stopped = λ h. h }

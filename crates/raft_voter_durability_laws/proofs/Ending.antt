@@ -2,14 +2,14 @@
 use Rattle.std.proofs.Common.{◌≡◌, ◌∙◌, ◌⊎◌, ℕ, ◌≤◌, Bool, false, List, [], ◌++◌, length, slice_get, Some, refl, sym, ap, subst, inl, inr, arith, append_assoc}
 use Rattle.raft_log_fs.specs.Disk.{Disk}
 use Rattle.raft_log_fs.specs.Causes.{IsLater}
-use Rattle.raft_log_fs.proofs.CauseLaws.{fails_after}
+use Rattle.raft_log_fs.proofs.Public.{fails_after}
 use Rattle.raft_log_model_laws.specs.Groups.{taken}
 use Rattle.raft_log_record_base.specs.declared.errors.Error.{Error}
 use Rattle.raft_log_engine_laws.specs.EngineState.{LogDirectories, LogMap, EngineState, has_failed}
 use Rattle.raft_log_engine_laws.specs.Holding.{EndsAt, Represents, IsRecoverableAs}
 use Rattle.raft_log_engine_laws.specs.Syncing.{FailsToSyncAppend, NotSynced, SyncsAppend}
 use Rattle.raft_log_engine_laws.specs.raft_log_dual_pipes.specs.Pipes.{LogRecordValue}
-use Rattle.raft_log_engine_laws.proofs.Keeping.{holds_runs}
+use Rattle.raft_log_engine_laws.proofs.Public.{holds_runs}
 use Rattle.raft_voter_messages.specs.declared.reply.Reply.{Reply}
 use Rattle.raft_voter_messages.specs.declared.request.Request.{Request}
 use Rattle.raft_voter_outline.specs.State.{State}
@@ -17,7 +17,7 @@ use Rattle.raft_voter.specs.Rounds.{TakesFirst, World, after, after_one}
 use Rattle.raft_voter.specs.Service.{refused_from}
 use Rattle.raft_voter_records.specs.Voters.{Means}
 use Rattle.raft_voter_records.specs.Among.{MeansAmong}
-use Rattle.raft_voter_records.proofs.Pending.{among_more, among_rest, among_wider, taken_in_two}
+use Rattle.raft_voter_records.proofs.Public.{among_more, among_rest, among_wider, taken_in_two}
 use Rattle.raft_voter_durability_laws.specs.Standing.{AreOutlines, IsLeftAmong, Keeps}
 use Rattle.raft_voter_durability_laws.specs.Rounds.{IsPassed, IsPassedOrOneMore, took}
 use Rattle.raft_voter_durability_laws.specs.Requests.{Broke}

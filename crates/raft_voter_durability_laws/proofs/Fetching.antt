@@ -3,7 +3,7 @@ use Rattle.std.proofs.Common.{◌≡◌, ◌∙◌, ◌⊎◌, ℕ, suc, ◌+◌
 use Rattle.std.proofs.lemmas.Bool.{cases_lt}
 use Rattle.raft_log_model_laws.specs.Meaning.Slot.{Index}
 use Rattle.raft_log_model_laws.specs.Groups.{taken}
-use Rattle.raft_log_model_laws.proofs.Cases.{if_false, if_true, lt_true}
+use Rattle.raft_log_model_laws.proofs.Public.{if_false, if_true, lt_true}
 use Rattle.raft_log_record_base.specs.declared.errors.Error.{Error}
 use Rattle.raft_log_record_base.specs.declared.errors.Error.TheVariants as errors
 use Rattle.raft_log_record_items.specs.Message.{Parses}
@@ -16,10 +16,10 @@ use Rattle.raft_log_engine_laws.specs.Reading.{IsFirstIn, IsLastIn}
 use Rattle.raft_log_engine_laws.specs.Fetching.{AreEntriesOf, AreToRead, FailsToFetch, FetchesTo, IsOneUntold}
 use Rattle.raft_log_engine_laws.specs.raft_log_block_cache.specs.Blocks.{IsFileUnread}
 use Rattle.raft_log_engine_laws.specs.raft_log_dual_pipes.specs.Pipes.{LogRecordValue}
-use Rattle.raft_log_engine_laws.specs.raft_log_memtables.proofs.Bare.{uncounted_bare}
-use Rattle.raft_log_engine_laws.proofs.Reading.{tables_tell}
+use Rattle.raft_log_engine_laws.specs.raft_log_memtables.proofs.Public.{uncounted_bare}
+use Rattle.raft_log_engine_laws.proofs.Public.{tables_tell}
 use Rattle.raft_voter_messages.specs.declared.reply.Entry.{Entry as VoterEntry}
-use Rattle.raft_voter_messages.proofs.ReadingBack.{one_entry}
+use Rattle.raft_voter_messages.proofs.Public.{one_entry}
 use Rattle.raft_voter_messages.specs.StoredForms.{IsEntry}
 use Rattle.raft_voter_messages.specs.declared.request.Request.{Request}
 use Rattle.raft_voter_messages.specs.declared.request.Request.TheVariants.{Read}
@@ -31,10 +31,7 @@ use Rattle.raft_voter.specs.InRange.{IsStorable}
 use Rattle.raft_voter.specs.Laws.{AreReadAs}
 use Rattle.raft_voter.specs.Rounds.{World}
 use Rattle.raft_voter_records.specs.Voters.{Means, entry_content}
-use Rattle.raft_voter_records.proofs.Entries.{content_above, drop_here}
-use Rattle.raft_voter_records.proofs.Leading.{shown}
-use Rattle.raft_voter_records.proofs.Owning.{entry_of}
-use Rattle.raft_voter_records.proofs.Reading.{ends, entry_stored, unmapped}
+use Rattle.raft_voter_records.proofs.Public.{content_above, drop_here, ends, entry_of, entry_stored, shown, unmapped}
 use Rattle.raft_voter_durability_laws.specs.Standing.{AreOutlines}
 use Rattle.raft_voter_durability_laws.specs.Requests.{WasTurnedDown}
 use Rattle.raft_voter_durability_laws.specs.Requests.WasTurnedDown.{no_memory, unread}

@@ -11,8 +11,7 @@ use Rattle.raft_log_model_laws.specs.Meaning.Content.{Entry}
 use Rattle.raft_log_model_laws.specs.Meaning.Slot.{Index}
 use Rattle.raft_log_model_laws.specs.Groups.{of_group, taken}
 use Rattle.raft_log_model_laws.specs.Renamed.{renamed, renamed_tagged}
-use Rattle.raft_log_model_laws.proofs.Cases.{from_eq_true, if_false, if_true, lt_false}
-use Rattle.raft_log_model_laws.proofs.RenamedLaws.{of_group_renamed}
+use Rattle.raft_log_model_laws.proofs.Public.{from_eq_true, if_false, if_true, lt_false, of_group_renamed}
 use Rattle.raft_log_machine_laws.specs.Whereabouts.{top}
 use Rattle.raft_log_record_frames.specs.Meaning.{tagged_items}
 use Rattle.raft_log_record_batches.specs.Batch.{Batch}
@@ -20,12 +19,12 @@ use Rattle.raft_log_record_batches.specs.Places.{entry_bytes}
 use Rattle.raft_log_memtable_index.specs.Shown.{Shown, MayAllFollow, MayFollow, next_span, span}
 use Rattle.raft_log_engine_laws.specs.raft_log_memtable.specs.Reads.{last_of}
 use Rattle.raft_log_engine_laws.specs.raft_log_memtables.specs.Batch.{MayFollowAll}
-use Rattle.raft_log_engine_laws.specs.raft_log_memtables.proofs.Applied.{items_renamed}
+use Rattle.raft_log_engine_laws.specs.raft_log_memtables.proofs.Public.{items_renamed}
 use Rattle.raft_log_engine_laws.specs.EngineState.{LogDirectories, LogMap, EngineState}
 use Rattle.raft_log_engine_laws.specs.Holding.{Represents}
 use Rattle.raft_log_engine_laws.specs.Reading.{IsLastIn}
 use Rattle.raft_log_engine_laws.specs.raft_log_dual_pipes.specs.Pipes.{LogRecordValue}
-use Rattle.raft_log_engine_laws.proofs.Reading.{tables_tell}
+use Rattle.raft_log_engine_laws.proofs.Public.{tables_tell}
 use Rattle.raft_voter_messages.specs.StoredForms.{entry_text}
 use Rattle.raft_voter_messages.specs.declared.request.Request.{Request}
 use Rattle.raft_voter_outline.specs.declared.outline.decision.Change.{Change}
@@ -34,15 +33,12 @@ use Rattle.raft_voter_outline.specs.declared.outline.decision.Write.TheVariants.
 use Rattle.raft_voter_outline.specs.Outlines.{CanWrite, IsChangeOf, sent_of}
 use Rattle.raft_voter_outline.specs.Rules.{is_retire, numbered}
 use Rattle.raft_voter_outline.specs.State.{State, last_index}
-use Rattle.raft_voter_outline.proofs.Indexes.{Pair}
-use Rattle.raft_voter.proofs.Numbering.{length-numbered}
+use Rattle.raft_voter_outline.proofs.Public.{Pair}
+use Rattle.raft_voter.proofs.Public.{length-numbered}
 use Rattle.raft_voter.specs.Rounds.{World}
 use Rattle.raft_voter_records.specs.Voters.{Means, entry_content, stored_entry}
 use Rattle.raft_voter_records.specs.MeaningChanges.{Words, decided_items, run_items, tagged_with, write_items}
-use Rattle.raft_voter_records.proofs.Entries.{content_above, content_below}
-use Rattle.raft_voter_records.proofs.Leading.{other_items, own_items, shown}
-use Rattle.raft_voter_records.proofs.Reading.{ends, unmapped}
-use Rattle.raft_voter_records.proofs.Saying.{put_of, put_unless}
+use Rattle.raft_voter_records.proofs.Public.{content_above, content_below, ends, other_items, own_items, put_of, put_unless, shown, unmapped}
 use Rattle.raft_voter_durability_laws.specs.Requests.{SaysChange}
 use Rattle.raft_voter_durability_laws.proofs.Serving.{says_items}
 

@@ -15,7 +15,7 @@ use Rattle.raft_voter.specs.Rounds.{World, after, after_one}
 use Rattle.raft_voter.specs.Service.{is_refused}
 use Rattle.raft_voter_records.specs.Voters.{Means}
 use Rattle.raft_voter_records.specs.Among.{MeansAmong}
-use Rattle.raft_voter_records.proofs.Pending.{among_more, among_none, among_wider, taken_in_two}
+use Rattle.raft_voter_records.proofs.Public.{among_more, among_none, among_wider, taken_in_two}
 use Rattle.raft_voter_durability_laws.specs.Standing.{AreOutlines}
 use Rattle.raft_voter_durability_laws.specs.Rounds.{AreTold, IsPassed, took}
 use Rattle.raft_voter_durability_laws.specs.Requests.{Served, TurnedDown}

@@ -8,12 +8,11 @@ use Rattle.raft_log_engine_laws.specs.EngineState.{LogDirectories, LogMap, Engin
 use Rattle.raft_log_engine_laws.specs.Holding.{Represents, IsRecoverableAs}
 use Rattle.raft_log_engine_laws.specs.raft_log_dual_pipes.specs.OpenOrClosed.{both_open}
 use Rattle.raft_log_engine_laws.specs.raft_log_dual_pipes.specs.Pipes.{files_of}
-use Rattle.raft_log_engine_laws.proofs.OpenOrClosed.{engines_lie_on_disks}
+use Rattle.raft_log_engine_laws.proofs.Public.{engines_lie_on_disks}
 use Rattle.raft_log_machine_laws.specs.Fresh.{nothing_stands}
-use Rattle.raft_voter_records.proofs.Leading.{empty_maps_are_fresh}
+use Rattle.raft_voter_records.proofs.Public.{among_none, empty_maps_are_fresh}
 use Rattle.raft_voter.specs.Rounds.{TakesFirst, World, fresh_world}
 use Rattle.raft_voter_records.specs.Voters.{Means}
-use Rattle.raft_voter_records.proofs.Pending.{among_none}
 use Rattle.raft_voter_durability_laws.specs.Standing.{IsLeftAmong, Keeps}
 use Rattle.raft_voter_durability_laws.specs.Calls.{KeepsMap, KeepsOrLeaves, KeepsOrLeavesMap, LeavesLeft, OpensAmong}
 use Rattle.raft_voter_durability_laws.specs.Laws.{EnginesLeaveLogs, FreshLogsHaveFreshVoters, OpensFindVoters, PurgesKeepVoters, VotersAreLeft}

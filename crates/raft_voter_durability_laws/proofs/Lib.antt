@@ -1,3 +1,4 @@
+pub mod Public
 pub mod Refusing
 pub mod Told
 pub mod Places

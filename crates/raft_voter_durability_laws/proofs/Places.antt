@@ -2,15 +2,15 @@
 use Rattle.std.proofs.Common.{◌≡◌, ◌∙◌, ℕ, zero, suc, ◌+◌, ◌<◌, ◌≤◌, nat_lt, nat_le, not, true, false, List, [], ◌∷◌, ◌++◌, length, take, slice_get, Some, if◌then◌else◌, refl, sym, ap, inl, inr, arith, take_all, length-append}
 use Rattle.std.proofs.lemmas.Bool.{cases_Bool}
 use Rattle.std.proofs.lemmas.Bool.Decides.{nat_tests}
-use Rattle.raft_log_model_laws.proofs.Cases.{if_false, if_true}
+use Rattle.raft_log_model_laws.proofs.Public.{if_false, if_true}
 use Rattle.raft_voter_messages.specs.declared.reply.Reply.{Reply}
 use Rattle.raft_voter_messages.specs.declared.reply.Reply.TheVariants.{Refused, Retired}
 use Rattle.raft_voter_messages.specs.declared.request.Request.{Request}
 use Rattle.raft_voter_outline.specs.Rules.{reply}
-use Rattle.raft_voter_outline.proofs.Steps.{by_test}
+use Rattle.raft_voter_outline.proofs.Public.{by_test}
 use Rattle.raft_voter.specs.Rounds.{World, after, after_one, are_rising, is_among, replies_from, taken_from}
 use Rattle.raft_voter.specs.Service.{is_refused, refused_from}
-use Rattle.raft_voter.proofs.Places.{among_before, replies_behind, taken_behind, taken_none}
+use Rattle.raft_voter.proofs.Public.{among_before, replies_behind, taken_behind, taken_none}
 use Rattle.raft_voter_durability_laws.specs.Rounds.{AreTold, took}
 use Rattle.raft_voter_durability_laws.specs.Laws.{PassedVotersTookFirst, ToldRoundsAreAnswered}
 use Rattle.raft_voter_durability_laws.proofs.Refusing.{named_refused}

@@ -2,7 +2,7 @@
 use Rattle.std.proofs.Common.{◌≡◌, ◌∙◌, ℕ, ◌+◌, ◌==◌, nat_lt, nat_le, true, false, [], refl, sym, ap, inl, inr}
 use Rattle.std.proofs.Math.Path.{fun_ext}
 use Rattle.std.proofs.lemmas.Bool.{cases_Bool}
-use Rattle.raft_log_model_laws.proofs.Cases.{from_eq_true, if_false, if_true}
+use Rattle.raft_log_model_laws.proofs.Public.{from_eq_true, if_false, if_true}
 use Rattle.raft_voter_messages.specs.declared.reply.Reply.{Reply}
 use Rattle.raft_voter_messages.specs.declared.reply.Reply.TheVariants.{Granted, Denied, Matched, Mismatch, Stale, Base, Entries, Gone, Unknown, Status as StatusReply, Retired, Refused}
 use Rattle.raft_voter_messages.specs.declared.request.Request.{Request}
@@ -10,7 +10,7 @@ use Rattle.raft_voter_messages.specs.declared.request.Request.TheVariants.{Vote,
 use Rattle.raft_voter_messages.specs.Ranges.{in_range}
 use Rattle.raft_voter_outline.specs.Rules.{agrees_at, can_compact, grants, next, next_in_range, reply, reply_in_range}
 use Rattle.raft_voter_outline.specs.State.{State, adopt_term, last_index}
-use Rattle.raft_voter_outline.proofs.Steps.{by_test}
+use Rattle.raft_voter_outline.proofs.Public.{by_test}
 use Rattle.raft_voter.specs.Rounds.{World, after_one}
 use Rattle.raft_voter.specs.Service.{is_refused}
 

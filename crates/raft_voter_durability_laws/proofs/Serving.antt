@@ -6,7 +6,7 @@ use Rattle.raft_log_model_laws.specs.Item.{Tagged}
 use Rattle.raft_log_model_laws.specs.Item.Item.{Clean}
 use Rattle.raft_log_model_laws.specs.Item.Record.{Plain}
 use Rattle.raft_log_model_laws.specs.Groups.{taken}
-use Rattle.raft_log_model_laws.proofs.Cases.{from_eq_true, if_false, if_true}
+use Rattle.raft_log_model_laws.proofs.Public.{from_eq_true, if_false, if_true}
 use Rattle.raft_log_record_frames.specs.declared.marking.Marking.{Marking}
 use Rattle.raft_log_record_frames.specs.declared.marking.Marking.TheVariants as markings
 use Rattle.raft_log_record_frames.specs.Marking.{marking_of_items}
@@ -32,8 +32,7 @@ use Rattle.raft_voter.specs.Rounds.{World, after_one}
 use Rattle.raft_voter.specs.Service.{is_refused}
 use Rattle.raft_voter_records.specs.Voters.{Means}
 use Rattle.raft_voter_records.specs.MeaningChanges.{Words, decided_items, record_in, tagged_with, write_items}
-use Rattle.raft_voter_records.proofs.Leading.{records_lead}
-use Rattle.raft_voter_records.proofs.Saying.{decided, put_of, put_unless, retire_writes}
+use Rattle.raft_voter_records.proofs.Public.{decided, put_of, put_unless, records_lead, retire_writes}
 use Rattle.raft_voter_durability_laws.specs.Standing.{AreOutlines}
 use Rattle.raft_voter_durability_laws.specs.Requests.{SaysChange, Served, StepsOutlines}
 use Rattle.raft_voter_durability_laws.specs.Laws.{IsBare, ReadRequestsAreServed, ToldRequestsAreServed, WrittenRequestsAreServed}

@@ -47,7 +47,7 @@ KeepsOrLeaves home error t V =
     Keeps home t V ⊎ ((error ≡ errors.Failed) × IsLeftWith home t.pipes.disk V)
 
 -- A log was left on disk `d`, and an open keeps its first `k` pending batches. Then the open finds voters for which `P`
--- holds, in the log's directories or in those of a fork (`there`). If it succeeds, the engine's log stores these
+-- holds, in the log's directories or in those of a fork (`there`). If the open succeeds, the engine's log stores these
 -- voters. If it fails, the log's files can be opened, again with voters for which `P` holds (`IsLeftAmong`).
 pub record OpensAmong (home : LogDirectories) (d : Disk) (P : World → Type 0) (left : IsLeftAmong home d P) (k : ℕ)
     : Type 0 where

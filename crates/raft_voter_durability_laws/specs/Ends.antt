@@ -16,7 +16,7 @@ use Rattle.raft_voter_durability_laws.specs.Rounds.{AreTold, IsPassed, IsPassedO
 
 -- A round of the requests `qs` got as far as the replies `told`. It began with engine `s` and the outlines `os`, and
 -- now has engine `t` and the outlines `us`.
--- - `said`, `silent`, `holds`: the records that it wrote, none if `wrote` is false. Some of the first ones may be
+-- - `said`, `silent`, `holds`: `said` are the round's records, none if `wrote` is false. A prefix of them may be
 --   durable.
 -- - `leads`: these records lead from the voters at the round's start to the voters after the requests taken.
 -- - `among`: if only a prefix of the records is kept, it leads to the voters after a prefix of the requests taken.
@@ -48,10 +48,10 @@ pub record Answered (home : LogDirectories) (V : World) (qs : List (ℕ × Reque
   pub outlines : AreOutlines us (after V (took qs told))
   pub tells : AreTold V qs told
 
--- A round of the requests `qs` began with engine `s` and the voters of `V`. The engine, now `t`, failed at one of them,
--- as a file system call failed. `told` has the replies to the requests before that one. Replies that aren't `Refused`
--- are the voters' own. The log's files can be opened. They store the voters after a prefix of the requests taken, or
--- after all of them and the request at which the engine failed.
+-- A round of the requests `qs` began with engine `s` and the voters of `V`. The engine, now `t`, failed at one of these
+-- requests, as a file system call failed. `told` has the replies to the requests before that one. Replies that aren't
+-- `Refused` are the voters' own. The log's files can be opened. They store the voters after a prefix of the requests
+-- taken, or after all of them and the request at which the engine failed.
 pub record GaveUp (home : LogDirectories) (V : World) (qs : List (ℕ × Request)) (told : List Reply) (s t : EngineState)
     : Type 0 where
   pub failed : has_failed t ≡ true

@@ -59,7 +59,7 @@ ReadRequestsAreServed = (q : ℕ × Request) (from to : ℕ) (es : List VoterEnt
     → IsReplyOfEach (os q.0) q.1 (answers.Entries from to) → LeavesEach (os q.0) q.1
     → ReadsEntries q.0 from to s t os es → Served q (replies.Entries es) false s t os os
 
--- An engine's tables show no entry of a group that has no item after its last Clean.
+-- If a group has no item after its last Clean, the tables of an engine show no entry of this group.
 abbrev pub EnginesAreCounted : Type 0
 EnginesAreCounted = (v : LogPipes) (tables : MemTables) (cache : BlockCache) → IsCounted (shows v tables cache)
 
@@ -72,7 +72,7 @@ FetchedEntriesAreRead M = (text : M → List ℕ) (reading : List ℕ → Option
     → FetchesTo reading q.0 from to None s t [] messages count → AreReadAs from (map text messages) es
     → ReadsEntries q.0 from to s t os es
 
--- If a fetch of the requested entries failed, they weren't read, for a reason in `WasTurnedDown`.
+-- If fetching the entries that a request asks for failed, they weren't read, for a reason in `WasTurnedDown`.
 abbrev pub UnfetchedEntriesAreUnread : Type 0 → Type 0
 UnfetchedEntriesAreUnread M = (text : M → List ℕ) (reading : List ℕ → Option M) (q : ℕ × Request)
     (from to : ℕ) (error : Error) (s t : EngineState) (os : ℕ → State) → IsRaw text reading
@@ -194,8 +194,8 @@ pub record LeftBehindRounds : Type 0 where
       → IsLeftAmong home d (TakesFirst V [] [])
 
 -- A round was cut off, and an open then finds voters that took its requests below one position, except refused ones. If
--- the open fails, a later one finds such voters too. The open may be in place, over files that no crash has touched, or
--- after a crash, or of a fork.
+-- the open fails, a later one finds such voters too. This holds for an open in place (no crash has touched the files),
+-- for an open after a crash, and for an open of a fork.
 abbrev pub OpensFindVoters : Type 0
 OpensFindVoters = (home : LogDirectories) (d : Disk) (V : World) (qs : List (ℕ × Request)) (refused : List ℕ)
     (left : IsLeftAmong home d (TakesFirst V qs refused)) (k : ℕ) → k ≤ length left.pending

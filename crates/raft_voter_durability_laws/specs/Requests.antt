@@ -72,7 +72,7 @@ IsUnwrittenFor errors.Memory s t = Unit {0}
 IsUnwrittenFor _ s t = ⊥
 
 -- Why a read of entries of group `g`, from index `from` on and below `to`, failed with `error`. The tables of engine
--- `s` show one of them, but its file can't be read, or memory ran out. No entry is reported as damaged.
+-- `s` show one of these entries, but its file can't be read, or memory ran out. No entry is reported as damaged.
 pub record WereUnread (g from to : ℕ) (s : EngineState) (error : Error) : Type 0 where
   pub index : ℕ
   pub entry : EntryIndex
@@ -89,7 +89,7 @@ pub data WasTurnedDown (q : ℕ × Request) (error : Error) (s t : EngineState) 
   unread : (from to : ℕ) → q.1 ≡ Read from to → WereUnread q.0 from to s error → WasTurnedDown q error s t
   no_memory : error ≡ errors.Memory → WasTurnedDown q error s t
 
--- Engine `s` turned request `q` down with `error`, and is `t` after it. The log's contents stay, but some of the first
+-- Engine `s` turned request `q` down with `error`, and is `t` after it. The log's contents stay, but a prefix of the
 -- pending batches may be durable now. The voters and their outlines are unchanged. `why` gives the reason if the log
 -- stores voters with the outlines `os`.
 pub record TurnedDown (q : ℕ × Request) (error : Error) (s t : EngineState) (os : ℕ → State) : Type 0 where

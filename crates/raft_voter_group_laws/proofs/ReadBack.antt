@@ -12,10 +12,8 @@ use Rattle.raft_voter_outline.specs.State.{State, entry_at, fresh}
 use Rattle.raft_voter_outline.specs.Rules.{matching, next, reply}
 use Rattle.raft_voter.specs.Accounts.{voter_after, voter_from}
 use Rattle.raft_voter.specs.Laws.{AllSpare, EntriesAreTheLog, sent_at}
-use Rattle.raft_voter.proofs.Appends.{Matches, entry_brought, entry_kept, matched_there, matches_of}
-use Rattle.raft_voter.proofs.Following.{group_runs, runs_append, voter_from-append}
-use Rattle.raft_voter.proofs.Standing.{entry_all_spared}
-use Rattle.raft_voter_outline.proofs.Indexes.{Pair}
+use Rattle.raft_voter.proofs.Public.{entry_all_spared, entry_brought, entry_kept, group_runs, matched_there, matches_of, runs_append, voter_from-append, Matches}
+use Rattle.raft_voter_outline.proofs.Public.{Pair}
 use Rattle.raft_voter_group_laws.specs.Laws.{AppendedEntryIsRead}
 use Rattle.raft_voter_group_laws.proofs.OfAccounts.{account_lists_taken_calls}
 

@@ -53,7 +53,7 @@ calls_from group replied refused cut place (q ∷ qs) =
     ∷ calls_from group replied refused cut (place + 1) qs
     else calls_from group replied refused cut (place + 1) qs
 
--- the calls of `group` in round `r`; if the round was cut off, the first of `cuts` is its cut
+-- the calls of `group` in round `r`; if the round was cut off, its requests from the first of `cuts` on weren't taken
 abbrev pub calls_in : ℕ → Round → List ℕ → List Call
 calls_in group r cuts =
     calls_from group (has_replies r.outcome) r.refused (place_reached r.outcome (length r.requests) cuts) 0 r.requests

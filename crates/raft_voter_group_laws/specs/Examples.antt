@@ -1,5 +1,5 @@
--- An example: three rounds for groups 1 and 2. A crash cut off the second round. With its cut at position 2, voters
--- explain the rounds. In the third round, one request was refused.
+-- An example: three rounds for groups 1 and 2. A crash cut off the second round. Voters explain the rounds if the
+-- second round's requests from position 2 on were lost. In the third round, one request was refused.
 use Rattle.std.specs.Prelude.{ℕ, List, [], ◌∷◌, Option, Some}
 use Rattle.raft_voter_messages.specs.declared.reply.Entry.{Entry}
 use Rattle.raft_voter_messages.specs.declared.reply.Reply.{Reply}

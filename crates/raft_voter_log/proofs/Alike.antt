@@ -19,15 +19,11 @@ use Rattle.raft_log_open.specs.Opening.{OpensDirectory}
 use Rattle.raft_log_recovery_laws.specs.Bare.{IsBare}
 use Rattle.raft_log_recovery_laws.specs.ByCalls.{home_of}
 use Rattle.raft_log_recovery_laws.specs.Opened.{HoldsFresh}
-use Rattle.raft_log_recovery_laws.proofs.Bare.{bare_directories_open}
-use Rattle.raft_log_recovery_laws.proofs.Directory.{crashed_directories_open, resting_directories_open}
-use Rattle.raft_log_recovery_laws.proofs.InPlaceOutcomes.{standing_directories_open}
-use Rattle.raft_log_recovery_laws.proofs.Running.{crashed_engines_open}
+use Rattle.raft_log_recovery_laws.proofs.Public.{bare_directories_open, crashed_directories_open, crashed_engines_open, resting_directories_open, standing_directories_open}
 use Rattle.raft_voter_outline.specs.State.{State}
 use Rattle.raft_voter.specs.Rounds.{World, fresh_world}
 use Rattle.raft_voter_records.specs.Voters.{Means}
-use Rattle.raft_voter_records.proofs.Leading.{empty_maps_are_fresh}
-use Rattle.raft_voter_records.proofs.Owning.{one_world}
+use Rattle.raft_voter_records.proofs.Public.{empty_maps_are_fresh, one_world}
 use Rattle.raft_voter_durability_laws.specs.Standing.{AreOutlines}
 use Rattle.raft_voter_store.specs.Opening.{OpensVoters}
 use Rattle.raft_voter_log.specs.StoreWorkers.{AreAlike, WorkersOpenAlike}

@@ -13,11 +13,7 @@ use Rattle.raft_log_recovery_laws.specs.Bare.{IsBare}
 use Rattle.raft_log_recovery_laws.specs.ByCalls.{home_of}
 use Rattle.raft_log_recovery_laws.specs.Closed.{AsksNothing}
 use Rattle.raft_log_recovery_laws.specs.ForkLeaving.{EndsFork, LeavesSource}
-use Rattle.raft_log_recovery_laws.proofs.ClosedFiles.{rests_then}
-use Rattle.raft_log_recovery_laws.proofs.ClosingLog.{closed_sound}
-use Rattle.raft_log_recovery_laws.proofs.Leaving.{forks_leave_the_source}
-use Rattle.raft_log_recovery_laws.proofs.ProperCloses.{closes_in_order, undisturbed_closes_are_proper}
-use Rattle.raft_log_recovery_laws.proofs.RestingFiles.{resting_logs_ask_nothing}
+use Rattle.raft_log_recovery_laws.proofs.Public.{closed_sound, closes_in_order, forks_leave_the_source, resting_logs_ask_nothing, rests_then, undisturbed_closes_are_proper}
 use Rattle.raft_voter.specs.Rounds.{World, fresh_world}
 use Rattle.raft_voter.specs.Service.{CutRound, MayFollow, uncut}
 use Rattle.raft_voter_records.specs.Voters.{Means}

@@ -6,28 +6,25 @@ use Rattle.raft_log_model_laws.specs.Groups.{taken}
 use Rattle.raft_log_fs.specs.Disk.{Disk as OnDisk, File, at_rest, empty_disk}
 use Rattle.raft_log_fs.specs.Exits.{Arms, denied_by}
 use Rattle.raft_log_fs.specs.Image.{IsFileImage, IsImage, IsLeft, IsSound}
-use Rattle.raft_log_fs.proofs.ImageLaws.{disk_ext, only_at_rest}
+use Rattle.raft_log_fs.proofs.Public.{disk_ext, only_at_rest}
 use Rattle.raft_log_fs_memory.specs.Memory.{disk_of}
 use Rattle.raft_log_fs_memory.specs.declared.memory.MemoryFileSystem.{MemoryFileSystem}
 use Rattle.raft_log_file_settings.specs.declared.config.Config.{Config}
 use Rattle.raft_log_dual_pipes.specs.OpenOrClosed.{none_open}
-use Rattle.raft_log_dual_pipes.proofs.OnDiskLaws.{logs_go_on_disks}
+use Rattle.raft_log_dual_pipes.proofs.Public.{logs_go_on_disks}
 use Rattle.raft_voter_durability_laws.specs.raft_log_engine_laws.specs.raft_log_dual_pipes.specs.OnDisk.{IsDurableAs}
 use Rattle.raft_voter_durability_laws.specs.raft_log_engine_laws.specs.raft_log_dual_pipes.specs.Pipes.{LogRecordValue}
 use Rattle.raft_voter_durability_laws.specs.raft_log_engine_laws.specs.Holding.{Represents, IsRecoverableAs}
 use Rattle.raft_voter_durability_laws.specs.raft_log_engine_laws.specs.EngineState.{LogDirectories, LogMap, EngineState, has_failed, log_in}
-use Rattle.raft_voter_durability_laws.specs.raft_log_engine_laws.proofs.OpenOrClosed.{closed_engines_are_left}
+use Rattle.raft_voter_durability_laws.specs.raft_log_engine_laws.proofs.Public.{closed_engines_are_left}
 use Rattle.raft_log_recovery_laws.specs.Bare.{IsBare}
 use Rattle.raft_log_recovery_laws.specs.ByCalls.{home_of}
 use Rattle.raft_log_recovery_laws.specs.ForkLeaving.{EndsFork, LeavesSource}
-use Rattle.raft_log_recovery_laws.proofs.ByCalls.{two_queues}
-use Rattle.raft_log_recovery_laws.proofs.Left.{crashed_logs_rest}
-use Rattle.raft_log_recovery_laws.proofs.Leaving.{forks_leave_the_source}
-use Rattle.raft_log_recovery_laws.proofs.Running.{crashed_engines_open}
+use Rattle.raft_log_recovery_laws.proofs.Public.{crashed_engines_open, crashed_logs_rest, forks_leave_the_source, two_queues}
 use Rattle.raft_voter.specs.Rounds.{fresh_world}
 use Rattle.raft_voter.specs.Service.{CutRound, MayFollow, uncut}
 use Rattle.raft_voter_durability_laws.specs.Standing.{IsLeftAmong}
-use Rattle.raft_voter_durability_laws.proofs.Keeping.{left_alone}
+use Rattle.raft_voter_durability_laws.proofs.Public.{left_alone}
 use Rattle.raft_voter_store.specs.Service.{LeavesAt}
 use Rattle.raft_voter_store.specs.Service.LeavesAt.{left as is_left, running}
 use Rattle.raft_voter_world.specs.declared.faults.Fault.{Fault}

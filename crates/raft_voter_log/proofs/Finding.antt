@@ -12,25 +12,21 @@ use Rattle.raft_voter_durability_laws.specs.raft_log_engine_laws.specs.raft_log_
 use Rattle.raft_voter_durability_laws.specs.raft_log_engine_laws.specs.raft_log_dual_pipes.specs.Pipes.{LogPipes, LogRecordValue}
 use Rattle.raft_voter_durability_laws.specs.raft_log_engine_laws.specs.Holding.{Represents, IsRecoverableAs}
 use Rattle.raft_voter_durability_laws.specs.raft_log_engine_laws.specs.EngineState.{LogDirectories, LogMap, EngineState, has_failed}
-use Rattle.raft_voter_durability_laws.specs.raft_log_engine_laws.proofs.OpenOrClosed.{closed_engines_are_left}
+use Rattle.raft_voter_durability_laws.specs.raft_log_engine_laws.proofs.Public.{closed_engines_are_left}
 use Rattle.raft_log_recovery_laws.specs.raft_log_open.specs.Opening.{FailsToOpenDirectory, OpensDirectory}
 use Rattle.raft_log_recovery_laws.specs.Bare.{IsBare, OpensFirst}
 use Rattle.raft_log_recovery_laws.specs.ByCalls.{ForAllNaming, home_of}
 use Rattle.raft_log_recovery_laws.specs.Directory.{OpensAs}
 use Rattle.raft_log_recovery_laws.specs.InPlace.{IsLeftEither, OpensStanding}
 use Rattle.raft_log_recovery_laws.specs.Opened.{HoldsFresh}
-use Rattle.raft_log_recovery_laws.proofs.Bare.{bare_directories_open}
-use Rattle.raft_log_recovery_laws.proofs.Directory.{crashed_directories_open, resting_directories_open}
-use Rattle.raft_log_recovery_laws.proofs.InPlaceOutcomes.{standing_directories_open}
-use Rattle.raft_log_recovery_laws.proofs.Running.{crashed_engines_open}
+use Rattle.raft_log_recovery_laws.proofs.Public.{bare_directories_open, crashed_directories_open, crashed_engines_open, resting_directories_open, standing_directories_open}
 use Rattle.raft_voter_outline.specs.State.{State}
 use Rattle.raft_voter.specs.Rounds.{World, fresh_world}
 use Rattle.raft_voter.specs.Service.{CutRound, MayFollow}
 use Rattle.raft_voter_records.specs.Voters.{Means}
-use Rattle.raft_voter_records.proofs.Leading.{empty_maps_are_fresh}
-use Rattle.raft_voter_records.proofs.Owning.{one_world}
+use Rattle.raft_voter_records.proofs.Public.{empty_maps_are_fresh, one_world}
 use Rattle.raft_voter_durability_laws.specs.Standing.{AreOutlines, IsLeftAmong, IsLeftWith, Keeps}
-use Rattle.raft_voter_durability_laws.proofs.Keeping.{left_alone}
+use Rattle.raft_voter_durability_laws.proofs.Public.{left_alone}
 use Rattle.raft_voter_recovery.specs.Reading.{cause_of}
 use Rattle.raft_voter_recovery.specs.declared.unread.Unread.{Unread}
 use Rattle.raft_voter_recovery.specs.declared.unread.Unread.TheVariants as causes

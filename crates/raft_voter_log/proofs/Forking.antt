@@ -11,9 +11,7 @@ use Rattle.raft_log_offline.specs.Forks.FailsToFork.{refused, homeless, cut_shor
 use Rattle.raft_log_recovery_laws.specs.ForkLeaving.{EndsFork}
 use Rattle.raft_log_recovery_laws.specs.ForkLeaving.EndsFork.{answered}
 use Rattle.raft_log_recovery_laws.specs.ForkLeaving.EndsFork.{refused as unforked}
-use Rattle.raft_log_recovery_laws.proofs.ForkLeft.{left_logs_show_alike}
-use Rattle.raft_log_recovery_laws.proofs.Leaving.{forks_leave_the_source}
-use Rattle.raft_log_recovery_laws.proofs.Opening.{forks_open_as_their_source}
+use Rattle.raft_log_recovery_laws.proofs.Public.{forks_leave_the_source, forks_open_as_their_source, left_logs_show_alike}
 use Rattle.raft_voter_log.specs.Forking.{ForkedVotersAreFound, ForksLeaveVoters, LeftVotersAreCopied, OwnDirectoriesGetNoCopy}
 use Rattle.raft_voter_log.proofs.Finding.{found_as, standing_found}
 

@@ -18,18 +18,18 @@ use Rattle.raft_log_record_items.specs.Items.{put_item}
 use Rattle.raft_log_record_items.specs.Placed.{laid_run}
 use Rattle.raft_log_record_frames.specs.Marking.{mark_key, mark_value}
 use Rattle.raft_log_record_batches.specs.Entries.{bytes_len, entries_items, entries_of}
-use Rattle.raft_log_record_batches.proofs.Entries.{joined-length}
+use Rattle.raft_log_record_batches.proofs.Public.{joined-length}
 use Rattle.raft_voter_durability_laws.specs.raft_log_engine_laws.specs.EngineState.{LogMap}
 use Rattle.raft_log_purge_copy.specs.Entries.{AreEntryBytes}
 use Rattle.raft_log_purge_copy.specs.Lengths.{AreOnePiece, AreValuesIn, HasLongGroup, IsOneMark}
 use Rattle.raft_voter_messages.specs.declared.reply.VoterState.{VoterState}
 use Rattle.raft_voter_messages.specs.Ranges.{entry_fits, fits}
 use Rattle.raft_voter_messages.specs.StoredForms.{SpellsState, head_text, number_text, vote_text}
-use Rattle.raft_voter_messages.proofs.Bytes.{length-entry_text, length-head_text, length-number_text, length-vote_text}
+use Rattle.raft_voter_messages.proofs.Public.{length-entry_text, length-head_text, length-number_text, length-vote_text}
 use Rattle.raft_voter_outline.specs.State.{State, entry_at}
 use Rattle.raft_voter.specs.Rounds.{World}
 use Rattle.raft_voter_records.specs.Voters.{Group, IsVoter, Means, stored_entry, voter_key}
-use Rattle.raft_voter_records.proofs.Short.{block_short, item_room, items_short, length-laid_run, put_short, run_short}
+use Rattle.raft_voter_records.proofs.Public.{block_short, item_room, items_short, length-laid_run, put_short, run_short}
 
 -- A voter's entries.
 

@@ -1,3 +1,4 @@
+pub mod Public
 pub mod Alike
 pub mod Arming
 pub mod Causing
@@ -17,5 +18,6 @@ mod Refusing
 pub mod Resting
 pub mod RunsPurging
 pub mod Standing
+pub mod States
 mod UsedFiles
 pub mod Walking

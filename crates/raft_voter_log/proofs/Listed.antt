@@ -11,7 +11,7 @@ use Rattle.raft_log_record_frames.specs.Key.{is_internal}
 use Rattle.raft_voter_durability_laws.specs.raft_log_engine_laws.specs.EngineState.{LogMap}
 use Rattle.raft_voter_outline.specs.State.{State}
 use Rattle.raft_voter_records.specs.Voters.{Group, HoldsVoter, IsVoid, IsVoter, voter_key}
-use Rattle.raft_voter_records.proofs.Owning.{holders_same, one_world}
+use Rattle.raft_voter_records.proofs.Public.{holders_same, one_world}
 use Rattle.raft_voter_recovery.specs.Reading.{HoldEach, StoresVoters, world_in}
 use Rattle.raft_voter_log.specs.Kept.{KeptVotersAreTold, VotersHaveNoOwnKey}
 

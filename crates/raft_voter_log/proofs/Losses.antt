@@ -5,8 +5,7 @@ use Rattle.raft_log_model_laws.specs.Groups.{taken}
 use Rattle.raft_log_fs.specs.Disk.{Disk, File, zeros}
 use Rattle.raft_log_file_writer.specs.LawsChains.{IsSelfDelimiting, LiesIn, Meets, Reads, Refuses, Written, spelled}
 use Rattle.raft_log_file_writer.specs.LogFormat.{Format, HasHeader, IsFormat}
-use Rattle.raft_log_file_writer.proofs.LawsChainLaws.{frame_filled, frames_append, lies_in_more, reads_further, spelled-append}
-use Rattle.raft_log_file_writer.proofs.KeepsSyncedLaws.{record_lies, take_over}
+use Rattle.raft_log_file_writer.proofs.Public.{frame_filled, frames_append, lies_in_more, reads_further, record_lies, spelled-append, take_over}
 use Rattle.raft_log_file_pipe.specs.declared.pipe_files.PipeFiles.{PipeFiles}
 use Rattle.raft_log_record_base.specs.declared.pipe_log.LogQueue.{LogQueue}
 use Rattle.raft_log_record_base.specs.declared.pipe_log.LogQueue.TheVariants.{Append, Rewrite}
@@ -18,9 +17,9 @@ use Rattle.raft_voter_durability_laws.specs.raft_log_engine_laws.specs.raft_log_
 use Rattle.raft_voter_durability_laws.specs.raft_log_engine_laws.specs.raft_log_dual_pipes.specs.State.{RunsQueue, Spanned}
 use Rattle.raft_voter_durability_laws.specs.raft_log_engine_laws.specs.EngineState.{LogMap, log_in}
 use Rattle.raft_log_recovery_laws.specs.Running.{LeavesOwnAlone, MeetsOwnAlone, active_header, own_bytes}
-use Rattle.raft_log_recovery_laws.proofs.Running.{crashed_engines_open}
+use Rattle.raft_log_recovery_laws.proofs.Public.{crashed_engines_open}
 use Rattle.raft_voter_records.specs.Voters.{Means}
-use Rattle.raft_voter_records.proofs.Pending.{taken_in_two}
+use Rattle.raft_voter_records.proofs.Public.{taken_in_two}
 use Rattle.raft_voter_log.proofs.Finding.{crashed_stores_are_found, found_as}
 use Rattle.raft_voter_log.specs.Chance.{ForeignRecordsAreChance, HasForeign, IsOwnFrame, IsTorn, IsWhole, LeavesForeign, LosesOwn, LossesAreFound, LossesInRoundsAreFound, LossesLeaveNoChance, ZerosBeginNoRecord}
 

@@ -22,7 +22,7 @@ use Rattle.raft_voter_log.specs.Opens.{ServesFound}
 use Rattle.raft_voter_log.proofs.Finding.{first_opens_are_fresh, left_voters_are_found, resting_voters_are_found}
 use Rattle.raft_voter_store.specs.Opening.{FailsToOpenVoters, OpensVoters}
 use Rattle.raft_voter_store.specs.Service.{service_in}
-use Rattle.raft_voter_store.proofs.Serving.{open_in}
+use Rattle.raft_voter_store.proofs.Public.{open_in}
 use Rattle.raft_voter_world.specs.Stores.{FindsVoters}
 use Rattle.raft_voter_log.specs.declared.files.LogFiles.{LogFiles}
 use Rattle.raft_voter_log.specs.Causes.{cause_of, unread_cause}

@@ -10,19 +10,17 @@ use Rattle.raft_log_engine.specs.raft_log_engine_core.specs.declared.engine.LogE
 use Rattle.raft_log_purge.specs.Append.{FailsToRewriteAppend}
 use Rattle.raft_voter_outline.specs.State.{State}
 use Rattle.raft_voter.specs.Rounds.{World}
-use Rattle.raft_voter.specs.declared.service.Cause.{Cause}
 use Rattle.raft_voter.specs.Service.{CutRound, IsOpenAt, MayFollow, uncut}
 use Rattle.raft_voter_durability_laws.specs.Calls.{KeepsOrLeaves}
 use Rattle.raft_voter_durability_laws.specs.Standing.{AreOutlines, IsLeftAmong, Keeps}
-use Rattle.raft_voter_durability_laws.proofs.Ending.{left_behind_rounds}
+use Rattle.raft_voter_durability_laws.proofs.Public.{left_behind_rounds}
 use Rattle.raft_voter_store.specs.Service.{LeavesAt, service_in}
 use Rattle.raft_voter_store.specs.Service.LeavesAt.{left, running}
 use Rattle.raft_voter_store.specs.Upkeep.{KeepsOrLeavesVoters, KeepsVoters}
-use Rattle.raft_voter_store.proofs.Serving.{open_in}
+use Rattle.raft_voter_store.proofs.Public.{open_in}
 use Rattle.raft_voter_world.specs.Stores.{KeepsVoters as KeepsServed}
 use Rattle.raft_voter_world.specs.declared.faults.Purge.{Purge}
-use Rattle.raft_voter_log.specs.Causes.{purge_cause}
-use Rattle.raft_voter_log.specs.Instance.{PurgesLog, RefusesLogPurge, StopsPurgeAs}
+use Rattle.raft_voter_log.specs.Instance.{PurgesLog}
 
 -- why a purge is refused: the engine had failed; or it hadn't, and it tells whether it has now
 abbrev pub IsPurgeRefusal : Error → EngineState → EngineState → Type 0
@@ -86,7 +84,3 @@ module _ {S : Type 0} (home : S → LogDirectories) (shows : S → EngineState) 
 pub purged_as :
     {P : Type 0} (held : LogPipes → Option ℕ → Type 0) (purge kind : Purge) (a b : LogEngine P) (s t : EngineState) → purge ≡ kind → PurgesLog held kind a b s t → PurgesLog held purge a b s t
 purged_as held purge kind a b s t is purged = subst (λ (p : Purge). PurgesLog held p a b s t) (sym is) purged
-
--- a purge was refused, and is told so
-pub refused_as : (purge kind : Purge) (cause : Cause) (error : Error) (s t : EngineState) → purge ≡ kind → cause ≡ purge_cause (has_failed s) error → StopsPurgeAs kind s t error → RefusesLogPurge purge cause s t
-refused_as purge kind cause error s t is told why = subst (λ (p : Purge). RefusesLogPurge p cause s t) (sym is) (error, told, why)

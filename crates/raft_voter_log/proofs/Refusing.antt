@@ -3,8 +3,7 @@ use Rattle.std.proofs.Common.{◌≡◌, Bool, subst}
 use Rattle.raft_voter.specs.Service.{Service}
 use Rattle.raft_voter_plain.specs.Store.{plain_voters, refused_by}
 use Rattle.raft_voter_world.specs.LawsAlike.{AnswersAsModel, AnswersTakenAsModel, RefusesOutOfRange}
-use Rattle.raft_voter_world.proofs.Beside.{stores_answer_as_models}
-use Rattle.raft_voter_world.proofs.Rest.{stores_answer_taken_as_models}
+use Rattle.raft_voter_world.proofs.Public.{stores_answer_as_models, stores_answer_taken_as_models}
 
 -- while they haven't failed
 plain_refuses : RefusesOutOfRange plain_voters

@@ -8,7 +8,7 @@ use Rattle.raft_log_fs.specs.Image.{IsImage}
 use Rattle.raft_log_fs_memory.specs.Answers.{IsLeftOf}
 use Rattle.raft_log_fs_memory.specs.Memory.{disk_of, unsynced}
 use Rattle.raft_log_fs_memory.specs.declared.memory.MemoryFileSystem.{MemoryFileSystem}
-use Rattle.raft_log_fs_memory.specs.raft_log_fs_state.proofs.RemainsLaws.{left_is_image}
+use Rattle.raft_log_fs_memory.specs.raft_log_fs_state.proofs.Public.{left_is_image}
 use Rattle.raft_log_fs_memory.specs.raft_log_fs_state.specs.Left.{left_disk}
 use Rattle.raft_log_fs_memory.specs.raft_log_fs_state.specs.declared.remainder.Remainder.{Remainder}
 use Rattle.raft_log_file_settings.specs.declared.config.Config.{Config}
@@ -17,7 +17,7 @@ use Rattle.raft_voter_durability_laws.specs.raft_log_engine_laws.specs.raft_log_
 use Rattle.raft_voter_durability_laws.specs.raft_log_engine_laws.specs.EngineState.{LogDirectories, EngineState, has_failed, log_in}
 use Rattle.raft_log_recovery_laws.specs.ByCalls.{home_of}
 use Rattle.raft_log_recovery_laws.specs.Running.{LeavesNoChance}
-use Rattle.raft_log_recovery_laws.proofs.Running.{crashed_engines_open}
+use Rattle.raft_log_recovery_laws.proofs.Public.{crashed_engines_open}
 use Rattle.raft_voter.specs.Rounds.{World}
 use Rattle.raft_voter.specs.Service.{CutRound, uncut}
 use Rattle.raft_voter_durability_laws.specs.Standing.{Keeps}

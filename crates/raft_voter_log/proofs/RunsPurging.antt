@@ -8,7 +8,7 @@ use Rattle.raft_log_record_base.specs.declared.errors.Error.TheVariants as error
 use Rattle.raft_voter_durability_laws.specs.raft_log_engine_laws.specs.Settled.{HoldsSettled}
 use Rattle.raft_voter_durability_laws.specs.raft_log_engine_laws.specs.raft_log_dual_pipes.specs.Pipes.{LogPipes}
 use Rattle.raft_voter_durability_laws.specs.raft_log_engine_laws.specs.EngineState.{LogDirectories, EngineState, has_failed}
-use Rattle.raft_voter_durability_laws.specs.raft_log_engine_laws.proofs.Settling.{settled_held}
+use Rattle.raft_voter_durability_laws.specs.raft_log_engine_laws.proofs.Public.{settled_held}
 use Rattle.raft_log_engine.specs.raft_log_engine_core.specs.declared.engine.LogEngine.{LogEngine}
 use Rattle.raft_log_recovery_laws.specs.ByCalls.{home_of}
 use Rattle.raft_voter_outline.specs.State.{State}
@@ -18,7 +18,7 @@ use Rattle.raft_voter.specs.declared.service.Cause.{Cause}
 use Rattle.raft_voter.specs.declared.service.Cause.TheVariants.{FileSystem, Memory, Failed, TooLong}
 use Rattle.raft_voter_durability_laws.specs.Calls.{KeepsOrLeaves}
 use Rattle.raft_voter_durability_laws.specs.Standing.{IsLeftWith, Keeps}
-use Rattle.raft_voter_durability_laws.proofs.Keeping.{purges_keep_voters}
+use Rattle.raft_voter_durability_laws.proofs.Public.{purges_keep_voters}
 use Rattle.raft_voter_store.specs.Service.{service_in}
 use Rattle.raft_voter_world.specs.declared.faults.Purge.{Purge}
 use Rattle.raft_voter_world.specs.declared.faults.Purge.TheVariants.{Expired, RewriteAppend, RewriteRewrite}
@@ -29,8 +29,7 @@ use Rattle.raft_voter_world.specs.History.Change.{purges}
 use Rattle.raft_voter_world.specs.History.Moment.{kept}
 use Rattle.raft_voter_world.specs.Stores.{Disk, Upkeep}
 use Rattle.raft_voter_world.specs.Causes.{IsOfRun, WasPurged}
-use Rattle.raft_voter_world.proofs.Serves.{stores_of_runs_serve}
-use Rattle.raft_voter_world.proofs.Told.{each_purge_has_its_cause}
+use Rattle.raft_voter_world.proofs.Public.{each_purge_has_its_cause, stores_of_runs_serve}
 use Rattle.raft_voter_log.specs.Causes.{cause_of, purge_cause}
 use Rattle.raft_voter_log.specs.Instance.{PurgesLog, StopsPurgeAs, log_upkeep}
 use Rattle.raft_voter_log.specs.StoreCauses.{StopsPurge, VotersHaveReason}

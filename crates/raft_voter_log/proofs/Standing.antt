@@ -11,7 +11,6 @@ use Rattle.raft_log_engine.specs.raft_log_engine_core.specs.Whole.{ArmsEngine}
 use Rattle.raft_voter_outline.specs.State.{State}
 use Rattle.raft_voter.specs.Rounds.{World}
 use Rattle.raft_voter.specs.Service.{CutRound, MayFollow}
-use Rattle.raft_voter_records.proofs.Owning.{one_world}
 use Rattle.raft_voter_durability_laws.specs.Standing.{AreOutlines, IsLeftAmong, Keeps}
 use Rattle.raft_voter_recovery.specs.Reading.{ListsVoters}
 use Rattle.raft_voter_store.specs.Service.{LeavesAt, service_in}
@@ -21,6 +20,7 @@ use Rattle.raft_voter_world.specs.declared.faults.Fault.TheVariants.{Refuse, Sto
 use Rattle.raft_voter_world.specs.Stores.{StaysAsItWas, TellsVoters}
 use Rattle.raft_voter_log.specs.Faults.{fault_of}
 use Rattle.raft_voter_log.specs.Instance.{ArmsStore}
+use Rattle.raft_voter_log.proofs.Listed.{kept_voters_are_told}
 
 -- what three clauses say of a refusal
 pub of_refusals : {X E : Type 0} (r : Result X E) (P Q T R : E → Type 0) → ((e : E) → P e → Q e → T e → R e) → IfErr r P → IfErr r Q → IfErr r T → IfErr r R
@@ -93,13 +93,7 @@ module _ {S : Type 0} (home : S → LogDirectories) (shows : S → EngineState) 
 
   -- the voters that are listed are those that are served
   pub tells_voters : (store : S) (voters : List (ℕ × State)) → ListsVoters (shows store) voters → TellsVoters (service_in home shows outlines) store voters
-  tells_voters store voters lists W at =
-      let keeps = at.serves.0 in
-      one_world keeps.map W _ keeps.means (lists.stored (home store) keeps.map keeps.holds).means
-
--- a stop that isn't one stays so
-pub still_stopped : (s t : EngineState) → StaysButBlock s t → t.pipes.disk.stopped ≡ s.pipes.disk.stopped
-still_stopped s t stays = ap (λ (x : EngineState). x.pipes.disk.stopped) stays.same
+  tells_voters store voters lists W at = sym (kept_voters_are_told (home store) (shows store) W voters at.serves.0 lists)
 
 pub armed_stopped : (fault : Fault) (f : DiskFault) (s t : EngineState) → f ≡ fault_of fault → ArmsEngine f s t → t.pipes.disk.stopped ≡ s.pipes.disk.stopped
 armed_stopped fault f s t is arms = ap (λ (x : EngineState). x.pipes.disk.stopped) (arms_nothing fault s t (subst (λ (x : DiskFault). ArmsEngine x s t) is arms))

@@ -14,8 +14,7 @@ use Rattle.raft_log_file_pipe.specs.declared.pipe_files.PipeFiles.{PipeFiles}
 use Rattle.raft_log_record_base.specs.declared.pipe_log.LogQueue.{LogQueue}
 use Rattle.raft_log_record_base.specs.declared.pipe_log.LogQueue.TheVariants.{Append, Rewrite}
 use Rattle.raft_log_dual_pipes.specs.LastFiles.{EndsThere, KeepsOwn}
-use Rattle.raft_log_dual_pipes.proofs.LastFiles.{behind_is, blank_ends, content_is}
-use Rattle.raft_log_dual_pipes.proofs.Rotations.{calls_leave_room, used_files_meet_the_premise}
+use Rattle.raft_log_dual_pipes.proofs.Public.{at_log, behind_is, blank_ends, calls_leave_room, content_is, used_files_meet_the_premise}
 use Rattle.raft_log_machine_laws.specs.Calls.Which.{InAppend, InRewrite}
 use Rattle.raft_voter_durability_laws.specs.raft_log_engine_laws.specs.raft_log_active_file.specs.declared.record.LogRecord.{LogRecord}
 use Rattle.raft_voter_durability_laws.specs.raft_log_engine_laws.specs.raft_log_active_file.specs.QueueFiles.{log_format, log_paths}
@@ -23,7 +22,6 @@ use Rattle.raft_voter_durability_laws.specs.raft_log_engine_laws.specs.raft_log_
 use Rattle.raft_log_active_file.specs.Layout.{FilePaths}
 use Rattle.raft_log_active_file.specs.Queue.{whole, with_room}
 use Rattle.raft_voter_durability_laws.specs.raft_log_engine_laws.specs.raft_log_dual_pipes.specs.State.{RunsQueue}
-use Rattle.raft_voter_durability_laws.specs.raft_log_engine_laws.specs.raft_log_dual_pipes.proofs.Pairing.{at_log}
 use Rattle.raft_voter_durability_laws.specs.raft_log_engine_laws.specs.EngineState.{log_in, sense}
 use Rattle.raft_log_recovery_laws.specs.Running.{active_header, own_bytes}
 use Rattle.raft_voter_log.specs.Chance.{IsOwnFrame, LosesOwn}

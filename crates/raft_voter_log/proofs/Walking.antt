@@ -20,9 +20,7 @@ use Rattle.raft_voter_world.specs.History.Moment.{opened, crashed, kept, answere
 use Rattle.raft_voter_world.specs.Run.{EndsWell, Knows, moments_of}
 use Rattle.raft_voter_world.specs.Stores.{Disk, Upkeep}
 use Rattle.raft_voter_world.specs.Readers.{GoesBy}
-use Rattle.raft_voter_world.proofs.Believed.{runs_go_by}
-use Rattle.raft_voter_world.proofs.Serves.{serve_first}
-use Rattle.raft_voter_world.proofs.Told.{run_happened}
+use Rattle.raft_voter_world.proofs.Public.{run_happened, runs_go_by, serve_first}
 use Rattle.raft_voter_log.specs.declared.files.LogFiles.{LogFiles}
 use Rattle.raft_voter_log.specs.Instance.{log_disk}
 use Rattle.raft_voter_log.specs.Leaving.FilesLeave.{bare}

@@ -1,6 +1,6 @@
--- Crashes of a running engine, by the bytes that they leave in its active files. Some images have no CRC collision, and
--- some have one. `disk` gives the disk of a file system's state, and `tells` which sizes it may return as a directory's
--- free space.
+-- Crashes of a running engine, by the bytes that they leave in its active files. The laws name crash images that have
+-- no CRC collision, and some that have one. `disk` gives the disk of a file system's state. `tells` says which sizes
+-- the file system may return as a directory's free space.
 use Rattle.std.specs.Prelude.{◌≡◌, ◌⊎◌, ◌+◌, ℕ, Bool, Some, List, ◌++◌, length, take}
 use Rattle.raft_log_fs.specs.Disk.{Disk, File, zeros}
 use Rattle.raft_log_fs.specs.Image.{IsImage, IsSound}
@@ -31,14 +31,14 @@ use Rattle.raft_voter_log.specs.Opens.{FindsVoters}
 abbrev pub IsOwnFrame : Format LogRecord → PipeFiles → List ℕ → LogRecord → Type 0
 IsOwnFrame F files = F.IsFrame files.active.seq (active_header files)
 
--- `bytes` are the header of the active file, then the first `kept` bytes that the pipe wrote after it; the last record
--- may be torn
+-- `bytes` are the header of the active file, then the first `kept` bytes that the pipe wrote after the header; the last
+-- record may be torn
 abbrev pub IsTorn : PipeFiles → File → List ℕ → Type 0
 IsTorn files file bytes = (kept : ℕ) × (bytes ≡ active_header files ++ take kept (own_bytes files file))
 
 -- `bytes` are the header of the active file, then a prefix of the records that the pipe wrote, each whole. The bytes
--- after them don't begin with a record of the file. For example, they are zeros, from space that was allocated ahead of
--- a write.
+-- after these records don't begin with a record of the file. For example, these bytes are zeros, from space that was
+-- allocated ahead of a write.
 pub record IsWhole (F : Format LogRecord) (files : PipeFiles) (file : File) (bytes : List ℕ) : Type 0 where
   pub kept : List (Written LogRecord)
   pub lost : List ℕ
@@ -72,15 +72,16 @@ LossesLeaveNoChance = (home : LogDirectories) (e : EngineState) (m : LogMap) (pe
     → (image : Disk) → LosesWrites home e.pipes image → LeavesNoChance home e.pipes image
 
 -- If a crash of a store between calls only lost writes, an open of the image `old` finds the voters that the log
--- stored. All settings that name the directories find them.
+-- stored. This is true for all settings that name the directories.
 abbrev pub LossesAreFound : {F : Type 0} → (F → Disk) → (F → List ℕ → ℕ → Type 0) → Type 0
 LossesAreFound {F} disk tells = (home : LogDirectories) (e : EngineState) (W : World) → Keeps home e W → (old : F)
     → IsSound (disk old) → IsImage e.pipes.disk (disk old) → LosesWrites home e.pipes (disk old)
     → ForAllNaming home (λ config. FindsVoters disk tells config old W (λ X. X ≡ W))
 
--- A store crashed during a round, in state `t`, after the requests with the replies `told`, and the crash only lost
--- writes. Then an open of the image `old` finds the voters after a prefix of these requests. They are the same for all
--- settings that name the directories. The round began in state `s`, with voters `V`.
+-- Suppose a round began in state `s`, with the voters of `V`. The store crashed during the round, in state `t`, after
+-- it had served the requests with the replies `told`, and the crash only lost writes. Then an open of the image `old`
+-- finds the voters after a prefix of these requests. These voters are the same for all settings that name the
+-- directories.
 abbrev pub LossesInRoundsAreFound : {F : Type 0} → (F → Disk) → (F → List ℕ → ℕ → Type 0) → Type 0
 LossesInRoundsAreFound {F} disk tells = (home : LogDirectories) (V : World) (requests : List (ℕ × Request)) (told : List Reply)
     (wrote : Bool) (s t : EngineState) (os us : ℕ → State) → Keeps home s V → AreOutlines os V
@@ -91,8 +92,8 @@ LossesInRoundsAreFound {F} disk tells = (home : LogDirectories) (V : World) (req
 
 -- Chosen bytes.
 
--- `bytes` are the header of the active file, all records that the pipe wrote after it, another record of this file, and
--- maybe more bytes. That other record wasn't passed to an unsynced write at its offset.
+-- `bytes` are the header of the active file, all records that the pipe wrote after the header, another record of this
+-- file, and maybe more bytes. No unsynced write was asked to write that other record at its offset.
 pub record HasForeign (F : Format LogRecord) (files : PipeFiles) (file : File) (bytes : List ℕ) : Type 0 where
   pub own : List (Written LogRecord)
   pub frames : AreFrames (IsOwnFrame F files) own

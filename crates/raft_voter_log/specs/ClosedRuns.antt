@@ -1,7 +1,7 @@
 -- Runs in which stores are closed and opened again, and closed logs are copied. Two events need no premise on CRC
--- collisions: a close in which no file call fails, and a crash of a running store that only loses writes. `v`, `u` and
--- `d` say what the store promises: of its rounds, of its purges and armed faults, and of its files. `config` gives an
--- open store's settings, and `shows` its engine's state.
+-- collisions: a close in which no file call fails, and a crash of a running store that only loses writes. `v` says what
+-- the store promises of its rounds, `u` what it promises of purges and armed faults, and `d` what it promises of its
+-- files. `config` gives an open store's settings, and `shows` the state of its engine.
 use Rattle.std.specs.Prelude.{◌≡◌, false, List, [], ◌∷◌, ◌++◌}
 use Rattle.raft_log_fs.specs.Causes.{Fails}
 use Rattle.raft_log_fs.specs.Disk.{Disk as OnDisk}
@@ -29,10 +29,12 @@ pub record ClosesUndisturbed (s : EngineState) (d : OnDisk) : Type 0 where
   pub runs : has_failed s ≡ false
   pub calm : Fails s.pipes.disk d → ⊥
 
--- In these moments stores are opened, serve rounds, are purged, have faults armed under them, are closed, and crash.
--- Each open succeeds, and its voters are read. Each close is undisturbed, except that the last moment may be any close.
--- A crash under a store is one of a running store, and only loses writes. While no store is open, rounds are idle, and
--- there may be armed faults, copies and any crashes.
+-- What may happen in these moments, the events of a run with their results:
+-- - Stores are opened, serve rounds, are purged, have faults armed under them, are closed, and crash.
+-- - Each open succeeds, and its voters are read.
+-- - Each close is undisturbed (`ClosesUndisturbed`). Only the last moment may be any close.
+-- - A crash under an open store finds a store that hasn't failed, and only loses writes.
+-- - While no store is open, faults may be armed, the log copied, and any crash happen. Each round is cut off.
 abbrev pub ClosesOrLoses : {S : Type 0} → (S → Config) → (S → EngineState) → Storage S LogFiles
     → List (Moment S LogFiles) → Type 0
 ClosesOrLoses config shows storage [] = Unit {0}

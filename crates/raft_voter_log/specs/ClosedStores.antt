@@ -32,7 +32,7 @@ ClosedStoresMeetThePremise = (config : Config) (s : EngineState) (W : World) (d 
     → Keeps (home_of config) s W → ClosesProperly s.pipes d → AskNothing config d (uncut W)
 
 -- The log of a running store was closed properly, and maybe there was a crash after that. Then an open finds the voters
--- that the store had. All settings that name the directories find them. There is no premise on CRC collisions.
+-- that the store had. This is true for all settings that name the directories, and needs no premise on CRC collisions.
 abbrev pub ClosedStoresAreFound : {F : Type 0} → (F → Disk) → (F → List ℕ → ℕ → Type 0) → Type 0
 ClosedStoresAreFound {F} disk tells = (home : LogDirectories) (s : EngineState) (W : World) (d : Disk) (old : F)
     → IsSound s.pipes.disk → IsSound (disk old) → Keeps home s W → ClosesProperly s.pipes d

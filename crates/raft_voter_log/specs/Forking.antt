@@ -1,7 +1,8 @@
 -- Copying the log of a store, and opening a store over the copy: laws, each the contract of an empty function. `old` is
--- the file system or its disk before a copy, and `now`, `new` or `after` the same after it. Voters are possible after a
--- cut-off round if they took its requests before some position, without the refused ones. `disk` gives the disk of a
--- file system's state, and `tells` which sizes it may return as a directory's free space.
+-- the file system, or its disk, before a copy. `now`, `new` and `after` are the file system, or its disk, after the
+-- copy. Voters are possible after a cut-off round if they took its requests before some position, without the refused
+-- ones. `disk` gives the disk of a file system's state. `tells` says which sizes the file system may return as a
+-- directory's free space.
 use Rattle.std.specs.Prelude.{◌≡◌, ◌<◌, ℕ, List, length}
 use Rattle.raft_log_fs.specs.Disk.{Disk}
 use Rattle.raft_log_fs.specs.Image.{IsSound}
@@ -46,9 +47,9 @@ CopiesVoters {F} disk tells old W config = (to : Config) (target : List ℕ) (co
     → Forks (settings_of config) target copied (disk old) (disk after)
     → FindsVoters disk tells to after W (λ X. X ≡ W)
 
--- A store left its log, closed or failed, and there was no crash. An open in place and an open of a copy find the same
--- voters. These are possible after the round `cut`, and the same for all settings that name the log's directories. This
--- requires that there is no CRC collision in the active files as they are.
+-- A store left its log, closed or failed, and there was no crash. An open of the log and an open of a copy find the
+-- same voters. These voters are possible after the round `cut`. They are the same for all settings that name the log's
+-- directories. This requires that there is no CRC collision in the active files as they are.
 abbrev pub LeftVotersAreCopied : {F : Type 0} → (F → Disk) → (F → List ℕ → ℕ → Type 0) → Type 0
 LeftVotersAreCopied {F} disk tells = (home : LogDirectories) → 0 < length home.append → 0 < length home.rewrite → (old : F)
     (cut : CutRound) (left : IsLeftAmong home (disk old) (MayFollow cut)) → IsSound (disk old)

@@ -39,8 +39,8 @@ use Rattle.raft_voter_log.specs.Leaving.{FilesLeave, SparesFiles, SparesStore}
 
 -- The store.
 
--- What a successful purge did: `old`, in state `s`, is the engine before it, and `new`, in state `t`, the one after it.
--- `held` says from which file on the engine's listeners pin Append.
+-- What a successful purge did. The engine before the purge is `old`, in state `s`. The engine after the purge is `new`,
+-- in state `t`. `held` says from which file on the engine's listeners pin Append.
 abbrev pub PurgesLog :
     {P : Type 0} → (LogPipes → Option ℕ → Type 0) → Purge → LogEngine P → LogEngine P → EngineState → EngineState → Type 0
 PurgesLog held Expired old new s t = (groups : List ℕ)
@@ -95,7 +95,7 @@ OpensFiles tells files workers s os =
     × OpensVoters disk_of tells settings files.files s os
 
 -- An open of `files` with `workers` recovery threads failed with `cause`, and left the files `back`. If memory ran out,
--- it may have failed before it began; then the files are unchanged.
+-- the call may have failed before the open itself began; then the files are unchanged.
 abbrev pub RefusesFiles : (MemoryFileSystem → List ℕ → ℕ → Type 0) → LogFiles → ℕ → Cause → MemoryFileSystem → Type 0
 RefusesFiles tells files workers cause back = ((cause ≡ Memory) × (back ≡ files.files))
     ⊎ ((settings : Config) × HasWorkers files.config workers settings
@@ -119,8 +119,8 @@ pub record ClosesStore (s : EngineState) (d : OnDisk) : Type 0 where
   pub held : has_failed s ≡ false → ClosesLog s.pipes d
   pub failed : has_failed s ≡ true → d ≡ s.pipes.disk
 
--- if the store's engine hasn't failed, its close makes the calls of `ClosesAs` in their order, and leaves disk `d`; the
--- close may succeed or fail
+-- If the store's engine hasn't failed, its close makes the calls of `ClosesAs` in their order, and leaves disk `d`. The
+-- close may succeed or fail.
 abbrev pub ClosesByCalls : EngineState → OnDisk → Type 0
 ClosesByCalls s d = has_failed s ≡ false → (result : Result (Unit {0}) Error) × ClosesAs s.pipes result d
 

@@ -29,8 +29,8 @@ RestingVotersAreFound {F} disk tells = (config : Config) (old : F) (m : LogMap) 
     → IsDurableAs (log_in (home_of config)) (disk old) m → Means m W
     → FindsVoters disk tells config old W (λ X. X ≡ W)
 
--- A running store crashed between calls. An open of the image finds the voters that its log stored, and all settings
--- that name the directories find them. This requires that there is no CRC collision in the image.
+-- A running store crashed between calls. An open of the image finds the voters that the store's log stored. This is
+-- true for all settings that name the directories. It requires that there is no CRC collision in the image.
 abbrev pub CrashedStoresAreFound : {F : Type 0} → (F → Disk) → (F → List ℕ → ℕ → Type 0) → Type 0
 CrashedStoresAreFound {F} disk tells = (home : LogDirectories) (e : EngineState) (W : World) → Keeps home e W → (old : F)
     → IsSound (disk old) → IsImage e.pipes.disk (disk old) → LeavesNoChance home e.pipes (disk old)
@@ -46,10 +46,10 @@ CrashedVotersAreFound {F} disk tells = (home : LogDirectories) → 0 < length ho
     → (W : World) × MayFollow cut W
     × ForAllNaming home (λ config. FindsVoters disk tells config old W (λ X. X ≡ W))
 
--- A store left its log, closed or failed, and it is opened in place, without a crash. The open finds voters that are
--- possible after the round `cut`, the same for all settings that name the directories. If it fails, the log's files can
--- be opened, and their voters are still possible after `cut`. This requires that there is no CRC collision in the
--- active files as they are.
+-- A store left its log, closed or failed, and the log is opened without a crash before. The open finds voters that are
+-- possible after the round `cut`, the same for all settings that name the directories. If the open fails, the log's
+-- files can still be opened, and their voters are still possible after `cut`. This requires that there is no CRC
+-- collision in the active files as they are.
 abbrev pub LeftVotersAreFound : {F : Type 0} → (F → Disk) → (F → List ℕ → ℕ → Type 0) → Type 0
 LeftVotersAreFound {F} disk tells = (home : LogDirectories) → 0 < length home.append → 0 < length home.rewrite → (old : F)
     (cut : CutRound) (left : IsLeftAmong home (disk old) (MayFollow cut)) → IsSound (disk old)

@@ -1,6 +1,6 @@
 -- Which voters an open of a store finds in its log. `config` are the settings of the open, and `old` is the file system
--- before it. `disk` gives the disk of a file system's state, and `tells` which sizes it may return as a directory's
--- free space.
+-- before the open. `disk` gives the disk of a file system's state. `tells` says which sizes the file system may return
+-- as a directory's free space.
 use Rattle.std.specs.Prelude.{◌⊎◌, ℕ, List}
 use Rattle.raft_log_fs.specs.Disk.{Disk}
 use Rattle.raft_log_file_settings.specs.declared.config.Config.{Config}
@@ -38,7 +38,7 @@ pub record FindsVoters {F : Type 0} (disk : F → Disk) (tells : F → List ℕ 
 
 -- What an open of directories without a log finds:
 -- - `answered`: if it succeeds, all voters are fresh.
--- - `refused`: if it fails, there still is no log, or one of fresh voters, which can be opened.
+-- - `refused`: if it fails, there still is no log, or the log's files can be opened, and all voters are fresh.
 -- - `own`: it doesn't fail with `Foreign`.
 pub record BeginsVoters {F : Type 0} (disk : F → Disk) (tells : F → List ℕ → ℕ → Type 0) (config : Config)
     (old : F) : Type 0 where

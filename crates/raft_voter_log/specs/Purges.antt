@@ -1,5 +1,5 @@
 -- What a purge does to the voters of a store in a simulated run, and why it fails. `u` says what a purge may do. `old`
--- is the store before the purge, `new` the store after it, and `shows` gives a store's engine's state.
+-- is the store before the purge, and `new` the store after it. `shows` gives the state of a store's engine.
 use Rattle.std.specs.Prelude.{◌≡◌, ◌⊎◌, true, List, Some}
 use Rattle.raft_log_fs.specs.Causes.{Fails}
 use Rattle.raft_log_file_settings.specs.declared.config.Config.{Config}
@@ -25,8 +25,9 @@ use Rattle.raft_voter_world.specs.Causes.{IsOfRun}
 use Rattle.raft_voter_log.specs.Causes.{cause_of}
 use Rattle.raft_voter_log.specs.StoreCauses.{VotersHaveReason}
 
--- A purge that succeeds doesn't change the voters that the log stores. A purge that fails doesn't change them either;
--- or the store has failed, a file call failed in the purge, and the store's files can be opened with just these voters.
+-- A purge that succeeds doesn't change the voters that the log stores. After a purge that fails, there are two cases.
+-- Either the log still stores the same voters. Or the store has failed, a file call failed in the purge, and the
+-- store's files can be opened with exactly these voters.
 pub record PurgesKeepOrFail {S : Type 0} (u : Upkeep S) (shows : S → EngineState) : Type 0 where
   pub answered : (home : LogDirectories) (V : World) (purge : Purge) (old new : S) → Keeps home (shows old) V
       → u.purges purge old new → Keeps home (shows new) V
@@ -36,16 +37,16 @@ pub record PurgesKeepOrFail {S : Type 0} (u : Upkeep S) (shows : S → EngineSta
       ⊎ ((has_failed (shows new) ≡ true) × Fails (shows old).pipes.disk (shows new).pipes.disk
       × IsLeftWith home (shows new).pipes.disk V)
 
--- Suppose a store's log stores voters, and a purge of it fails. Then the purge's error has one of the reasons in
--- `VotersHaveReason`, and the purge returns the cause of this error.
+-- Suppose a store's log stores voters, and a purge of it fails with a cause. Then this is the cause of some error that
+-- has one of the reasons in `VotersHaveReason`.
 abbrev pub RefusedPurgesHaveReasons : {S : Type 0} → Upkeep S → (S → EngineState) → Type 0
 RefusedPurgesHaveReasons {S} u shows = (home : LogDirectories) (V : World) (purge : Purge) (cause : Cause) (old new : S)
     → Keeps home (shows old) V → u.refuses purge cause old new
     → (error : Error) × (cause ≡ cause_of error) × VotersHaveReason home V error (shows old) (shows new)
 
--- A purge of an open store failed with `cause`; `at` is the store before it, and `now` the store after it. Either the
--- store had failed before, and the cause is `Failed`. Or it served voters, and the cause is that of an error with one
--- of the reasons in `VotersHaveReason`.
+-- A purge of an open store failed with `cause`. `at` is the store before the purge, and `now` the store after it.
+-- Either the store had failed before, and the cause is `Failed`. Or it served voters, and the cause is that of an error
+-- with one of the reasons in `VotersHaveReason`.
 pub record WasRefusedFor {S F : Type 0} (v : Service S) (config : S → Config) (shows : S → EngineState) (cause : Cause)
     (at now : Storage S F) : Type 0 where
   pub old : S

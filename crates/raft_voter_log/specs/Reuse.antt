@@ -28,8 +28,8 @@ StandingFilesOnlyLose = (which : Which) (home : LogDirectories) (e : EngineState
 
 -- What the pipe's next rotation does:
 -- - `made`: it creates a file, as none is kept for recycling.
--- - `used`: it recycles a file with a number of the queue and the header that new files get, of version 2. The file's
---   old and new numbers differ in their low 32 bits.
+-- - `used`: it recycles a file that has a number of the queue, and the header of version 2 that new files get. The
+--   file's old and new numbers differ in their low 32 bits.
 pub data NextIsKnown (F : Format LogRecord) (format : LogFileFormat) (files : PipeFiles) (d : Disk) : Type 0 where
   made : files.recycled.items ≡ [] → NextIsKnown F format files d
   used : NextIsUsed F format files d → NextIsKnown F format files d

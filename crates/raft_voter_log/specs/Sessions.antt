@@ -1,6 +1,6 @@
--- Sessions on a log in which running stores crash, by the bytes that the crashes leave. `v`, `u` and `d` say what the
--- store promises: of its rounds, of its purges and armed faults, and of its files. `config` gives an open store's
--- settings, and `shows` its engine's state.
+-- Runs over a log in which running stores crash, by the bytes that the crashes leave. `v` says what the store promises
+-- of its rounds, `u` what it promises of purges and armed faults, and `d` what it promises of its files. `config` gives
+-- an open store's settings, and `shows` the state of its engine.
 use Rattle.std.specs.Prelude.{◌≡◌, ◌⊎◌, false, List, [], ◌∷◌, ◌++◌}
 use Rattle.raft_log_fs.specs.Disk.{Disk as OnDisk}
 use Rattle.raft_log_fs_memory.specs.Memory.{disk_of}
@@ -29,9 +29,12 @@ use Rattle.raft_voter_log.specs.Chance.{LeavesForeign, LosesWrites}
 abbrev pub OnlyLoses : Config → EngineState → OnDisk → Type 0
 OnlyLoses config s d = (has_failed s ≡ false) × LosesWrites (home_of config) s.pipes d
 
--- In these moments stores are opened, serve rounds, are purged, have faults armed under them, and crash. Each open
--- succeeds, and its voters are read. Each crash is one of a running store, and only loses writes. While no store is
--- open, only idle rounds happen. Only the last moment may be a close.
+-- What may happen in these moments, the events of a run with their results:
+-- - Stores are opened, serve rounds, are purged, have faults armed under them, and crash.
+-- - Each open succeeds, and its voters are read.
+-- - Each crash hits an open store that hasn't failed, and only loses writes.
+-- - While no store is open, there are only opens, and rounds, each of which is cut off.
+-- - Only the last moment may be a close.
 abbrev pub CrashesOnlyLose : {S : Type 0} → (S → Config) → (S → EngineState) → Storage S LogFiles
     → List (Moment S LogFiles) → Type 0
 CrashesOnlyLose config shows storage [] = Unit {0}
@@ -59,8 +62,8 @@ RunsAskNothing {S} v u d config shows = (first : LogFiles) (events : List Event)
     → ServeSome v (moments_of run.turns) × NoneLost (moments_of run.turns ++ run.closing)
     × Explains report.transcript.rounds report.cuts
 
--- A crash of a running store leaves another record right after all that was written to either queue's active file. That
--- record wasn't passed to an unsynced write at its offset. Then the premise on CRC collisions is false.
+-- Suppose a crash of a running store leaves another record right after all that was written to either queue's active
+-- file. No unsynced write was asked to write that record at its offset. Then the premise on CRC collisions is false.
 abbrev pub ForeignRecordsBreakPremise : Type 0
 ForeignRecordsBreakPremise = (config : Config) (s : EngineState) (cut : CutRound) → has_failed s ≡ false
     → (under : LeavesAt (home_of config) s cut) → (d : OnDisk)

@@ -1,6 +1,6 @@
 //! What follows from a store keeping its voters.
 
-ghost use Rattle.raft_voter_log.specs.Kept.{ArmsKeepVoters, KeptVotersAreTold, VotersHaveNoOwnKey};
+ghost use Rattle.raft_voter_log.specs.Kept.{ArmsKeepVoters, KeptVotersAreTold, StatesAreVoters, VotersHaveNoOwnKey};
 
 /// If a store's log stores voters, the store lists just these. So a call that keeps them doesn't change the list; a
 /// purge keeps them, unless it leaves the store failed.
@@ -16,4 +16,10 @@ pub fn voters_have_no_own_key()
 /// Arming a fault that makes no place unreadable changes no voter.
 pub fn arms_keep_voters()
     ensures { ArmsKeepVoters }
+{}
+
+/// A store reads no file for `status`, `first_index`, `last_index` and `term`: it returns what its outlines have. These
+/// are the values of the voters that it serves.
+pub fn states_are_voters()
+    ensures { StatesAreVoters }
 {}

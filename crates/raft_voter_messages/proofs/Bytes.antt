@@ -10,7 +10,7 @@ use Rattle.raft_voter_messages.specs.declared.reply.VoterState.{VoterState}
 use Rattle.raft_voter_messages.specs.declared.stored.StoredFault.{StoredFault}
 use Rattle.raft_voter_messages.specs.declared.stored.StoredFault.TheVariants.{Length, Form, Range, Index, Order, Memory}
 use Rattle.raft_voter_messages.specs.Ranges.{fits}
-use Rattle.raft_voter_messages.specs.StoredForms.{EntryFault, IsEntry, IsEntryForm1, IsState, IsStateForm1, StateFault, entry_form_1, entry_text, head_text, number_text, state_fits, state_form_2, state_text, stored_entry_fits, vote_fits, vote_text}
+use Rattle.raft_voter_messages.specs.StoredForms.{EntryFault, IsEntryForm1, IsState, IsStateForm1, StateFault, entry_form_1, entry_text, head_text, number_text, state_fits, state_form_2, state_text, stored_entry_fits, vote_fits, vote_text}
 use Rattle.raft_voter_messages.specs.StateHeads.{HasHead, head_bytes, IsNoState}
 use Rattle.raft_voter_messages.specs.declared.stored.head.StateHead.{StateHead}
 
@@ -162,12 +162,6 @@ has_head h s body x y read fit own =
       known.4,
     )
 
--- the bytes of a head are those of a state that has it
-pub head_spelled :
-    (h : StateHead) (s : VoterState) → HasHead s h
-    → head_bytes h ≡ head_text s.term (vote_text s.vote) s.base_index s.base_term
-head_spelled h s has = rw (has.term, has.vote, has.base_index, has.base_term) refl
-
 -- where the numbers that were read make a state out of range, no state in range has them
 pub no_state :
     (h : StateHead) (vote : Option ℕ) (commit l m : ℕ) → vote_text vote ≡ h.vote_byte ∷ number_text h.candidate
@@ -258,12 +252,3 @@ entry_no_fault Memory e fit other = refl
 entry_no_fault Form e fit (inl other) = absurd other.1
 entry_no_fault Order e fit (inl other) = absurd other.1
 entry_no_fault fault e fit (inr other) = absurd (other.0 refl)
-
--- the entry that is read from the bytes of one in range is it
-pub entry_read_back :
-    (e r : Entry) (index : ℕ) → stored_entry_fits e ≡ true → IsEntry (entry_text e) index r
-    → (r.index ≡ e.index) × (r.term ≡ e.term) × (r.bytes ≡ e.bytes)
-entry_read_back e r index fit is =
-    let own : stored_entry_fits r ≡ true = is.in_range in
-    let bounds : (r.index < 2 ^ 64) × (r.term < 2 ^ 64) = grind (arith, nat_tests) in
-    entry_numbers (entry_form_1 e) r.bytes r.index r.term e (ap (drop 1) is.text) bounds.0 bounds.1 fit refl

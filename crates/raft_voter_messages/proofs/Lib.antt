@@ -1,3 +1,4 @@
+pub mod Public
 pub mod Sizes
 pub mod Equality
 pub mod Bytes

@@ -31,8 +31,8 @@ abbrev pub OneEntry : Type 0
 OneEntry =
     (bytes : List ℕ) (i j : ℕ) (e f : Entry) → IsEntry bytes i e → IsEntry bytes j f → (i ≡ j) × (e ≡ f)
 
--- Bytes are read as the entry at an index. If they then have a fault other than `Memory`, they encode no entry at that
--- index, and have no other fault.
+-- Suppose bytes that are read as the entry at an index have a fault other than `Memory`. Then they encode no entry at
+-- that index, and have no other fault.
 abbrev pub OneEntryFault : Type 0
 OneEntryFault =
     (bytes : List ℕ) (index : ℕ) (fault : StoredFault) → fault ≢ Memory → EntryFault fault bytes index

@@ -16,8 +16,9 @@ entry_fits e = fits e.0 && nat_le (length e.1) 65535
 abbrev pub total_bytes : List (ℕ × List ℕ) → ℕ
 total_bytes sent = sum_by (λ e. length e.1) sent
 
--- The entries `sent` of an Append after index `prev` keep the limits. They are at most 1,024, with at most 1,048,576
--- bytes together. Each of them is in range, and so is the index of the last one, or `prev` if there are none.
+-- The entries `sent` of an Append after index `prev` keep the limits. There are at most 1,024 of them, with at most
+-- 1,048,576 bytes together. Each entry is in range. The index of the last entry is in range too, or `prev` if there are
+-- no entries.
 abbrev pub entries_fit : ℕ → List (ℕ × List ℕ) → Bool
 entries_fit prev sent =
     fits (prev + length sent) && nat_le (length sent) 1024 && list_all entry_fits sent

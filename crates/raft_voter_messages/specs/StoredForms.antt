@@ -111,8 +111,8 @@ pub record IsEntryForm1 (body : List ℕ) (e : Entry) : Type 0 where
   pub in_range : IsTrue (stored_entry_fits e)
 
 -- The fault of the bytes `body` after form byte 1, read as the entry at `index`:
--- - `Length`: they are fewer than 16 or more than 65,551;
--- - `Range`: they are 16 to 65,551, but encode no entry in range;
+-- - `Length`: there are fewer than 16 bytes or more than 65,551;
+-- - `Range`: there are 16 to 65,551 bytes, but they encode no entry in range;
 -- - `Index`: they encode an entry with another index;
 -- - `Memory`: they have no other fault, but memory can run out when the entry is read.
 abbrev pub EntryForm1Fault : StoredFault → List ℕ → ℕ → Type 0

@@ -325,10 +325,6 @@ does_retire v = record { log_is = refl; can = refl; rests = refl; moves = λ non
 
 -- Decisions.
 
--- a voter from its stored state and its log
-with_log : VoterState → List Pair → State
-with_log s log = record { term = s.term; vote = s.vote; base_index = s.base_index; base_term = s.base_term; commit = s.commit; log = log }
-
 same_voter : (v w : State) → stored_state v ≡ stored_state w → v.log ≡ w.log → v ≡ w
 same_voter v w state log =
     let term : v.term ≡ w.term = ap (λ (s : VoterState). s.term) state in

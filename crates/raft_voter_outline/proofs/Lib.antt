@@ -1,3 +1,4 @@
+pub mod Public
 mod Apart
 pub mod Bareness
 pub mod Deciding

@@ -301,10 +301,6 @@ one_less : (b : Bool) → (if b then 0 else 1) ≤ 1
 one_less true = omega arith
 one_less false = omega arith
 
-pub runs_behind-le : (es : List Pair) (o : Option ℕ) → runs_behind o es ≤ length es
-runs_behind-le [] o = omega arith
-runs_behind-le (e ∷ es) o = omega (arith, one_less (option_map_or (λ t. t == e.0) o false), runs_behind-le es (Some e.0))
-
 -- where nothing is known of what stands before, no fewer
 pub runs_behind-none : (es : List Pair) (o : Option ℕ) → runs_behind o es ≤ runs_behind None es
 runs_behind-none [] o = omega arith

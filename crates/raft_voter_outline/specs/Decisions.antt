@@ -32,8 +32,8 @@ Stays o p (Entries skipped index) = ⊥
 Stays o p (CompactTo index) = ⊥
 Stays o p Clean = (p.state ≡ stored_state o) × (o.log ≡ [])
 
--- Decision `d` has the plan's reply. If the plan's state and write change outline `o`, they are the decision's change;
--- otherwise it has none.
+-- Decision `d` has the plan's reply. If the plan's state and write change outline `o`, the decision has this state and
+-- write as its change. Otherwise the decision has no change.
 pub record SettlesPlan (o : State) (p : Plan) (d : Decision) : Type 0 where
   pub answer : d.answer ≡ Told p.reply
   pub change :

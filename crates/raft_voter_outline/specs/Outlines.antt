@@ -24,8 +24,8 @@ pub record Outlined : Type 0 where
   pub voter : State
   pub room : ℕ
 
--- `t` and `commit` can be those of an outline: the entries have no bytes, and the base is in range and at most
--- `commit`
+-- An outline can have the terms `t` and the commit `commit`: the entries have no bytes, and the base is in range and at
+-- most `commit`.
 pub record IsOutline (t : Terms) (commit : ℕ) : Type 0 where
   pub bared : bare t.log ≡ t.log
   pub small : t.base < 2 ^ 63
@@ -88,8 +88,11 @@ CanWrite (Entries skipped index) q v =
 CanWrite (CompactTo index) q v = (v.base_index < index) × (index ≤ last_index v)
 CanWrite Clean q v = is_retire q ≡ true
 
--- `base` can be the base's index after this write. It is 0 after a `Clean`, the write's own index after a `CompactTo`,
--- and otherwise the old one. After a `StateAlone` on an empty log, or a `CompactTo` of all entries, any index will do.
+-- `base` can be the base's index after this write:
+-- - `StateAlone`: it is the old index, or any index if the log is empty.
+-- - `Entries`: it is the old index.
+-- - `CompactTo`: it is the write's own index, or any index if the write removes all entries.
+-- - `Clean`: it is 0.
 abbrev pub RestsOn : Write → State → ℕ → Type 0
 RestsOn StateAlone v base = (base ≡ v.base_index) ⊎ (v.log ≡ [])
 RestsOn (Entries skipped index) v base = base ≡ v.base_index
@@ -102,8 +105,9 @@ RestsOn Clean v base = base ≡ 0
 abbrev pub brought : ℕ → ℕ → List (ℕ × List ℕ) → Write
 brought same prev sent = if same == length sent then StateAlone else Entries same (prev + 1 + same)
 
--- What an Append in range writes. It writes nothing if its term is old, if the log has no entry at `prev` with
--- `prev_term`, or if it has all entries sent. Otherwise it writes those from the first that differs or is new.
+-- What an Append in range writes. It writes nothing if its term is old, if the voter doesn't have `prev_term` at
+-- `prev`, or if the log has all entries sent. Otherwise it writes the entries sent from the first that differs or is
+-- new.
 abbrev pub append_write : State → ℕ → ℕ → ℕ → List (ℕ × List ℕ) → Write
 append_write v term prev prev_term sent =
     if nat_lt term v.term then StateAlone

@@ -21,11 +21,12 @@ abbrev pub are_runs : ℕ → List Run → Bool
 are_runs base [] = nat_lt base (2 ^ 63)
 are_runs base (r ∷ rs) = nat_lt base r.last && are_runs r.last rs
 
--- there is an entry before, and its term `before` is this one
+-- there is an entry before, and its term is `term`
 abbrev pub is_behind : Option ℕ → ℕ → Bool
 is_behind before term = option_map_or (λ t. t == term) before false
 
--- no run has the term of the run before it, and the first one's term isn't `before`, that of the entry before it
+-- No run has the same term as the run before it. The first run's term isn't `before`, the term of the entry before that
+-- run.
 abbrev pub are_apart : Option ℕ → List Run → Bool
 are_apart before [] = true
 are_apart before (r ∷ rs) = not (is_behind before r.term) && are_apart (Some r.term) rs

@@ -1,9 +1,9 @@
 -- What is told as damaged holds no records.
-use Rattle.std.proofs.Common.{◌≡◌, ◌≢◌, ℕ, ◌+◌, ◌<◌, ◌≤◌, ◌^◌, ◌∙◌, true, List, [], ◌∷◌, ◌++◌, length, length-append, append-nil, append_assoc, Result, Ok, Err, IfErr, sym, ap, subst, arith}
+use Rattle.std.proofs.Common.{◌≡◌, ◌≢◌, ℕ, ◌+◌, ◌<◌, ◌≤◌, ◌^◌, ◌∙◌, true, List, [], ◌∷◌, ◌++◌, length, length-append, append_assoc, Result, Ok, Err, IfErr, sym, ap, subst, arith}
 use Rattle.std.proofs.lemmas.Bool.Decides.{nat_tests}
 use Rattle.std.specs.List.{flat_map, list_all}
 use Rattle.std.specs.Prelude.{IsErrAnd}
-use Rattle.raft_voter_messages.proofs.Bytes.{entry_no_fault, length-entry_text, length-number_text, length-state_text, number_first, split_same, state_no_fault, state_read_back}
+use Rattle.raft_voter_messages.proofs.Public.{entry_no_fault, length-entry_text, length-number_text, length-state_text, number_first, split_same, state_no_fault, state_read_back}
 use Rattle.raft_voter_messages.specs.declared.reply.Entry.{Entry}
 use Rattle.raft_voter_messages.specs.declared.reply.VoterState.{VoterState}
 use Rattle.raft_voter_messages.specs.declared.stored.StoredFault.{StoredFault}
@@ -15,11 +15,10 @@ use Rattle.raft_voter.specs.Restoring.{are_in_order}
 use Rattle.raft_voter_messages.specs.StoredForms.{EntryFault, IsState, StateFault, entry_text, number_text, state_text, stored_entry_fits}
 use Rattle.raft_voter_plain.specs.declared.record.OpenFault.{OpenFault}
 use Rattle.raft_voter_plain.specs.declared.record.OpenFault.TheVariants.{Damaged, Memory as OutOfMemory}
-use Rattle.raft_voter_plain.specs.Content.{PlainContent, whole}
 use Rattle.raft_voter_plain.specs.Beginnings.{BeginsWithEntries, BeginsWithRecord}
 use Rattle.raft_voter_plain.specs.Damage.{LacksEntries, HasNoEntry, HasNoVoterRecord, StandsForNothing, TellsDamage, open_fault}
 use Rattle.raft_voter_plain.specs.Records.{AreEntries, AreStorable, StandsFor, IsStorableRecord, voter_record, stored_entry, voter_bytes}
-use Rattle.raft_voter.proofs.Numbering.{entries_in_range, length-numbered, numbered_in_order, state_in_range}
+use Rattle.raft_voter.proofs.Public.{entries_in_range, length-numbered, numbered_in_order, state_in_range}
 use Rattle.raft_voter_plain.proofs.Records.{entry_same, length-record, record_same}
 
 -- Faults.
@@ -219,7 +218,3 @@ none_behind (r ∷ rs) left h e more none = none r (flat_map voter_record rs) (r
 
 pub nothing_held : (bytes left : List ℕ) → AreLeft bytes left → 0 < length left → HasNoVoterRecord left → StandsForNothing bytes
 nothing_held bytes left so_far more none = λ W h. let there = so_far W h in none_behind there.0 left there.1 there.2 more none
-
--- what is stored isn't damaged
-pub not_damaged : (file : PlainContent) (W : World) → StandsFor file.synced W → file.unsynced ≡ [] → StandsForNothing (whole file) → ⊥
-not_damaged file W h settled none = let P : List ℕ → Type 0 = λ bs. StandsFor bs W in none W (subst P (sym (rw settled (append-nil file.synced))) h)

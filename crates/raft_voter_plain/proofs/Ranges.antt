@@ -9,8 +9,7 @@ use Rattle.raft_voter.specs.Rules.{next}
 use Rattle.raft_voter_messages.specs.Ranges.{in_range}
 use Rattle.raft_voter.specs.State.{State}
 use Rattle.raft_voter.specs.InRange.{AllInRange, IsInRange}
-use Rattle.raft_voter.proofs.Keeping.{range_is_kept}
-use Rattle.raft_voter.proofs.Steps.{by_test}
+use Rattle.raft_voter.proofs.Public.{by_test, range_is_kept}
 use Rattle.raft_voter_plain.specs.Records.{may_change}
 
 pub fresh_in_range : AllInRange fresh_world

@@ -5,9 +5,8 @@ use Rattle.std.proofs.lemmas.Grind.{common_steps}
 use Rattle.std.proofs.lemmas.List.Concat.{flat_map-append}
 use Rattle.std.proofs.lemmas.List.Folds.{list_all-append}
 use Rattle.std.specs.List.{flat_map, list_all}
-use Rattle.raft_voter_messages.proofs.Bytes.{entry_numbers, length-entry_text, length-head_text, length-number_text, length-state_text, length-vote_text, number_first, split_same, state_form_2-same, vote_in_range}
-use Rattle.raft_voter.proofs.Numbering.{entries_in_range, length-numbered, state_in_range, unnumbered}
-use Rattle.raft_voter.proofs.Ordered.{last_in_range, restored_ok}
+use Rattle.raft_voter_messages.proofs.Public.{entry_numbers, length-entry_text, length-head_text, length-number_text, length-state_text, length-vote_text, number_first, split_same, state_form_2-same, vote_in_range}
+use Rattle.raft_voter.proofs.Public.{entries_in_range, last_in_range, length-numbered, restored_ok, state_in_range, unnumbered}
 use Rattle.raft_voter_messages.specs.declared.reply.Entry.{Entry}
 use Rattle.raft_voter_messages.specs.declared.reply.VoterState.{VoterState}
 use Rattle.raft_voter.specs.Rules.{numbered}

@@ -11,7 +11,7 @@ use Rattle.raft_voter_messages.specs.Ranges.{in_range}
 use Rattle.raft_voter.specs.State.{State, adopt_term, last_index}
 use Rattle.raft_voter.specs.Service.{Answers, is_refused, out_of_range, refused_from}
 use Rattle.raft_voter_plain.specs.Store.{replies_in_turn}
-use Rattle.raft_voter.proofs.Steps.{by_test}
+use Rattle.raft_voter.proofs.Public.{by_test}
 use Rattle.raft_voter_plain.proofs.Ranges.{put_same}
 
 named_refused : (r : Reply) → is_refused r ≡ true → r ≡ Refused

@@ -8,7 +8,7 @@ use Rattle.std.proofs.lemmas.Bool.Decides.{nat_tests}
 use Rattle.raft_voter_plain.specs.declared.store.PlainVoters.{PlainVoters}
 use Rattle.raft_voter_plain.specs.Content.{whole}
 use Rattle.raft_voter_plain.specs.Records.{LeadTo, StandsFor}
-use Rattle.raft_voter.specs.Service.{TookNone, TookSome}
+use Rattle.raft_voter.specs.Service.{TookSome}
 use Rattle.raft_voter_plain.specs.Store.{AnswersNone, FileStandsBehind, IsAmidst, OneIsRefused, Stopped, plain_voters, world_of}
 use Rattle.raft_voter_plain.proofs.Worlds.{behind, held_in_range, joins, no_records}
 
@@ -91,7 +91,3 @@ took_some old new asked failed s = record {
         read = behind (whole new.file) wrote.world _ all (took_front (world_of old) wrote.world asked wrote.taken);
       });
 }
-
--- nothing is taken, and all is as it was
-pub nothing_taken : (store : PlainVoters) → TookNone plain_voters [] store store
-nothing_taken store = record { none = refl; served = λ W at. at; left = λ cut stands. stands }

@@ -9,9 +9,9 @@ use Rattle.raft_voter.specs.InRange.{AllInRange, IsInRange}
 use Rattle.raft_voter.specs.State.{State}
 use Rattle.raft_voter_plain.specs.declared.store.PlainVoters.{PlainVoters}
 use Rattle.raft_voter_plain.specs.Beginnings.{BeginsWithRecord}
-use Rattle.raft_voter_plain.specs.Content.{PlainContent, after_crash, all_synced, empty_file, whole}
+use Rattle.raft_voter_plain.specs.Content.{PlainContent, after_crash, all_synced, whole}
 use Rattle.raft_voter_plain.specs.Records.{AreStorable, StandsFor, IsStorableRecord, LeadTo, may_change, voter_record, with_records}
-use Rattle.raft_voter.specs.Service.{Answers, AnswersRound, CutRound, FindsVoters, IsClosedAt, IsOpenAt, LeavesInFiles, LeavesStanding, MayFollow, uncut}
+use Rattle.raft_voter.specs.Service.{Answers, AnswersRound, CutRound, FindsVoters, IsOpenAt, LeavesInFiles, LeavesStanding, MayFollow, uncut}
 use Rattle.raft_voter_plain.specs.Store.{FileStandsBehind, IsAmidst, StandsBehind, StandsForVoters, Takes, TakesAll, plain_files, plain_voters, replies_in_turn, world_of}
 use Rattle.raft_voter_plain.proofs.Ranges.{fresh_in_range, put_in_range, put_there, stays, taken_in_range}
 use Rattle.raft_voter_plain.proofs.Records.{records_same}
@@ -133,14 +133,6 @@ amidst_next old now next asked left rest told told_now q r so_far here took e =
           (subst AllInRange (sym took.taken) (taken_in_range (world_of now) q before.0), λ W h. took.written W before.0 (before.1 W h));
     }
 
-pub amidst_all : (old now : PlainVoters) (asked left : List (ℕ × Request)) (told : List Reply) → IsAmidst old asked left told now → left ≡ [] → TakesAll old asked told now
-amidst_all old now asked left told so_far e = record {
-  told_is = sym (append-nil told) ∙ ap (λ ls. told ++ replies_in_turn (world_of now) ls) (sym e) ∙ so_far.told_is;
-  taken = ap (after (world_of now)) (sym e) ∙ so_far.taken;
-  synced = so_far.synced;
-  written = λ range h. (so_far.written range).1 (world_of old) h;
-}
-
 -- what was written and then synced is stored
 pub all_stored : (old taken new : PlainVoters) (asked : List (ℕ × Request)) (told : List Reply) → TakesAll old asked told taken → world_of new ≡ world_of taken
     → new.file.synced ≡ whole taken.file → new.file.unsynced ≡ [] → StandsForVoters old → StandsForVoters new
@@ -166,10 +158,6 @@ read_on bytes left rest W Y r so_far is e = λ X more.
     let Q : List ℕ → Type 0 = λ bs. LeadTo W bs X in
     so_far X (subst Q (sym is.text) (joins W (put W r.0 r.1) X (voter_record r) rest (one_record W r is.storable) (subst P e more)))
 
-pub read_all : (bytes left : List ℕ) (W : World) → IsReadTo bytes W left → length left ≡ 0 → StandsFor bytes W
-read_all bytes [] W so_far e = so_far W (no_records W)
-read_all bytes (b ∷ left) W so_far e = absurd (omega arith)
-
 -- A round that is answered: what the voters took is stored, and they are served.
 pub all_answered : (old taken new : PlainVoters) (asked : List (ℕ × Request)) (told : List Reply) → TakesAll old asked told taken → world_of new ≡ world_of taken
     → new.file.synced ≡ whole taken.file → new.file.unsynced ≡ [] → new.failed ≡ false → Answers (world_of old) asked told (world_of new) → AnswersRound plain_voters asked told old new
@@ -188,10 +176,6 @@ opened_at file store same held alive = λ spared cut stands.
     let stored : StandsForVoters store = record { synced = rw same held; settled = ap (λ (f : PlainContent). f.unsynced) same } in
     (world_of store, subst P (sym is) read.follows, served_at store alive stored)
 
--- a file that wasn't opened stands as it did
-pub refused_at : (file back : PlainContent) → back ≡ file → LeavesStanding plain_files file file back
-refused_at file back same = λ spared cut stands. let P : PlainContent → Type 0 = λ given. FileStandsBehind given cut in subst P (sym same) stands
-
 -- a close leaves what stands in the file
 pub closed_at : (store : PlainVoters) (file : PlainContent) → file ≡ store.file → LeavesInFiles plain_voters plain_files store file
 closed_at store file same = λ cut stands. let P : PlainContent → Type 0 = λ given. FileStandsBehind given cut in subst P (sym same) stands
@@ -202,9 +186,3 @@ crashed_at file left same = λ spared cut stands.
     let P : PlainContent → Type 0 = λ given. FileStandsBehind given cut in
     let Q : List ℕ → Type 0 = λ bytes. StandsBehind bytes cut in
     subst P (sym same) (record { synced = stands.synced; read = subst Q (sym (append-nil file.synced)) stands.synced })
-
--- an empty file keeps fresh voters
-pub none_written : (file : PlainContent) → file ≡ empty_file → IsClosedAt plain_files file fresh_world
-none_written file e =
-    let Q : PlainContent → Type 0 = λ given. FileStandsBehind given (uncut fresh_world) in
-    subst Q (sym e) (settled_stands empty_file fresh_world (no_records fresh_world) refl)

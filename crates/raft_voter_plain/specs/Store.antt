@@ -1,5 +1,6 @@
 -- The plain store: voters in memory, and a file to which each change is written as a record. `old` is the store before
--- requests, and `new` or `now` the store after them.
+-- requests, and `new` or `now` the store after them. A round is cut off if it ends without replies. Voters are possible
+-- after such a round if they took its requests before some position, without the refused ones.
 use Rattle.std.specs.Prelude.{◌≡◌, ◌<◌, ◌≤◌, ◌⊎◌, ℕ, Bool, true, false, List, [], ◌∷◌, ◌++◌, length, take}
 use Rattle.raft_voter_messages.specs.declared.reply.Reply.{Reply}
 use Rattle.raft_voter_messages.specs.declared.request.Request.{Request}
@@ -40,15 +41,15 @@ pub record FileStandsBehind (file : PlainContent) (cut : CutRound) : Type 0 wher
   pub synced : StandsBehind file.synced cut
   pub read : StandsBehind (whole file) cut
 
--- The positions of a round that the store refuses. If it has failed by the end of the round, there are none. Otherwise
--- they are those of the requests out of range.
+-- The positions of the requests that the store refuses in a round. If the store has failed by the end of the round,
+-- there are none. Otherwise they are those of the requests out of range.
 abbrev pub refused_by : Bool → List (ℕ × Request) → List ℕ
 refused_by false requests = out_of_range 0 requests
 refused_by true requests = []
 
 -- The plain store as a service. A close or a crash leaves voters that its file stores. The store refuses exactly the
--- requests out of range, or none if it has failed by the end of the round. A file system call failed between two states
--- if the store had failed in the second one, but not in the first.
+-- requests out of range, or none if it has failed by the end of the round. A file call counts as failed between two
+-- states if the store has failed in the second state, but not in the first.
 abbrev pub plain_voters : Service PlainVoters
 plain_voters = record {
   serves = ServesVoters;
@@ -58,8 +59,8 @@ plain_voters = record {
   fails = λ old new. (old.failed ≡ false) × (new.failed ≡ true);
 }
 
--- An open of this file may fail for this cause. It may be `Memory` unless the file is empty. It is `FileSystem` only if
--- the bytes aren't a sequence of records that can be stored.
+-- An open of this file may fail for this cause. The cause may be `Memory` unless the file is empty. It is `FileSystem`
+-- only if the bytes aren't a sequence of records that can be stored.
 abbrev pub FileIsRefusedFor : PlainContent → Cause → Type 0
 FileIsRefusedFor file Memory = 0 < length (whole file)
 FileIsRefusedFor file FileSystem = StandsForNothing (whole file)
@@ -83,9 +84,9 @@ plain_files = record {
 abbrev pub LeadsFrom : World → PlainVoters → Type 0
 LeadsFrom W store = LeadTo W store.file.unsynced (world_of store)
 
--- One request was taken in memory, and `told` is the reply of its voter. The synced bytes are the same. If all voters
--- were in range, the change was written: if the unsynced records led from world `W` to the voters before, they now lead
--- to those after.
+-- One request was taken in memory, and `told` is the reply of its voter. The synced bytes are the same. Suppose that
+-- before the request all voters were in range, and the unsynced records led from world `W` to the voters. Then they now
+-- lead from `W` to the voters after the request.
 pub record Takes (old : PlainVoters) (asked : ℕ × Request) (told : Reply) (new : PlainVoters) : Type 0 where
   pub told_is : told ≡ reply (world_of old asked.0) asked.1
   pub taken : world_of new ≡ after_one (world_of old) asked
@@ -134,8 +135,9 @@ pub record AnswersNone (old : PlainVoters) (asked : List (ℕ × Request)) (new 
   pub written : AllInRange (world_of old) → LeadsFrom (world_of old) old
       → WroteSome (world_of old) asked new.file.unsynced
 
--- The first of the requests `asked` were taken in memory, with the replies `told`, and `left` remain. The synced bytes
--- are the same. If all voters were in range, they still are, and the changes so far were written as records.
+-- A prefix of the requests `asked` was taken in memory, with the replies `told`, and the requests `left` remain. The
+-- synced bytes are the same. If all voters were in range, they still are, and the changes so far were written as
+-- records.
 pub record IsAmidst (old : PlainVoters) (asked left : List (ℕ × Request)) (told : List Reply)
     (now : PlainVoters) : Type 0 where
   pub told_is : told ++ replies_in_turn (world_of now) left ≡ replies_in_turn (world_of old) asked

@@ -1,3 +1,4 @@
+pub mod Carried
 pub mod Fronts
 pub mod Left
 mod Loaded

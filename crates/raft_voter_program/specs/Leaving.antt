@@ -1,7 +1,6 @@
 -- What the program writes for a session, its exit status, and which files of the store remain after the session. `old`
--- and `new` are the bytes that the writer has before and after, `None` if they aren't known. The arguments `v`, `u`,
--- `d` and `s` say what the store promises: of its rounds, of its purges and armed faults, of its files, and of its
--- settings.
+-- and `new` are the bytes that the writer has before and after, `None` if they aren't known. What the store promises is
+-- said by `v` of its rounds, by `u` of its purges and armed faults, by `d` of its files, and by `s` of its settings.
 use Rattle.std.specs.Prelude.{◌≡◌, ℕ, List, Option, None, Some, Result, Ok, Err}
 use Rattle.std.specs.Io.KnownBytes.{Appends}
 use Rattle.raft_voter.specs.Service.{Service}

@@ -1,4 +1,5 @@
 pub mod Asking
+pub mod Carrying
 pub mod Keeping
 pub mod Leaving
 pub mod Lines

@@ -1,6 +1,6 @@
 -- The text that is written for the voters of a store, after it was opened. `old` and `new` are the bytes that the
--- writer has before and after, `None` if they aren't known. The arguments `v` and `d` say what the store promises of
--- its rounds and of its files.
+-- writer has before and after, `None` if they aren't known. `v` says what the store promises of its rounds, and `d`
+-- what it promises of its files.
 use Rattle.std.specs.Prelude.{◌≡◌, ◌≢◌, ◌<◌, ◌⊎◌, ℕ, List, Option, length, codes}
 use Rattle.std.specs.Io.KnownBytes.{Appends, Keeps}
 use Rattle.std.specs.List.{AllAdjacentBelow}
@@ -16,8 +16,8 @@ use Rattle.raft_voter_program.specs.Lines.{voters_text}
 abbrev pub AreRising : List (ℕ × State) → Type 0
 AreRising voters = AllAdjacentBelow (λ one next. one.0 < next.0) voters (length voters)
 
--- `text` has a line for each voter of a list, in ascending order of their groups. If the store serves voters, they are
--- those of the list, and each group that isn't in it has a fresh voter.
+-- `text` has a line for each voter of a list, in ascending order of their groups. If the store serves voters, these are
+-- the voters of the list, and each group that isn't listed has a fresh voter.
 pub record TellsLines {S : Type 0} (v : Service S) (store : S) (text : List ℕ) : Type 0 where
   pub voters : List (ℕ × State)
   pub tells : TellsVoters v store voters

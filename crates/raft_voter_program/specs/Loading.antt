@@ -1,6 +1,6 @@
 -- What is written for the log in a real directory, whose files were loaded into memory. `old` and `new` are the bytes
--- that the writer has before and after, `None` if they aren't known. The arguments `v` and `d` say what the store
--- promises of its rounds and of its files.
+-- that the writer has before and after, `None` if they aren't known. `v` says what the store promises of its rounds,
+-- and `d` what it promises of its files.
 use Rattle.std.specs.Prelude.{◌≡◌, ◌⊎◌, ℕ, List, Option, codes}
 use Rattle.std.specs.Io.KnownBytes.{Keeps}
 use Rattle.raft_log_fs_memory.specs.Memory.{disk_of}

@@ -1,6 +1,6 @@
 -- What the program writes, and its exit status. `old` and `new` are the bytes that the writer has before and after,
--- `None` if they aren't known. The arguments `v`, `u`, `d` and `s` say what the store promises: of its rounds, of its
--- purges and armed faults, of its files, and of its settings.
+-- `None` if they aren't known. What the store promises is said by `v` of its rounds, by `u` of its purges and armed
+-- faults, by `d` of its files, and by `s` of its settings.
 use Rattle.std.specs.Prelude.{◌≡◌, ◌↔◌, ◌⊎◌, ℕ, Bool, true, false, IsTrue, if◌then◌else◌, List, [], map, Option, Result, Ok, Err, codes}
 use Rattle.std.specs.Io.KnownBytes.{Appends, Keeps}
 use Rattle.std.specs.declared.io.ErrorKind.{ErrorKind}
@@ -31,8 +31,8 @@ pub record IsJudged (rounds : List Round) (cuts text : List ℕ) (status : ℕ) 
 abbrev pub SaysYes : {F : Type 0} → WorldReport F → List ℕ → ℕ → Type 0
 SaysYes report text status = (text ≡ transcript_text report.transcript.rounds report.cuts true) × (status ≡ 0)
 
--- A run of exactly the events of the session, from files that its settings make; in these, all voters are fresh. The
--- run's report is written as a transcript with a verdict. The verdict is yes if no open lost voters, and each store
+-- A run of exactly the events of the session, from files that its settings make. In these files, all voters are fresh.
+-- The run's report is written as a transcript with a verdict. The verdict is yes if no open lost voters, and each store
 -- whose voters were read served the voters of some world.
 pub record WritesRun {S F : Type 0} (v : Service S) (u : Upkeep S) (d : Disk S F) (s : Setup F) (session : SessionContent)
     (text : List ℕ) (status : ℕ) : Type 0 where
@@ -58,8 +58,8 @@ WritesSession v u d s session text status =
     (s.refuses session.settings × (text ≡ settings_refused) × (status ≡ 1))
     ⊎ WritesRun v u d s session text status
 
--- What may be written for lines, and the status. If they are a session, it is what may be written for the session. If
--- line `line` is the first unreadable one, the text says so, with status 2.
+-- What may be written for lines, and the status. If the lines are a session, `Writes` says what may be written for the
+-- session. If line `line` is the first unreadable one, the text says so, with status 2.
 abbrev pub TellsLines : (SessionContent → List ℕ → ℕ → Type 0) → Result SessionContent ℕ → List ℕ → ℕ → Type 0
 TellsLines Writes (Ok session) text status = Writes session text status
 TellsLines Writes (Err line) text status = (text ≡ unreadable_text line) × (status ≡ 2)

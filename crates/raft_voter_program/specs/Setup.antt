@@ -44,7 +44,7 @@ SettingsRefused settings = TellsNone settings
     ⊎ ((s : Settings) × TellsSettings settings s × ((fault : ConfigFault) × HasFault s fault))
 
 -- `files` are those of a log that doesn't exist yet. Its settings are those that the text gives, which have no fault,
--- with defaults filled in. The files are in an empty file system in memory.
+-- with defaults filled in. Its file system is in memory, and empty.
 abbrev pub MakesFiles : Option (List ℕ) → LogFiles → Type 0
 MakesFiles settings files = ((s : Settings) × TellsSettings settings s × HasNoFault s
     × (settings_of files.config ≡ sanitized s)) × (disk_of files.files ≡ empty_disk)

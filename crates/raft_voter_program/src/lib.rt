@@ -23,7 +23,7 @@ pub use over_store::{
     run_over,
 };
 pub use raft_voter_log;
-pub use running::{program, run, start};
+pub use running::{carry_out, program, run, start};
 pub use saving::{kept_files, save};
 pub use setup::LogSetup;
 pub use store_setup::{NoFiles, StoreSetup};

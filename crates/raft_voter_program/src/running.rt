@@ -1,7 +1,10 @@
 //! The program over a store on a log.
 ghost use Rattle.std.specs.Prelude.{◌≡◌, false, true, IfOk, IfSome, OnErr};
+ghost use Rattle.std.specs.Io.KnownBytes.{Appends};
+ghost use Rattle.raft_voter_program.specs.Carrying.{CarriesOut, StopsEarly, usage_text};
 ghost use Rattle.raft_voter_program.specs.Run.{Ends, EndsEarly, WritesSession};
 ghost use Rattle.raft_voter_program.specs.Setup.{log_setup};
+ghost use Rattle.raft_voter_program.specs.Writing.{StopsWithin};
 
 use crate::arguments::{Arguments, USAGE};
 use crate::loading::load;
@@ -60,23 +63,46 @@ fn attempt<
     let alloc = rt.alloc();
     let mut reader = rt.reader();
     let mut writer = io::writer(rt);
-    match Arguments::read(rt)? {
-        Arguments::Nothing => program(rt, false, alloc, &mut reader, &mut writer),
-        Arguments::Help => print_usage(&mut writer),
-        Arguments::Load(directory) => load(rt, alloc, directory.as_str(), &mut writer),
-        Arguments::Save(directory) => {
-            save(rt, alloc, directory.as_str(), &mut reader, &mut writer)
-        }
+    let arguments = Arguments::read(rt)?;
+    carry_out(rt, alloc, &arguments, &mut reader, &mut writer)
+}
+
+/// Does what the arguments request: runs a session, prints the usage, lists the voters of a log, or runs a session and
+/// keeps its log. It rejects other arguments, and prints the usage to standard error.
+///
+/// Fails as `program`, `load` and `save` do, or if the writer fails. Then nothing was written, or a prefix of what may
+/// be written, but not all.
+pub fn carry_out<
+    R: Eprint + Threads + Log + Sync + Files<File = File> + AllocGlobal + Clone + Drop,
+    I: Read,
+    W: Write,
+>(rt: &R, alloc: Global, arguments: &Arguments, reader: &mut I, writer: &mut W) -> io::Result<u8>
+    ensures ok { IfOk result (λ status. IfSome (I.remaining reader.old) (λ input.
+        CarriesOut ⟦<LogVoters as RoundService<R>>⟧.service ⟦<LogVoters as VoterStorage<R>>⟧.upkeep
+        ⟦<LogFiles as VoterDisk<R, LogVoters>>⟧.disk log_setup arguments.now input
+        (W.contents writer.old) (W.contents writer.new) status)) }
+    ensures err { OnErr result (IfSome (I.remaining reader.old) (λ input.
+        StopsEarly ⟦<LogVoters as RoundService<R>>⟧.service ⟦<LogVoters as VoterStorage<R>>⟧.upkeep
+        ⟦<LogFiles as VoterDisk<R, LogVoters>>⟧.disk log_setup arguments.now input
+        (W.contents writer.old) (W.contents writer.new))) }
+{
+    match arguments {
+        Arguments::Nothing => program(rt, false, alloc, reader, writer),
+        Arguments::Help => print_usage(writer),
+        Arguments::Load(directory) => load(rt, alloc, directory.as_str(), writer),
+        Arguments::Save(directory) => save(rt, alloc, directory.as_str(), reader, writer),
         Arguments::Others => {
             let _told = rt.eprint(USAGE).is_ok();
-            program(rt, true, alloc, &mut reader, &mut writer)
+            program(rt, true, alloc, reader, writer)
         }
     }
 }
 
-/// Writes the usage, with status 0.
+/// Writes the usage, with status 0. Fails if the writer fails; then a prefix of the usage was written, but not all.
 fn print_usage<W: Write>(writer: &mut W) -> io::Result<u8>
-    ensures { IfOk result (λ status. status ≡ 0) }
+    ensures ok { IfOk result (λ status.
+        Appends (W.contents writer.old) (W.contents writer.new) usage_text × (status ≡ 0)) }
+    ensures err { OnErr result (StopsWithin (W.contents writer.old) (W.contents writer.new) usage_text) }
 {
     write_whole(writer, USAGE.as_bytes())?;
     Ok(0)

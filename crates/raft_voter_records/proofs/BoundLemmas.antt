@@ -9,13 +9,13 @@ use Rattle.raft_log_record_items.specs.Items.{put_item}
 use Rattle.raft_log_record_batches.specs.Batch.{Batch, Becomes, max_entries_len, with_item}
 use Rattle.raft_log_record_batches.specs.Entries.{IsEntriesRefusal, bytes_len}
 use Rattle.raft_log_record_batches.specs.EntriesFrom.{FailsToAddFrom, IsRefusalFrom, indexes_at}
-use Rattle.raft_log_record_batches.proofs.EntriesFrom.{length-indexes_from, run_from}
+use Rattle.raft_log_record_batches.proofs.Public.{length-indexes_from, run_from}
 use Rattle.raft_voter_messages.specs.declared.request.Request.{Request}
 use Rattle.raft_voter_messages.specs.declared.request.Request.TheVariants.{Vote, Append, Compact, Install, Read, Status, Retire}
 use Rattle.raft_voter_messages.specs.Ranges.{in_range, total_bytes}
 use Rattle.raft_voter_messages.specs.declared.reply.VoterState.{VoterState}
 use Rattle.raft_voter_messages.specs.StoredForms.{entry_text, state_text}
-use Rattle.raft_voter_messages.proofs.Bytes.{length-entry_text}
+use Rattle.raft_voter_messages.proofs.Public.{length-entry_text}
 use Rattle.raft_voter_outline.specs.declared.outline.decision.Change.{Change}
 use Rattle.raft_voter_outline.specs.declared.outline.decision.Write.{Write}
 use Rattle.raft_voter_outline.specs.declared.outline.decision.Write.TheVariants.{StateAlone, Entries, CompactTo, Clean}

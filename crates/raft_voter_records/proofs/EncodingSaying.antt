@@ -10,12 +10,12 @@ use Rattle.raft_log_record_items.specs.Placed.{laid_run}
 use Rattle.raft_log_record_frames.specs.declared.marking.Marking.{Marking}
 use Rattle.raft_log_record_frames.specs.Marking.{has_mark_key}
 use Rattle.raft_log_record_frames.specs.Meaning.{IsUsers, marked, record_of, tagged, tagged_items, unless_mark}
-use Rattle.raft_log_record_frames.proofs.Meanings.{keeps_mark, no_mark_key}
+use Rattle.raft_log_record_frames.proofs.Public.{keeps_mark, no_mark_key}
 use Rattle.raft_log_record_batches.specs.Batch.{Batch, empty_batch}
 use Rattle.raft_log_record_batches.specs.Entries.{entries_item, entries_of, joined, with_entries}
 use Rattle.raft_log_record_frames.specs.ItemBatch.{command_item}
 use Rattle.raft_log_record_batches.specs.Places.{entry_bytes}
-use Rattle.raft_log_record_batches.proofs.Places.{added_bytes}
+use Rattle.raft_log_record_batches.proofs.Public.{added_bytes, length-indexes_from}
 use Rattle.raft_voter_messages.specs.declared.reply.VoterState.{VoterState}
 use Rattle.raft_voter_messages.specs.declared.request.Request.{Request}
 use Rattle.raft_voter_messages.specs.declared.request.Request.TheVariants.{Vote, Append, Compact, Install, Read, Status, Retire}
@@ -30,7 +30,6 @@ use Rattle.raft_voter_records.specs.MeaningChanges.{Words, decided_items, record
 use Rattle.raft_voter_records.specs.Changes.{IsFresh, voter_key, with_change, with_state, with_write}
 use Rattle.raft_log_record_batches.specs.EntriesFrom.{indexes_at}
 use Rattle.raft_voter_records.specs.Entries.{entry_texts}
-use Rattle.raft_log_record_batches.proofs.EntriesFrom.{length-indexes_from}
 use Rattle.raft_voter_records.specs.EncodingLaws.{ChangesAreSaid}
 
 -- Batches of one item, and of two.

@@ -2,10 +2,10 @@
 use Rattle.std.proofs.Common.{◌≡◌, ◌∙◌, ℕ, zero, suc, ◌+◌, ◌-◌, ◌<◌, ◌≤◌, nat_lt, Bool, true, false, List, [], ◌∷◌, drop, map, slice_get, Option, Some, None, option_map, if◌then◌else◌, refl, sym, ap, arith, add-zero}
 use Rattle.raft_log_model_laws.specs.Meaning.{Content}
 use Rattle.raft_log_model_laws.specs.Meaning.Content.{Entry}
-use Rattle.raft_log_model_laws.proofs.Cases.{if_true, if_false, lt_true, lt_false}
+use Rattle.raft_log_model_laws.proofs.Public.{if_false, if_true, lt_false, lt_true}
 use Rattle.raft_voter_messages.specs.StoredForms.{entry_text}
 use Rattle.raft_voter_outline.specs.Rules.{numbered}
-use Rattle.raft_voter_outline.proofs.Indexes.{Pair}
+use Rattle.raft_voter_outline.proofs.Public.{Pair}
 use Rattle.raft_voter_records.specs.Voters.{stored_entry}
 
 -- what stands at an index for a log of this base

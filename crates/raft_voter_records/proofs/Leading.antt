@@ -7,24 +7,21 @@ use Rattle.raft_log_model_laws.specs.Item.Item.{Clean}
 use Rattle.raft_log_model_laws.specs.Meaning.{after, says}
 use Rattle.raft_log_model_laws.specs.Meaning.Slot.{Index, Key}
 use Rattle.raft_log_model_laws.specs.Groups.{appended, of_group, taken}
-use Rattle.raft_log_model_laws.proofs.Cases.{eq_true, from_eq_true, if_false, if_true}
-use Rattle.raft_log_model_laws.proofs.Tests.{put_leaves, put_sets}
-use Rattle.raft_log_model_laws.proofs.Words.{says_append}
+use Rattle.raft_log_model_laws.proofs.Public.{eq_true, from_eq_true, if_false, if_true, put_leaves, put_sets, says_append}
 use Rattle.raft_voter_messages.specs.declared.request.Request.{Request}
 use Rattle.raft_voter_messages.specs.declared.request.Request.TheVariants.{Vote, Append, Compact, Install, Read, Status, Retire}
 use Rattle.raft_voter_messages.specs.Ranges.{in_range}
 use Rattle.raft_voter_messages.specs.StoredForms.{state_text}
-use Rattle.raft_voter_messages.proofs.ReadingBack.{states_are_read_back}
+use Rattle.raft_voter_messages.proofs.Public.{states_are_read_back}
 use Rattle.raft_voter_outline.specs.declared.outline.decision.Write.{Write}
 use Rattle.raft_voter_outline.specs.declared.outline.decision.Write.TheVariants.{StateAlone, Entries, CompactTo, Clean as CleanWrite}
 use Rattle.raft_voter_outline.specs.Outlines.{CanWrite, RestsOn, log_written, sent_of, stored_state, write_of}
 use Rattle.raft_voter_outline.specs.Rules.{is_retire, next, next_in_range}
 use Rattle.raft_voter_outline.specs.State.{State, fresh}
-use Rattle.raft_voter_outline.proofs.Indexes.{Pair}
+use Rattle.raft_voter_outline.proofs.Public.{Pair}
 use Rattle.raft_voter.specs.InRange.{IsStorable}
 use Rattle.raft_voter.specs.Rounds.{World}
-use Rattle.raft_voter.proofs.Keeping.{storable_is_kept}
-use Rattle.raft_voter.proofs.Numbering.{state_in_range}
+use Rattle.raft_voter.proofs.Public.{state_in_range, storable_is_kept}
 use Rattle.raft_voter_records.specs.Voters.{Group, Groups, HoldsVoter, IsVoid, IsVoter, Means, entry_content, voter_key}
 use Rattle.raft_voter_records.specs.MeaningChanges.{Words, change_items, change_record, log_items, record_in, state_items, tagged_with, write_items}
 use Rattle.raft_voter_records.specs.Laws.{EmptyMapsAreFresh, RecordsLead, SameMapsMeanTheSame}

@@ -1,3 +1,4 @@
+pub mod Public
 pub mod BoundLemmas
 pub mod EncodingSaying
 pub mod Entries

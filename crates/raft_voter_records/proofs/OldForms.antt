@@ -5,7 +5,7 @@ use Rattle.raft_voter_messages.specs.StoredForms.{head_text, vote_text}
 use Rattle.raft_voter_records.specs.Voters.{HoldsVoter, voter_key}
 use Rattle.raft_voter_records.specs.MeaningChanges.{run_items}
 use Rattle.raft_voter_records.specs.Examples.{old_group, old_voter}
-use Rattle.raft_log_model_laws.proofs.Tests.{put_leaves}
+use Rattle.raft_log_model_laws.proofs.Public.{put_leaves}
 use Rattle.raft_voter_records.proofs.Entries.{content_none}
 use Rattle.raft_voter_records.proofs.Writing.{once_taken, run_stands}
 

@@ -9,13 +9,13 @@ use Rattle.raft_log_model_laws.specs.Meaning.Content.{Entry}
 use Rattle.raft_voter_messages.specs.declared.reply.Entry.{Entry as VoterEntry}
 use Rattle.raft_voter_messages.specs.declared.reply.VoterState.{VoterState}
 use Rattle.raft_voter_messages.specs.StoredForms.{entry_text, stored_entry_fits}
-use Rattle.raft_voter_messages.proofs.ReadingBack.{one_entry, one_state}
+use Rattle.raft_voter_messages.proofs.Public.{one_entry, one_state}
 use Rattle.raft_voter_outline.specs.Outlines.{stored_state}
 use Rattle.raft_voter_outline.specs.Restoring.{with_log}
 use Rattle.raft_voter_outline.specs.Rules.{numbered}
 use Rattle.raft_voter_outline.specs.State.{State, fresh}
-use Rattle.raft_voter_outline.proofs.Indexes.{Pair}
-use Rattle.raft_voter.proofs.Numbering.{entries_in_range}
+use Rattle.raft_voter_outline.proofs.Public.{Pair}
+use Rattle.raft_voter.proofs.Public.{entries_in_range}
 use Rattle.raft_voter_records.specs.Voters.{Group, HoldsVoter, IsForeign, IsVoid, stored_entry, voter_key}
 use Rattle.raft_voter_records.specs.Laws.{ForeignExactly, OneVoter, OneWorld}
 use Rattle.raft_voter_records.proofs.Entries.{content_above, content_at}

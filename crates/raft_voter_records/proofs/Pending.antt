@@ -5,7 +5,7 @@ use Rattle.std.proofs.lemmas.Bool.{cases_lt}
 use Rattle.std.proofs.lemmas.List.{take-append-le}
 use Rattle.raft_log_model_laws.specs.Item.{Record}
 use Rattle.raft_log_model_laws.specs.Groups.{taken}
-use Rattle.raft_log_model_laws.proofs.Steps.{taken_append}
+use Rattle.raft_log_model_laws.proofs.Public.{taken_append}
 use Rattle.raft_voter.specs.Rounds.{World}
 use Rattle.raft_voter_records.specs.Voters.{Groups, Means}
 use Rattle.raft_voter_records.specs.Among.{MeansAmong}
@@ -31,9 +31,6 @@ module _ (P : World → Type 0) where
   among_none m W p means zero h = (W, p, means)
   among_none m W p means (suc k) h = absurd (omega arith)
 
-  pub none_among : (m : Groups) → MeansAmong P m [] → (X : World) × P X × Means m X
-  none_among m among = among 0 (omega arith)
-
   -- some first batches came to the map
   pub among_rest : (m : Groups) (done rest : Batches) → MeansAmong P m (done ++ rest) → MeansAmong P (taken m done) rest
   among_rest m done rest among k h =
@@ -42,13 +39,6 @@ module _ (P : World → Type 0) where
       let is : taken m (take (length done + k) (done ++ rest)) ≡ taken (taken m done) (take k rest) =
       ap (taken m) (take_behind done rest k) ∙ taken_in_two m done (take k rest) in
       (found.0, found.1, subst (λ (n : Groups). Means n found.0) is found.2)
-
-  -- a stop left some first ones alone
-  pub among_left : (m : Groups) (pending : Batches) (k : ℕ) → k ≤ length pending → MeansAmong P m pending
-      → MeansAmong P (taken m (take k pending)) []
-  among_left m pending k h among =
-      let found = among k h in
-      among_none (taken m (take k pending)) found.0 found.1 found.2
 
   -- one batch more, or none, and the voters behind all of them
   pub among_more : (m : Groups) (pending said : Batches) (X : World) → length said ≤ 1 → MeansAmong P m pending → P X

@@ -7,20 +7,20 @@ use Rattle.std.specs.List.{list_all}
 use Rattle.raft_log_model_laws.specs.Meaning.{Content}
 use Rattle.raft_log_model_laws.specs.Meaning.Slot.{Key}
 use Rattle.raft_log_model_laws.specs.Meaning.Content.{Entry, Value}
-use Rattle.raft_log_model_laws.proofs.Cases.{from_le_true, if_false, if_true, le_false, le_true}
+use Rattle.raft_log_model_laws.proofs.Public.{from_le_true, if_false, if_true, le_false, le_true}
 use Rattle.raft_voter_messages.specs.declared.reply.Entry.{Entry as VoterEntry}
 use Rattle.raft_voter_messages.specs.declared.reply.VoterState.{VoterState}
 use Rattle.raft_voter_messages.specs.Laws.{bare}
 use Rattle.raft_voter_messages.specs.Ranges.{entry_fits, fits}
 use Rattle.raft_voter_messages.specs.StoredForms.{IsBareState, IsEntry, IsState, entry_text, state_fits, stored_entry_fits, vote_fits}
-use Rattle.raft_voter_messages.proofs.ReadingBack.{entries_are_read_back, one_entry_fault, one_state, one_state_fault}
+use Rattle.raft_voter_messages.proofs.Public.{entries_are_read_back, one_entry_fault, one_state, one_state_fault}
 use Rattle.raft_voter_outline.specs.Outlines.{stored_state}
 use Rattle.raft_voter_outline.specs.Rules.{numbered}
 use Rattle.raft_voter_outline.specs.State.{State}
-use Rattle.raft_voter_outline.proofs.Indexes.{Pair}
+use Rattle.raft_voter_outline.proofs.Public.{Pair}
 use Rattle.raft_voter.specs.InRange.{IsInRange, IsStorable}
 use Rattle.raft_voter.specs.Laws.{AreReadAs, log_entries}
-use Rattle.raft_voter.proofs.Numbering.{entries_in_range, length-numbered}
+use Rattle.raft_voter.proofs.Public.{entries_in_range, length-numbered}
 use Rattle.raft_voter_records.specs.Voters.{Group, IsVoter, stored_entry, voter_key}
 use Rattle.raft_voter_records.specs.Readings.{read_voter, run_content}
 use Rattle.raft_voter_records.specs.Readings.HasForeign.{other_key, no_state, broken_state, below_base, behind_gap, broken_entry, too_far}

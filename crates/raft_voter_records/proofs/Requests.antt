@@ -7,13 +7,12 @@ use Rattle.raft_log_record_frames.specs.ItemBatch.{command_item}
 use Rattle.raft_log_record_batches.specs.Batch.{Batch, Becomes, empty_batch, with_item}
 use Rattle.raft_log_record_batches.specs.EntriesFrom.{indexes_at}
 use Rattle.raft_log_record_batches.specs.Bounds.{batch_bound}
-use Rattle.raft_log_record_batches.proofs.BoundLemmas.{additions_raise}
-use Rattle.raft_log_record_batches.proofs.Lengths.{no_record_is_longer}
+use Rattle.raft_log_record_batches.proofs.Public.{additions_raise, no_record_is_longer}
 use Rattle.raft_voter_messages.specs.declared.reply.VoterState.{VoterState}
 use Rattle.raft_voter_messages.specs.declared.request.Request.{Request}
 use Rattle.raft_voter_messages.specs.Ranges.{in_range, total_bytes}
 use Rattle.raft_voter_messages.specs.StoredForms.{state_text}
-use Rattle.raft_voter_messages.proofs.Bytes.{length-state_text}
+use Rattle.raft_voter_messages.proofs.Public.{length-state_text}
 use Rattle.raft_voter_outline.specs.declared.outline.decision.Change.{Change}
 use Rattle.raft_voter_outline.specs.declared.outline.decision.Write.{Write}
 use Rattle.raft_voter_outline.specs.declared.outline.decision.Write.TheVariants as writes

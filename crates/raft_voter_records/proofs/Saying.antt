@@ -4,8 +4,7 @@ use Rattle.std.proofs.lemmas.Bool.{cases_Bool, cases_lt, ltb-false, ltb-true, an
 use Rattle.std.proofs.lemmas.List.{drop_all, drop_at}
 use Rattle.std.specs.List.{common_prefix_len}
 use Rattle.raft_log_model_laws.specs.Item.Item.{Compact, Put}
-use Rattle.raft_log_model_laws.proofs.Cases.{eq_false, eq_true, from_eq_false, from_le_false, if_false, if_true}
-use Rattle.raft_log_model_laws.proofs.Tests.{same_key}
+use Rattle.raft_log_model_laws.proofs.Public.{eq_false, eq_true, from_eq_false, from_le_false, if_false, if_true, same_key}
 use Rattle.raft_voter_messages.specs.declared.reply.VoterState.{VoterState}
 use Rattle.raft_voter_messages.specs.declared.request.Request.{Request}
 use Rattle.raft_voter_messages.specs.declared.request.Request.TheVariants as requests
@@ -17,9 +16,7 @@ use Rattle.raft_voter_outline.specs.declared.outline.decision.Write.TheVariants.
 use Rattle.raft_voter_outline.specs.Outlines.{CanWrite, IsChangeOf, RestsOn, append_write, log_written, sent_of, write_of}
 use Rattle.raft_voter_outline.specs.Rules.{agrees_at, can_compact, is_retire, matching, next, next_in_range}
 use Rattle.raft_voter_outline.specs.State.{State, last_index}
-use Rattle.raft_voter_outline.proofs.Deciding.{Does, append_small, does_append, does_compact, does_install, does_vote}
-use Rattle.raft_voter_outline.proofs.Indexes.{Pair, get_drop, matching-le, other_there, term_of}
-use Rattle.raft_voter_outline.proofs.Steps.{agrees_above, by_test}
+use Rattle.raft_voter_outline.proofs.Public.{agrees_above, append_small, by_test, does_append, does_compact, does_install, does_vote, get_drop, matching-le, other_there, term_of, Does, Pair}
 use Rattle.raft_voter_records.specs.Voters.{voter_key}
 use Rattle.raft_voter_records.specs.MeaningChanges.{Words, brought_items, change_items, decided_items, gone_items, is_entry, log_items, run_items, shared, state_items, write_items}
 use Rattle.raft_voter_records.specs.Laws.{DecisionsAreWritten}

@@ -12,16 +12,16 @@ use Rattle.raft_log_record_items.specs.Items.{put_item, put_of}
 use Rattle.raft_log_record_items.specs.Placed.{laid_run}
 use Rattle.raft_log_record_items.specs.Writing.{bytes_bytes, command_bytes, content_bytes, entries_bytes, item_bytes, items_bytes, key_value_bytes, lengths_bytes, operation_bytes}
 use Rattle.raft_log_record_frames.specs.Record.{block_bytes, record_len}
-use Rattle.raft_log_record_frames.proofs.Made.{four_bytes}
+use Rattle.raft_log_record_frames.proofs.Public.{four_bytes}
 use Rattle.raft_log_record_batches.specs.Batch.{Batch, empty_batch}
 use Rattle.raft_log_record_batches.specs.Entries.{entries_item, entries_of, joined, with_entries}
 use Rattle.raft_log_record_frames.specs.ItemBatch.{command_item}
-use Rattle.raft_log_record_batches.proofs.Entries.{joined-length, length-entries_of}
+use Rattle.raft_log_record_batches.proofs.Public.{joined-length, length-entries_of, length-indexes_from}
 use Rattle.raft_voter_messages.specs.declared.reply.VoterState.{VoterState}
 use Rattle.raft_voter_messages.specs.declared.request.Request.{Request}
 use Rattle.raft_voter_messages.specs.Ranges.{total_bytes}
 use Rattle.raft_voter_messages.specs.StoredForms.{state_text}
-use Rattle.raft_voter_messages.proofs.Bytes.{length-state_text}
+use Rattle.raft_voter_messages.proofs.Public.{length-state_text}
 use Rattle.raft_voter_outline.specs.declared.outline.decision.Change.{Change}
 use Rattle.raft_voter_outline.specs.declared.outline.decision.Write.{Write}
 use Rattle.raft_voter_outline.specs.declared.outline.decision.Write.TheVariants as writes
@@ -31,7 +31,6 @@ use Rattle.raft_voter_records.specs.Changes.{IsFresh, voter_key, with_change, wi
 use Rattle.raft_log_record_batches.specs.EntriesFrom.{indexes_at}
 use Rattle.raft_voter_records.specs.Entries.{entry_texts}
 use Rattle.raft_voter_records.proofs.BoundLemmas.{brought_small, bytes_len-entry_texts, changes_in_range, length-entry_texts, total_bytes-drop}
-use Rattle.raft_log_record_batches.proofs.EntriesFrom.{length-indexes_from}
 use Rattle.raft_voter_records.specs.EncodingLaws.{ChangesAreShort}
 use Rattle.raft_voter_records.proofs.EncodingSaying.{filled}
 

@@ -7,10 +7,10 @@ use Rattle.raft_log_model_laws.specs.Item.Item.{Compact}
 use Rattle.raft_log_model_laws.specs.Meaning.{Content, says}
 use Rattle.raft_log_model_laws.specs.Meaning.Slot.{Index, Key}
 use Rattle.raft_log_model_laws.specs.Meaning.Content.{Entry}
-use Rattle.raft_log_model_laws.proofs.Tests.{compact_leaves, compact_removes, run_leaves, run_sets}
+use Rattle.raft_log_model_laws.proofs.Public.{compact_leaves, compact_removes, run_leaves, run_sets}
 use Rattle.raft_voter_messages.specs.StoredForms.{entry_text}
 use Rattle.raft_voter_outline.specs.Rules.{numbered}
-use Rattle.raft_voter_outline.proofs.Indexes.{Pair, get_back, get_drop, get_front}
+use Rattle.raft_voter_outline.proofs.Public.{get_back, get_drop, get_front, Pair}
 use Rattle.raft_voter_records.specs.Voters.{stored_entry}
 use Rattle.raft_voter_records.specs.MeaningChanges.{Words, run_items}
 use Rattle.raft_voter_records.proofs.Entries.{as_entry, content_above, content_at, content_below, content_none, text_at}

@@ -18,7 +18,7 @@ ChangesAreSaid = (old new : Batch) (g : ℕ) (c : Change) (q : Request) (v : Sta
     → Becomes (with_change old g c q) new
     → record_of (entry_bytes new.entries) new.items ≡ Some (record_in g (decided_items c q))
 
--- If a change is added to an empty batch, its record is shorter than 2 MiB.
+-- If a change of a voter is added to an empty batch, the batch's record is shorter than 2 MiB.
 abbrev pub ChangesAreShort : Type 0
 ChangesAreShort = (old new : Batch) (g : ℕ) (c : Change) (q : Request) (v : State) → IsFresh old → IsChangeOf v q c
     → Becomes (with_change old g c q) new → record_len new.items new.entries < 2 ^ 21

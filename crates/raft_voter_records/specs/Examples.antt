@@ -1,4 +1,4 @@
--- Example runs of one voter, and what is written for them. Its entries have no data of their own.
+-- Example runs of one voter, and what is written for them. The voter's entries have no data of their own.
 use Rattle.std.specs.Prelude.{ℕ, List, [], ◌∷◌, None}
 use Rattle.raft_log_model_laws.specs.Item.Item.{Put}
 use Rattle.raft_log_model_laws.specs.Meaning.{holds}

@@ -49,7 +49,8 @@ abbrev pub SameMapsMeanTheSame : Type 0
 SameMapsMeanTheSame = (m n : Groups) → ((g : ℕ) (s : Slot) → m g s ≡ n g s)
     → (W : World) → Means m W → Means n W
 
--- If reading a group finds the state `s` and the entries `es`, the group holds the voter with them.
+-- If reading a group finds the state `s` and the entries `es`, the group holds the voter with this state and these
+-- entries.
 abbrev pub ReadGroupsHoldVoters : Type 0
 ReadGroupsHoldVoters = (grp : Group) (s : VoterState) (es : List VoterEntry) → IsReadAs grp s es
     → HoldsVoter grp (read_voter s es)

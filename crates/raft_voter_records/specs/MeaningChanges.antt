@@ -26,21 +26,23 @@ Words = Item (List ℕ) (List ℕ)
 abbrev pub is_entry : ℕ × List ℕ → ℕ × List ℕ → Bool
 is_entry d e = (d.0 == e.0) && bytes_eq d.1 e.1
 
--- how many entries at the front the logs of `v` and `w` have in common
+-- how many entries the logs of `v` and `w` have in common, counted from their first entries
 abbrev pub shared : State → State → ℕ
 shared v w = common_prefix_len is_entry v.log w.log
 
--- the item that writes these entries as one run; the first has the index `index`; nothing if there are none
+-- The item that writes these entries as one run, whose first entry has the index `index`. There is no item if there are
+-- no entries.
 abbrev pub run_items : ℕ → List (ℕ × List ℕ) → List Words
 run_items index [] = []
 run_items index (e ∷ es) = Run index (map entry_text (numbered index (e ∷ es))) ∷ []
 
--- the item that writes the entries of `w` after those in common with `v`
+-- The item that writes the entries of `w` after those in common with `v`; none if there are no such entries. Both
+-- voters have the base of `v`.
 abbrev pub brought_items : State → State → List Words
 brought_items v w = run_items (v.base_index + shared v w + 1) (drop (shared v w) w.log)
 
--- The item that deletes the entries of the old voter `v` up to the base of the new one, `w`. If `w` has no entries, it
--- deletes all entries of `v`. If `v` has none, nothing is written.
+-- The item that deletes the entries of the old voter `v` up to the base of the new one, `w`. If `w` has no entries, the
+-- item deletes all entries of `v`. If `v` has no entries, nothing is written.
 abbrev pub gone_items : State → State → List Words
 gone_items v w =
     if length v.log == 0 then []
@@ -84,7 +86,7 @@ write_items (writes.CompactTo index) sent = Compact (index + 1) ∷ []
 write_items writes.Clean sent = Clean ∷ []
 
 -- The items for the change `c` that was decided for the request `q`: those for the log, then the new state. If the
--- request retires the voter, there is none for the state.
+-- request retires the voter, there is no item for the state.
 abbrev pub decided_items : Change → Request → List Words
 decided_items c q =
     write_items c.write (sent_of q)

@@ -17,9 +17,9 @@ use Rattle.raft_voter_records.specs.Voters.{Group, voter_key}
 abbrev pub run_content : ℕ → List (List ℕ) → ℕ → Option (Content (List ℕ) (List ℕ))
 run_content first texts i = if nat_le first i then option_map Entry (slice_get texts (i - first)) else None
 
--- Reading the group finds the state `s` and the entries `es`. The voter's key is its only key, and its value encodes
--- `s`. The group's entries encode `es`, and have consecutive indexes right after the base of `s`. The last index is
--- below 2 ^ 63.
+-- Reading the group finds the state `s` and the entries `es`. The voter's key is the group's only key, and the value of
+-- this key encodes `s`. The group's entries encode `es`, and have consecutive indexes right after the base of `s`. The
+-- last index is below 2 ^ 63.
 pub record IsReadAs (grp : Group) (s : VoterState) (es : List VoterEntry) : Type 0 where
   pub bytes : List ℕ
   pub head : grp (Key voter_key) ≡ Some (Value bytes)

@@ -35,8 +35,8 @@ stored_entry i e = entry_text (record { index = i; term = e.0; bytes = e.1 })
 abbrev pub entry_content : State → ℕ → Option (Content (List ℕ) (List ℕ))
 entry_content v i = option_map (λ e. Entry (stored_entry i e)) (entry_at v i)
 
--- The group holds the voter `v`, whose numbers are in range. It has the voter's key with the encoded state, in the
--- current or the old form, no other key, and exactly the voter's entries.
+-- The group holds the voter `v`, whose numbers are in range. The group has the voter's key; its value is the encoded
+-- state, in the current or the old form. The group has no other key, and exactly the voter's entries.
 pub record HoldsVoter (grp : Group) (v : State) : Type 0 where
   pub storable : IsStorable v
   pub bytes : List ℕ

@@ -4,7 +4,7 @@ use Rattle.std.proofs.lemmas.Bool.{cases_lt}
 use Rattle.std.proofs.lemmas.Bool.Decides.{nat_tests}
 use Rattle.raft_log_model_laws.specs.Meaning.{Slot}
 use Rattle.raft_log_model_laws.specs.Meaning.Slot.{Index, Key}
-use Rattle.raft_log_model_laws.proofs.Cases.{from_lt_true}
+use Rattle.raft_log_model_laws.proofs.Public.{from_lt_true}
 use Rattle.raft_log_memtable_index.specs.Shown.{Shown}
 use Rattle.raft_voter_durability_laws.specs.raft_log_engine_laws.specs.raft_log_memtable.specs.Reads.{first_of, last_of}
 use Rattle.raft_voter_durability_laws.specs.raft_log_engine_laws.specs.EngineState.{LogDirectories, LogMap, EngineState}
@@ -13,7 +13,7 @@ use Rattle.raft_voter_messages.specs.declared.reply.VoterState.{VoterState}
 use Rattle.raft_voter_messages.specs.StoredForms.{state_fits}
 use Rattle.raft_voter_records.specs.Voters.{IsForeign, IsVoid, voter_key}
 use Rattle.raft_voter_records.specs.Readings.HasForeign.{behind_gap, below_base, no_state, too_far}
-use Rattle.raft_voter_records.proofs.Reading.{foreign_groups_are_foreign}
+use Rattle.raft_voter_records.proofs.Public.{foreign_groups_are_foreign}
 use Rattle.raft_voter_recovery.specs.Groups.{HasNoKey, ReadsEnd, ReadsSpan, ReadsState}
 use Rattle.raft_voter_recovery.specs.Reading.{Tells}
 
@@ -36,14 +36,6 @@ span_is v first last = by (nat_lt 0 (length v.places)) refl
         let last_is : last ≡ v.first + (length v.places - 1) = cc in
         (first_is, omega (arith, last_is, many))
     by false none f l = absurd (let no : ⊥ = cc in no)
-
--- tables that show a first entry show a last one
-pub has_last : (v : Shown) (first : ℕ) → Some first ≡ first_of v → None ≡ last_of v → ⊥
-has_last v first = by (nat_lt 0 (length v.places))
-  where
-    by : (b : Bool) → Some first ≡ (if b then Some v.first else None) → None ≡ (if b then Some (v.first + (length v.places - 1)) else None) → ⊥
-    by true f l = let no : ⊥ = cc in no
-    by false f l = let no : ⊥ = cc in no
 
 -- No entries.
 

@@ -14,7 +14,7 @@ use Rattle.std.proofs.lemmas.Map.Keys.{below_from_sorted, sorted_from_strictly_i
 use Rattle.raft_log_model_laws.specs.Meaning.{Slot}
 use Rattle.raft_log_model_laws.specs.Meaning.Slot.{Index, Key}
 use Rattle.raft_log_model_laws.specs.Meaning.Content.{Value}
-use Rattle.raft_log_model_laws.proofs.Cases.{eq_false, eq_true, from_eq_false, from_eq_true}
+use Rattle.raft_log_model_laws.proofs.Public.{eq_false, eq_true, from_eq_false, from_eq_true}
 use Rattle.raft_log_memtable_index.specs.Bridge.{bytes_held}
 use Rattle.raft_log_memtable_index.specs.Shown.{Shown}
 use Rattle.raft_voter_durability_laws.specs.raft_log_engine_laws.specs.raft_log_memtables.specs.Bare.{HasNothing}
@@ -24,7 +24,7 @@ use Rattle.raft_voter_durability_laws.specs.raft_log_engine_laws.specs.EngineSta
 use Rattle.raft_voter_durability_laws.specs.raft_log_engine_laws.specs.Fetching.{StaysButBlock}
 use Rattle.raft_voter_durability_laws.specs.raft_log_engine_laws.specs.Holding.{Represents}
 use Rattle.raft_voter_durability_laws.specs.raft_log_engine_laws.specs.Reading.{IsLastIn}
-use Rattle.raft_voter_durability_laws.specs.raft_log_engine_laws.proofs.Reading.{tables_tell}
+use Rattle.raft_voter_durability_laws.specs.raft_log_engine_laws.proofs.Public.{tables_tell}
 use Rattle.raft_voter_outline.specs.State.{State, fresh}
 use Rattle.raft_voter_records.specs.Voters.{HoldsVoter, IsVoid, IsVoter}
 use Rattle.raft_voter_recovery.specs.Listing.{AddsOutline, AddsVoter, HasOutline}

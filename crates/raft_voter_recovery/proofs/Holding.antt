@@ -6,7 +6,7 @@ use Rattle.std.proofs.lemmas.Bool.{cases_lt}
 use Rattle.std.proofs.lemmas.Option.{slice_get_cases}
 use Rattle.raft_log_model_laws.specs.Meaning.Slot.{Index}
 use Rattle.raft_log_model_laws.specs.Meaning.Content.{Entry}
-use Rattle.raft_log_model_laws.proofs.Cases.{eq_true, if_false, if_true, le_false, le_true}
+use Rattle.raft_log_model_laws.proofs.Public.{eq_true, if_false, if_true, le_false, le_true}
 use Rattle.raft_voter_durability_laws.specs.raft_log_engine_laws.specs.EngineState.{LogDirectories, LogMap, EngineState}
 use Rattle.raft_voter_durability_laws.specs.raft_log_engine_laws.specs.Holding.{Represents}
 use Rattle.raft_voter_messages.specs.declared.reply.Entry.{Entry as VoterEntry}
@@ -14,11 +14,11 @@ use Rattle.raft_voter_messages.specs.declared.stored.StoredFault.{StoredFault}
 use Rattle.raft_voter_messages.specs.StoredForms.{stored_entry_fits}
 use Rattle.raft_voter_outline.specs.Restoring.{are_in_order, restored}
 use Rattle.raft_voter_outline.specs.State.{State}
-use Rattle.raft_voter_outline.proofs.Ordered.{restored_ok}
+use Rattle.raft_voter_outline.proofs.Public.{restored_ok}
 use Rattle.raft_voter.specs.Laws.{AreReadAs}
 use Rattle.raft_voter_records.specs.Voters.{Group, HoldsVoter}
 use Rattle.raft_voter_records.specs.Readings.{IsReadAs, read_voter, run_content}
-use Rattle.raft_voter_records.proofs.Reading.{read_groups_hold_voters}
+use Rattle.raft_voter_records.proofs.Public.{read_groups_hold_voters}
 use Rattle.raft_voter_recovery.specs.declared.heads.Head.{Head}
 use Rattle.raft_voter_recovery.specs.Entries.{ReadsBelow, StandFrom}
 use Rattle.raft_voter_recovery.specs.Groups.{NoneOutside, ReadsHead}

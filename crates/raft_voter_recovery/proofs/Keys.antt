@@ -21,7 +21,7 @@ use Rattle.raft_voter_messages.specs.StoredForms.{IsState, StateFault}
 use Rattle.raft_voter_records.specs.Voters.{voter_key}
 use Rattle.raft_voter_records.specs.Readings.{HasForeign}
 use Rattle.raft_voter_records.specs.Readings.HasForeign.{broken_state, other_key}
-use Rattle.raft_voter_records.proofs.Reading.{foreign_groups_are_foreign}
+use Rattle.raft_voter_records.proofs.Public.{foreign_groups_are_foreign}
 use Rattle.raft_voter_recovery.specs.declared.unread.Unread.{Unread}
 use Rattle.raft_voter_recovery.specs.declared.unread.Unread.TheVariants as causes
 use Rattle.raft_voter_recovery.specs.Groups.{ArePairsForeign, ForeignPairs, HasNoKey, HasOneKey, PairsTell, ReadsKey}

@@ -1,3 +1,4 @@
+pub mod Public
 pub mod Telling
 pub mod Refusing
 pub mod Keys

@@ -1,22 +1,12 @@
 -- One message more is read as an entry, or shows that it is none.
-use Rattle.std.proofs.Common.{◌≡◌, ◌≢◌, ◌∙◌, ℕ, zero, suc, ◌+◌, ◌<◌, ◌^◌, List, [], ◌∷◌, ◌++◌, length, map, length-take, take, get_or, slice_get, Some, sym, ap, subst, arith}
-use Rattle.std.proofs.lemmas.Bool.Decides.{nat_tests}
+use Rattle.std.proofs.Common.{◌≡◌, ◌∙◌, ℕ, ◌+◌, ◌<◌, List, [], ◌∷◌, ◌++◌, length, map, length-take, take, get_or, sym, ap, subst, arith}
 use Rattle.std.proofs.lemmas.List.{length-map, map-append, take_more}
 use Rattle.raft_log_record_items.specs.declared.raw_message.RawMessage.{RawMessage}
 use Rattle.raft_voter_messages.specs.declared.reply.Entry.{Entry as VoterEntry}
-use Rattle.raft_voter_messages.specs.declared.stored.StoredFault.{StoredFault}
 use Rattle.raft_voter_messages.specs.declared.stored.StoredFault.TheVariants as faults
-use Rattle.raft_voter_messages.specs.StoredForms.{EntryFault, IsEntry}
+use Rattle.raft_voter_messages.specs.StoredForms.{IsEntry}
 use Rattle.raft_voter.specs.Laws.{AreReadAs}
-use Rattle.raft_voter_recovery.specs.Entries.{HasBroken}
 use Rattle.raft_voter_recovery.proofs.Pieces.{text_of}
-
--- an entry that is read stands below 2 ^ 63
-pub small_index : (bytes : List ℕ) (index : ℕ) (e : VoterEntry) → IsEntry bytes index e → index < 2 ^ 63
-small_index bytes index e h =
-    let fit = h.in_range in
-    let at = h.at_index in
-    grind (arith, nat_tests, fit, at)
 
 behind : (first : ℕ) (texts : List (List ℕ)) (es : List VoterEntry) (text : List ℕ) (e : VoterEntry) (at : ℕ) → at ≡ first + length texts → AreReadAs first texts es → IsEntry text at e
     → AreReadAs first (texts ++ text ∷ []) (es ++ e ∷ [])
@@ -39,19 +29,3 @@ one_more first i index ms m before after e lt is at read now one =
     let P : List (List ℕ) → Type 0 = λ l. AreReadAs first l after in
     let Q : List VoterEntry → Type 0 = λ l. AreReadAs first (some ++ m.bytes ∷ []) l in
     subst P (sym all) (subst Q (sym now) next)
-
-text_at : (ms : List RawMessage) (i : ℕ) (m : RawMessage) → i < length ms → m ≡ get_or ms i m → slice_get (map text_of ms) i ≡ Some m.bytes
-text_at [] i m lt is = absurd (omega (arith, lt))
-text_at (x ∷ ms) zero m lt is = ap (λ (y : RawMessage). Some y.bytes) (sym is)
-text_at (x ∷ ms) (suc i) m lt is = text_at ms i m (omega (arith, lt)) is
-
-pub broken_at : (first i index : ℕ) (ms : List RawMessage) (m : RawMessage) (fault : StoredFault) → i < length ms → m ≡ get_or ms i m → index ≡ first + i
-    → fault ≢ faults.Memory → EntryFault fault m.bytes index → HasBroken first (map text_of ms)
-broken_at first i index ms m fault lt is at broken why = record {
-  place = i;
-  bytes = m.bytes;
-  fault = fault;
-  at = text_at ms i m lt is;
-  broken = broken;
-  why = subst (λ (n : ℕ). EntryFault fault m.bytes n) at why;
-}

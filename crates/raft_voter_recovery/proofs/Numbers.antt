@@ -7,13 +7,13 @@ use Rattle.std.proofs.lemmas.Bool.Decides.{nat_tests}
 use Rattle.std.proofs.lemmas.List.{take_at, drop_at}
 use Rattle.std.proofs.lemmas.Nat.{from_be_bytes-to_be_bytes_8}
 use Rattle.std.proofs.lemmas.Slice.Eq.{bytes_eq-Decides}
-use Rattle.raft_log_model_laws.proofs.Cases.{from_eq_false, from_eq_true, from_le_false, from_le_true}
+use Rattle.raft_log_model_laws.proofs.Public.{from_eq_false, from_eq_true, from_le_false, from_le_true}
 use Rattle.raft_voter_messages.specs.declared.reply.Entry.{Entry}
 use Rattle.raft_voter_messages.specs.declared.stored.StoredFault.{StoredFault}
 use Rattle.raft_voter_messages.specs.declared.stored.StoredFault.TheVariants as faults
 use Rattle.raft_voter_messages.specs.Ranges.{fits}
 use Rattle.raft_voter_messages.specs.StoredForms.{EntryFault, IsEntry, IsEntryForm1, entry_form_1, number_text, stored_entry_fits}
-use Rattle.raft_voter_messages.proofs.Bytes.{entry_in_range, length-entry, length-number_text}
+use Rattle.raft_voter_messages.proofs.Public.{entry_in_range, length-entry, length-number_text}
 use Rattle.raft_voter_recovery.specs.Numbers.{both, number_in, numbers_in, numbers_text, term_told}
 
 -- A number.

@@ -15,7 +15,7 @@ use Rattle.raft_voter_messages.specs.declared.reply.Entry.{Entry as VoterEntry}
 use Rattle.raft_voter.specs.Laws.{AreReadAs}
 use Rattle.raft_voter_records.specs.Voters.{Group}
 use Rattle.raft_voter_records.specs.Readings.HasForeign.{broken_entry}
-use Rattle.raft_voter_records.proofs.Reading.{foreign_groups_are_foreign}
+use Rattle.raft_voter_records.proofs.Public.{foreign_groups_are_foreign}
 use Rattle.raft_voter_durability_laws.specs.Reads.{IsCounted}
 use Rattle.raft_voter_recovery.specs.declared.unread.Unread.{Unread}
 use Rattle.raft_voter_recovery.specs.declared.unread.Unread.TheVariants as causes

@@ -15,7 +15,7 @@ use Rattle.raft_voter.specs.Laws.{AreReadAs}
 use Rattle.raft_voter_records.specs.Voters.{Group}
 use Rattle.raft_voter_records.specs.Readings.{HasForeign, IsReadAs, read_voter}
 use Rattle.raft_voter_records.specs.Readings.HasForeign.{broken_entry}
-use Rattle.raft_voter_records.proofs.Reading.{foreign_groups_are_foreign, read_groups_hold_voters}
+use Rattle.raft_voter_records.proofs.Public.{foreign_groups_are_foreign, read_groups_hold_voters}
 use Rattle.raft_voter_durability_laws.specs.Reads.{IsCounted}
 use Rattle.raft_voter_recovery.specs.declared.entry_head.EntryHead.{EntryHead}
 use Rattle.raft_voter_recovery.specs.declared.heads.Head.{Head}
@@ -168,19 +168,6 @@ term_fits first i hs o p lt small known =
     let told = length-told first (take i hs) known.terms known.told in
     let some = length-take i hs in
     omega (arith, base, log, terms, told, some, small, lt)
-
-head_at : (hs : List EntryHead) (i : ℕ) (h : EntryHead) → i < length hs → h ≡ get_or hs i h → slice_get hs i ≡ Some h
-head_at [] i h lt is = absurd (omega (arith, lt))
-head_at (x ∷ hs) zero h lt is = ap Some (sym is)
-head_at (x ∷ hs) (suc i) h lt is = head_at hs i h (omega (arith, lt)) is
-
-pub untold_at : (first i index : ℕ) (hs : List EntryHead) (h : EntryHead) → i < length hs → h ≡ get_or hs i h → index ≡ first + i → term_told index h.numbers ≡ None → HasUntold first hs
-untold_at first i index hs h lt is at none = record {
-  place = i;
-  head = h;
-  at = head_at hs i h lt is;
-  untold = subst (λ (n : ℕ). term_told n h.numbers ≡ None) at none;
-}
 
 -- The outline.
 

@@ -45,13 +45,14 @@ pub record HasOneKey (grp : Group) (bytes : List ℕ) : Type 0 where
 abbrev pub HasNoKey : Group → Type 0
 HasNoKey grp = (k : List ℕ) → grp (Key k) ≡ None
 
--- the state `s` of group `g` was parsed from the value of its one key
+-- the state `s` of group `g` was parsed from the value of the group's one key, the voter's
 pub record ReadsState (e : EngineState) (g : ℕ) (s : VoterState) : Type 0 where
   pub bytes : List ℕ
   pub state : IsState bytes s
   pub tells : Tells e (λ m. HasOneKey (m g) bytes)
 
--- the keys of group `g` were read: it has none; or it has the one key of a voter, whose value is the state `s`
+-- The keys of group `g` were read. `None`: the group has no key. `Some s`: it has only the voter's key, whose value is
+-- the state `s`.
 abbrev pub ReadsKey : EngineState → ℕ → Option VoterState → Type 0
 ReadsKey e g None = Tells e (λ m. HasNoKey (m g))
 ReadsKey e g (Some s) = ReadsState e g s

@@ -15,8 +15,8 @@ abbrev pub TellsOutline : EngineState → ℕ → Option Outlined → Type 0
 TellsOutline e g None = Tells e (λ m. IsVoid (m g))
 TellsOutline e g (Some o) = Tells e (λ m. HasOutline o.voter (m g))
 
--- The outlines `os` became `us`: group `g` got the outline of its voter, and the other groups' outlines are unchanged.
--- Or group `g` is empty, and no outline changed.
+-- The outlines `os` became `us`. Either `us` has the outline of the voter of group `g`, and the other groups' outlines
+-- are unchanged. Or group `g` is empty, and no outline changed.
 abbrev pub AddsOutline : EngineState → ℕ → (ℕ → State) → (ℕ → State) → Type 0
 AddsOutline e g os us =
     (((h : ℕ) → (h == g) ≡ false → us h ≡ os h) × Tells e (λ m. HasOutline (us g) (m g)))
@@ -27,8 +27,8 @@ abbrev pub TellsVoter : EngineState → ℕ → Option State → Type 0
 TellsVoter e g None = Tells e (λ m. IsVoid (m g))
 TellsVoter e g (Some v) = Tells e (λ m. HoldsVoter (m g) v)
 
--- The voter of group `g` was appended to the list `vs`, which became `ws`. Or the group is empty, and the list is
--- unchanged.
+-- The list of voters `vs` became `ws`. Either the voter of group `g` was appended to the list. Or the group is empty,
+-- and the list is unchanged.
 abbrev pub AddsVoter : EngineState → ℕ → List (ℕ × State) → List (ℕ × State) → Type 0
 AddsVoter e g vs ws = ((v : State) × (ws ≡ vs ++ (g, v) ∷ []) × Tells e (λ m. HoldsVoter (m g) v))
     ⊎ ((ws ≡ vs) × Tells e (λ m. IsVoid (m g)))

@@ -16,8 +16,7 @@ use Rattle.raft_voter_durability_laws.specs.Requests.{WereUnread}
 use Rattle.raft_voter_recovery.specs.declared.unread.Unread.{Unread}
 use Rattle.raft_voter_recovery.specs.declared.unread.Unread.TheVariants as causes
 
--- `P` holds for the contents of engine `s`'s log, whatever its directories are. This is claimed only if nothing is
--- pending.
+-- If no batch is pending, `P` holds for the contents of the log of engine `s`, whatever the log's directories are.
 abbrev pub Tells : EngineState → (LogMap → Type 0) → Type 0
 Tells s P = (home : LogDirectories) (m : LogMap) → Represents home s m [] → P m
 
@@ -55,7 +54,7 @@ pub record ListsVoters (s : EngineState) (vs : List (ℕ × State)) : Type 0 whe
 
 -- Failures.
 
--- Why a read of the engine failed with `error`: the engine has failed; or an entry couldn't be read from its file; or
+-- Why a read of the engine failed with `error`: the engine has failed, an entry couldn't be read from its file, or
 -- memory ran out for an entry.
 abbrev pub IsRefused : Error → EngineState → Type 0
 IsRefused error s = IsFailed s error

@@ -1,32 +1,14 @@
 -- The records that a journal keeps are the last ones of its history.
-use Rattle.std.proofs.Common.{◌≡◌, ℕ, zero, suc, ◌+◌, ◌-◌, ◌≤◌, ◌<◌, List, [], ◌∷◌, ◌++◌, length, length-append, take, drop, set, get_or, slice_get, Some, refl, sym, subst, ap, ◌∙◌, arith}
+use Rattle.std.proofs.Common.{◌≡◌, ℕ, ◌+◌, ◌≤◌, ◌<◌, List, [], ◌++◌, length, take, drop, set, get_or, refl, sym, subst, ap, ◌∙◌}
 use Rattle.std.specs.List.{All}
 use Rattle.std.proofs.Math.Seq.{drop-append_seam, take-length}
-use Rattle.std.proofs.lemmas.List.{append-nil, drop_all, drop-append-le, length-take-le, nil_from_length, set-get_or, take-append-drop}
+use Rattle.std.proofs.lemmas.List.{append-nil, length-take-le, nil_from_length, set-get_or, take-append-drop}
 use Rattle.raft_voter_messages.specs.declared.round.Round.{Round}
 use Rattle.raft_voter_history.specs.History.{HasPart}
 use Rattle.std.proofs.lemmas.List.Elements.{All-more}
 use Rattle.raft_voter_rounds.specs.Proving.{IsAt}
 use Rattle.raft_voter_rounds.specs.Taking.{HasTaken}
 use Rattle.raft_voter_rounds.specs.declared.receipt.Statement.{Statement}
-
--- a record is added to both
-pub kept_more :
-    (history kept : List Round) (n : ℕ) (r : Round) → n ≡ length history → length kept ≤ n → drop (n - length kept) history ≡ kept
-    → drop (n + 1 - length (kept ++ r ∷ [])) (history ++ r ∷ []) ≡ kept ++ r ∷ []
-kept_more history kept n r many few last =
-    let same : n + 1 - length (kept ++ r ∷ []) ≡ n - length kept = omega (arith, length-append kept (r ∷ [])) in
-    ap (λ (k : ℕ). drop k (history ++ r ∷ [])) same
-    ∙ drop-append-le (n - length kept) history (r ∷ []) (omega (arith, many))
-    ∙ ap (λ (l : List Round). l ++ r ∷ []) last
-
--- a record is added to the history alone, where none is kept
-pub kept_none :
-    (history kept : List Round) (n : ℕ) (r : Round) → n ≡ length history → length kept ≡ 0
-    → drop (n + 1 - length kept) (history ++ r ∷ []) ≡ kept
-kept_none history kept n r many none =
-    drop_all (n + 1 - length kept) (history ++ r ∷ []) (omega (arith, many, none, length-append history (r ∷ [])))
-    ∙ sym (nil_from_length kept none)
 
 -- those that are kept are a part of the history
 pub kept_part :
@@ -47,16 +29,6 @@ pub takes_all : (history kept old : List Round) (n : ℕ) → drop n history ≡
 takes_all history kept old n last many has =
     let rest : kept ≡ has.0 = sym last ∙ ap (λ (m : ℕ). drop m history) (sym many) ∙ ap (drop (length old)) has.1 ∙ drop-append_seam old has.0 in
     ap (λ (l : List Round). old ++ l) rest ∙ sym has.1
-
--- a part of one record is at its place
-get_here : (before later : List Round) (r : Round) (place : ℕ) → length before ≡ place → slice_get (before ++ (r ∷ later)) place ≡ Some r
-get_here [] later r zero at = refl
-get_here [] later r (suc place) at = absurd (omega (arith, at))
-get_here (x ∷ before) later r zero at = absurd (omega (arith, at))
-get_here (x ∷ before) later r (suc place) at = get_here before later r place (omega (arith, at))
-
-pub part_at : (history : List Round) (place : ℕ) (r : Round) → HasPart history place (r ∷ []) → slice_get history place ≡ Some r
-part_at history place r h = ap (λ (l : List Round). slice_get l place) h.is ∙ get_here h.before h.later r place h.at
 
 -- one receipt more was compared with the history, and is as it was
 pub receipts_same : (rs now : List Statement) (index : ℕ) (item after : Statement) → now ≡ rs → after ≡ get_or now index item → set now index after ≡ rs

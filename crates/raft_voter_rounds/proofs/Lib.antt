@@ -1,3 +1,4 @@
+pub mod Public
 pub mod Within
 pub mod Noted
 pub mod Requests

@@ -6,7 +6,7 @@ use Rattle.std.proofs.lemmas.Bool.{and_parts, eqb-true, eq-eqb, false≢true}
 use Rattle.raft_voter_messages.specs.declared.request.Request.{Request}
 use Rattle.raft_voter_messages.specs.declared.request.Request.TheVariants.{Vote, Append, Compact, Install, Read, Status, Retire}
 use Rattle.raft_voter_messages.specs.contracts.request.RequestPartialEq as requests
-use Rattle.raft_voter.proofs.Sameness.{logs_decide}
+use Rattle.raft_voter.proofs.Public.{logs_decide}
 
 abbrev same_request : Request → Request → Bool
 same_request = requests.TheImpl.eq-value.it

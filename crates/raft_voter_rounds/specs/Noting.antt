@@ -15,8 +15,8 @@ use Rattle.raft_voter_rounds.specs.declared.done.Told.{Told}
 use Rattle.raft_voter_rounds.specs.declared.receipt.SharedFault.{SharedFault}
 use Rattle.raft_voter_rounds.specs.declared.receipt.SharedFault.TheVariants as faults
 
--- Records. Rounds that are served together are given by the lengths of the rounds, `counts`, and by the requests of
--- all of them, in order.
+-- Records. Rounds that are served together are given by two lists: `counts` has the number of requests of each round,
+-- and `requests` the requests of all rounds, in order.
 
 -- the record of a round with these replies; its refused positions are those whose reply is `Refused`, within the round
 abbrev pub answered : List (ℕ × Request) → List Reply → Round
@@ -36,16 +36,17 @@ answered_each [] requests replies = []
 answered_each (n ∷ counts) requests replies =
     answered (take n requests) (take n replies) ∷ answered_each counts (drop n requests) (drop n replies)
 
--- of these positions, those in the round of `count` requests that begins at position `start`; they count anew from the
--- round's first request
+-- Those of these positions that are in the round of `count` requests which begins at position `start`. The results
+-- count from the round's first request.
 abbrev pub places_within : ℕ → ℕ → List ℕ → List ℕ
 places_within start count [] = []
 places_within start count (p ∷ ps) =
     if nat_le start p && nat_lt p (start + count) then (p - start) ∷ places_within start count ps
     else places_within start count ps
 
--- The records of rounds that were cut off together: each has its own requests and refused positions. The first of these
--- requests has position `start`, and `refused` has the refused positions of all rounds, counted alike.
+-- The records of rounds that were cut off together: each has its own requests and refused positions. The arguments
+-- count positions through all these rounds: `start` is the position of the first request here, and `refused` has the
+-- refused positions.
 abbrev pub cut_each : ℕ → List ℕ → List (ℕ × Request) → List ℕ → List Round
 cut_each start [] requests refused = []
 cut_each start (n ∷ counts) requests refused =
@@ -95,8 +96,8 @@ pub record NotesCut {S : Type 0} (v : Service S) (cause : Cause) (counts : List 
   pub cuts : CutsOff v cause refused requests old new
   pub fails : FailsAs cause (length requests) (v.is_failed old) (v.is_failed new)
 
--- Why none of these rounds has replies. They were cut off, and the first record is at `place`. Or memory for their
--- records ran out before they were served: nothing changed, and each caller gets `Memory`.
+-- Why none of these rounds has replies. `Cut`: they were cut off, and the first record is at `place`. `Memory`: memory
+-- for their records ran out before they were served. Then nothing changed, and each caller gets `Memory`.
 abbrev pub GivesNoReplies : {S : Type 0} → Service S → SharedFault → List ℕ → List (ℕ × Request)
     → S → List Round → S → List Round → List (Result Told SharedFault) → Type 0
 GivesNoReplies v (faults.Cut place cause) counts requests old rounds new rounds' answers =

@@ -24,8 +24,8 @@ record_of r = answered r.requests r.replies
 abbrev pub IsAt : List Round → Statement → Type 0
 IsAt history r = slice_get history r.place ≡ Some (record_of r)
 
--- There is a history of a store's rounds. It is legal for the voters that the store served when it was shared: those of
--- each world with `served`. It has the record of each of these receipts at the receipt's place.
+-- There is a history of a store's rounds. It is legal, starting with the voters that the store served when it was
+-- shared (each world with `served`). The history has the record of each of these receipts at the receipt's place.
 pub record AreInHistory (served : World → Type 0) (receipts : List Statement) : Type 0 where
   pub history : List Round
   pub legal : (W : World) → served W → IsLegal W history

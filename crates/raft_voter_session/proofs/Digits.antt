@@ -1,5 +1,5 @@
 -- What digits say, read one by one.
-use Rattle.std.proofs.Common.{◌≡◌, ℕ, ◌+◌, ◌-◌, ◌*◌, ◌^◌, ◌<◌, ◌≤◌, ◌∙◌, true, false, List, [], ◌∷◌, length, drop, get_or, Some, None, refl, arith}
+use Rattle.std.proofs.Common.{◌≡◌, ℕ, ◌+◌, ◌-◌, ◌*◌, ◌^◌, ◌<◌, ◌≤◌, ◌∙◌, true, List, [], ◌∷◌, length, drop, get_or, Some, None, refl, arith}
 use Rattle.std.proofs.lemmas.List.{at_drop_more, at_drop_all}
 use Rattle.std.proofs.lemmas.Bool.Decides.{nat_tests}
 use Rattle.std.specs.Char.{digit_value}
@@ -15,10 +15,6 @@ digits_say_more n (d ∷ ds) = omega (arith, digits_say_more (n * 10 + digit_val
 pub value_from-end : (n : ℕ) → n < 2 ^ 64 → value_from n [] ≡ Some n
 unfolding value_from
 value_from-end n h = grind arith
-
-pub value_from-other : (n d : ℕ) (ds : List ℕ) → is_ascii_digit d ≡ false → value_from n (d ∷ ds) ≡ None
-unfolding value_from
-value_from-other n d ds h = rw h refl
 
 pub value_from-digit : (n d : ℕ) (ds : List ℕ) → is_ascii_digit d ≡ true → value_from n (d ∷ ds) ≡ value_from (n * 10 + digit_value d) ds
 unfolding value_from

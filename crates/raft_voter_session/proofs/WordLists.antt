@@ -1,5 +1,5 @@
 -- The words of a text, taken off one by one.
-use Rattle.std.proofs.Common.{◌≡◌, ℕ, ◌<◌, ◌∙◌, Bool, true, false, cond, List, [], ◌∷◌, ◌++◌, length, drop, Option, Some, None, unwrap_or, append_assoc, refl, sym, ap, subst, arith}
+use Rattle.std.proofs.Common.{◌≡◌, ℕ, ◌∙◌, Bool, true, false, cond, List, [], ◌∷◌, ◌++◌, length, drop, Option, Some, None, unwrap_or, append_assoc, refl, sym, ap, subst, arith}
 use Rattle.std.proofs.lemmas.Grind.{common_steps}
 use Rattle.std.specs.List.{before_first, slice_split}
 use Rattle.std.specs.Option.{option_map}
@@ -53,15 +53,6 @@ entries_at-found false b text word rest h e = cc
 pub entries_at-word : (text word rest : List ℕ) → word_at text ≡ Some (word, rest) → entries_at text ≡ first_and word rest
 entries_at-word [] word rest e = cc
 entries_at-word (b ∷ text) word rest e = entries_at-found (is_space b) b text word rest refl e
-
-entries_at-lost : (s : Bool) (b : ℕ) (text : List ℕ) → is_space b ≡ s → found s text ≡ None → entries_at (b ∷ text) ≡ None
-unfolding entries_at
-entries_at-lost true b text h e = cc
-entries_at-lost false b text h e = let w = begins text in rw (h, w.all) refl
-
-pub entries_at-end : (text : List ℕ) → word_at text ≡ None → 0 < length text → entries_at text ≡ None
-entries_at-end [] e h = absurd (omega arith)
-entries_at-end (b ∷ text) e h = entries_at-lost (is_space b) b text refl e
 
 pub entries_at-empty : (text : List ℕ) → length text ≡ 0 → entries_at text ≡ Some []
 unfolding entries_at

@@ -5,7 +5,7 @@ use Rattle.raft_voter_session.specs.declared.session.SessionFault.TheVariants.{U
 use Rattle.raft_voter_session.specs.Told.{SessionContent}
 
 -- Which errors may be returned. `known` is what the text encodes: a session, or the number of its first unreadable
--- line. `Unreadable` may be returned only with this number, and `Memory` always.
+-- line. `Unreadable` may be returned only with the number in `known`, and `Memory` always.
 abbrev pub TellsLineFault : Result SessionContent ℕ → SessionFault → Type 0
 TellsLineFault known (Unreadable number) = known ≡ Err number
 TellsLineFault known Memory = Unit {0}

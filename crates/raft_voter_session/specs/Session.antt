@@ -88,13 +88,14 @@ after_line line so_far =
 
 -- Sessions.
 
--- the session after the last line; if the settings or a round are still open, `number`, that of the missing line
+-- The session after the last line. If the settings or a round are still open, the line after the last one is missing,
+-- and the result is its number, `number`.
 abbrev pub at_end : ℕ → SessionContent → Part → Result SessionContent ℕ
 at_end number told nothing = Ok told
 at_end number told part = Err number
 
 -- The session, if the text was short enough (`whole`), no bytes follow its last line feed, and nothing is open.
--- Otherwise the result is `number`, that of the line after the last line feed.
+-- Otherwise the result is `number`, the number of the line after the last line feed.
 abbrev pub finish : ℕ → Bool → List ℕ → Progress → Result SessionContent ℕ
 finish number whole [] so_far = if whole then at_end number so_far.session so_far.begun else Err number
 finish number whole (b ∷ text) so_far = Err number

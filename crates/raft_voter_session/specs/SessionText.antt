@@ -58,7 +58,7 @@ left_text Last = codes " last"
 left_text All = codes " all"
 left_text (First pieces bytes) = codes " first" ++ spaced_all (pieces ∷ bytes ∷ [])
 
--- the lines of an event that isn't a copy; those of a copy are in `event_lines`
+-- the lines of an event that isn't a copy of the files (`Fork`); `event_lines` has those of a copy too
 abbrev pub alone_lines : Event → List (List ℕ)
 alone_lines (Open workers) = (codes "open" ++ spaced_all (workers ∷ [])) ∷ []
 alone_lines Close = codes "close" ∷ []
@@ -76,7 +76,7 @@ abbrev pub event_lines : Told → List (List ℕ)
 event_lines (alone event) = alone_lines event
 event_lines (copy name) = (codes "fork " ++ name) ∷ []
 
--- the lines of the settings between `config` and `end`; none without settings
+-- the line `config`, the lines of the settings, and the line `end`; no lines if there are no settings
 abbrev pub settings_lines : Option (List (List ℕ)) → List (List ℕ)
 settings_lines None = []
 settings_lines (Some lines) = codes "config" ∷ lines ++ codes "end" ∷ []

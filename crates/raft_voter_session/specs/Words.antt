@@ -18,8 +18,8 @@ abbrev pub ends : {A : Type 0} → List ℕ → A → Option A
 ends [] x = Some x
 ends (b ∷ text) x = None
 
--- The value of a number whose first digits have the value `n`, and whose other digits are these. `None` if one isn't a
--- decimal digit, or the value isn't below 2^64.
+-- The value of a number whose first digits have the value `n`, and whose other digits are `digits`. `None` if one of
+-- `digits` isn't a decimal digit, or if the value isn't below 2^64.
 unfoldable pub value_from : ℕ → List ℕ → Option ℕ
 value_from n digits =
     if all_ascii_digits digits && nat_lt (digits_value_after 10 n digits) (2 ^ 64)

@@ -1,5 +1,5 @@
 -- Receipts are noted at their places, and turns are looked at in the order of places.
-use Rattle.std.proofs.Common.{◌≡◌, ◌≢◌, ◌⊎◌, ℕ, zero, suc, ◌+◌, ◌-◌, ◌<◌, ◌≤◌, Bool, true, false, not, ◌==◌, ◌&&◌, ◌||◌, List, [], ◌∷◌, length, set, slice_get, Option, None, Some, inl, inr, refl, sym, ap, subst, ◌∙◌, arith}
+use Rattle.std.proofs.Common.{◌≡◌, ◌≢◌, ℕ, zero, suc, ◌+◌, ◌-◌, ◌<◌, ◌≤◌, Bool, true, false, not, ◌==◌, ◌&&◌, ◌||◌, List, [], ◌∷◌, length, set, slice_get, Option, None, Some, inl, inr, refl, sym, ap, subst, ◌∙◌, arith}
 use Rattle.std.specs.Prelude.{IfSome, nat_le, nat_lt}
 use Rattle.std.specs.List.{enumerate_from, list_any}
 use Rattle.std.proofs.lemmas.Bool.{and_parts, cases_lt, eqb-true, leb-true, ltb-true}
@@ -90,12 +90,6 @@ noted_one first rs end turns turns' this is before free noted h = elim (cases_lt
   | inr kept ↦ subst (λ ts. AreNoted first rs (end + 1) ts) (sym (noted kept)) (noted_more first rs end turns this is kept (free kept) h)
 ]
 
-pub noted_none : (first : ℕ) (rs : List Statement) (turns : List (Option (ℕ × ℕ))) → AreNoted first rs 0 turns
-noted_none first rs turns = record {
-  noted = λ index r below at inside. absurd (omega (arith, below));
-  apart = λ index other r s order below at there inside. absurd (omega (arith, below));
-}
-
 -- Turns are looked at one after another.
 
 -- of each seat the highest turn below `end` is known
@@ -103,72 +97,6 @@ abbrev pub LastBelow : List (Option (ℕ × ℕ)) → ℕ → (ℕ → Option �
 LastBelow turns end last =
     (place seat turn : ℕ) → place < end → slice_get turns place ≡ Some (Some (seat, turn))
     → (high : ℕ) × (last seat ≡ Some high) × (turn ≤ high)
-
--- nothing is noted at this place
-pub rise_none : (turns : List (Option (ℕ × ℕ))) (end : ℕ) (last : ℕ → Option ℕ) → slice_get turns end ≡ Some None
-    → RiseBelow turns end × LastBelow turns end last → RiseBelow turns (end + 1) × LastBelow turns (end + 1) last
-rise_none turns end last none h = (
-  λ place next seat turn later order below at there. elim (cases_lt next end) [
-    | inl lower ↦ h.0 place next seat turn later order lower at there
-    | inr past ↦ let same : next ≡ end = omega (arith, below, past) in
-        absurd (none_some (seat, later) (same_some None (Some (seat, later)) (sym none ∙ sym (ap (slice_get turns) same) ∙ there)))
-  ],
-  λ place seat turn below at. elim (cases_lt place end) [
-    | inl lower ↦ h.1 place seat turn lower at
-    | inr past ↦ let same : place ≡ end = omega (arith, below, past) in
-        absurd (none_some (seat, turn) (same_some None (Some (seat, turn)) (sym none ∙ sym (ap (slice_get turns) same) ∙ at)))
-  ],
-)
-
-module _ (turns : List (Option (ℕ × ℕ))) (end : ℕ) (last last' : ℕ → Option ℕ) (mine newest : ℕ) (here : slice_get turns end ≡ Some (Some (mine, newest)))
-    (before : IfSome (last mine) (λ high. high ≤ newest)) (noted : last' mine ≡ Some newest)
-    (others : (other : ℕ) → other ≢ mine → last' other ≡ last other) where
-  this_turn : (place seat turn : ℕ) → place < end + 1 → end ≤ place → slice_get turns place ≡ Some (Some (seat, turn))
-      → (mine ≡ seat) × (newest ≡ turn)
-  this_turn place seat turn below past at =
-      let same : place ≡ end = omega (arith, below, past) in
-      let both : (mine, newest) ≡ (seat, turn) =
-      same_some (mine, newest) (seat, turn) (same_some (Some (mine, newest)) (Some (seat, turn)) (sym here ∙ sym (ap (slice_get turns) same) ∙ at)) in
-      (ap (λ (x : ℕ × ℕ). x.0) both, ap (λ (x : ℕ × ℕ). x.1) both)
-
-  -- the turn of one more place follows those of its seat
-  pub rise_more : RiseBelow turns end × LastBelow turns end last → RiseBelow turns (end + 1) × LastBelow turns (end + 1) last'
-  rise_more h = (
-    λ place next seat turn later order below at there. elim (cases_lt next end) [
-      | inl lower ↦ h.0 place next seat turn later order lower at there
-      | inr past ↦
-          let own = this_turn next seat later below past there in
-          let lower : place < end = omega (arith, order, below) in
-          let (high, known, most) = h.1 place seat turn lower at in
-          let less : high ≤ newest = subst (λ (o : Option ℕ). IfSome o (λ high. high ≤ newest)) (ap last own.0 ∙ known) before in
-          omega (arith, most, less, own.1)
-    ],
-    λ place seat turn below at. elim (cases_lt place end) [
-      | inl lower ↦
-          let (high, known, most) = h.1 place seat turn lower at in
-          elim (same_or_not seat) [
-            | inl same ↦ (
-              newest,
-              ap last' same ∙ noted,
-              let less : high ≤ newest = subst (λ (o : Option ℕ). IfSome o (λ high. high ≤ newest)) (ap last (sym same) ∙ known) before in
-                  omega (arith, most, less),
-            )
-            | inr apart ↦ (high, others seat apart ∙ known, most)
-          ]
-      | inr past ↦
-          let own = this_turn place seat turn below past at in
-          (newest, ap last' (sym own.0) ∙ noted, omega (arith, own.1))
-    ],
-  )
-    where
-      same_or_not : (seat : ℕ) → (seat ≡ mine) ⊎ (seat ≢ mine)
-      same_or_not seat = elim (cases_lt seat mine) [
-        | inl lower ↦ inr (λ same. absurd (omega (arith, lower, same)))
-        | inr past ↦ elim (cases_lt mine seat) [
-          | inl above ↦ inr (λ same. absurd (omega (arith, above, same)))
-          | inr within ↦ inl (omega (arith, past, within))
-        ]
-      ]
 
 -- No receipt contradicts another.
 

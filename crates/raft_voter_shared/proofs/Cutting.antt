@@ -8,7 +8,7 @@ use Rattle.raft_voter_messages.specs.declared.request.Request.{Request}
 use Rattle.raft_voter.specs.Rounds.{World, are_rising}
 use Rattle.raft_voter_rounds.specs.Journal.{IsLegal, reached}
 use Rattle.raft_voter_rounds.specs.Noting.{cut_each, cut_off, places_within}
-use Rattle.raft_voter_rounds.proofs.Within.{rising_facts, within_before, within_here, within_none, within_past, within_round}
+use Rattle.raft_voter_rounds.proofs.Public.{rising_facts, within_before, within_here, within_none, within_past, within_round}
 use Rattle.raft_voter_shared.specs.Standing.{are_cut, refused_of, requests_of}
 use Rattle.raft_voter_shared.proofs.Journals.{AreCutOff, legal_first}
 

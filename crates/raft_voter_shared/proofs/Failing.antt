@@ -16,7 +16,7 @@ use Rattle.raft_voter_shared.proofs.Journals.{AreCutOff, standing-append, standi
 
 module _ {S : Type 0} (v : Service S) (old new : S) where
   -- what was left of it is left: it came to fail as it had before
-  still_fails :
+  pub still_fails :
       (cut : CutRound) (failure : Option Failure) → ((stood : CutRound) → v.leaves old stood → v.leaves new stood)
       → CameToFailAs v failure cut old → CameToFailAs v failure cut new
   still_fails cut failure stays why is =

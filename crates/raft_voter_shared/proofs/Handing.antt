@@ -12,7 +12,7 @@ use Rattle.raft_voter.specs.State.{State}
 use Rattle.raft_voter.specs.Rules.{next, reply}
 use Rattle.raft_voter.specs.Rounds.{World, after, after_one, are_rising, is_among, put, replies_from, taken_from}
 use Rattle.raft_voter.specs.Service.{Answers, AnswersRound, Service, is_refused, refused_from}
-use Rattle.raft_voter.proofs.Places.{among_before, replies_behind, taken_behind}
+use Rattle.raft_voter.proofs.Public.{among_before, replies_behind, taken_behind}
 use Rattle.raft_voter_rounds.specs.Handing.{HandsOut, is_read}
 
 -- A read changes nothing.
@@ -127,10 +127,6 @@ alike_lost k q qs t ts hs W lives same rest =
           ∙ sym (ap (after W) (taken_there k cut (k + 1 + length ts) (refused_from (k + 1) ts) q qs rise (omega (arith, within))))
           ∙ sym (ap (λ (ps : List ℕ). after W (taken_from k cut ps (q ∷ qs))) (unrefused k t ts lives));
     }
-
--- a reply of entries isn't Refused
-read_lives : (t : Reply) → is_read t ≡ true → is_refused t ≡ false
-read_lives t is = grind (arith)
 
 is_same : (t : Reply) → is_refused t ≡ true → t ≡ Refused
 is_same t is = grind (arith)

@@ -11,8 +11,7 @@ use Rattle.raft_voter_messages.specs.declared.round.Outcome.TheVariants.{Answere
 use Rattle.raft_voter_messages.specs.declared.round.Round.{Round}
 use Rattle.raft_voter.specs.Rounds.{Leads, World, after, are_rising, fresh_world, taken_from}
 use Rattle.raft_voter.specs.Service.{Files, Service}
-use Rattle.raft_voter.proofs.Joining.{rounds_join}
-use Rattle.raft_voter.proofs.Places.{taken_none}
+use Rattle.raft_voter.proofs.Public.{rounds_join, taken_none}
 use Rattle.raft_voter_rounds.specs.Journal.{IsLegal, behind_outcome, owed_by, reached, said}
 use Rattle.raft_voter_shared.specs.declared.failure.Failure.{Failure}
 use Rattle.raft_voter_shared.specs.declared.failure.Failure.TheVariants.{InRounds, InPurge}

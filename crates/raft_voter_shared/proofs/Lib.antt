@@ -1,3 +1,4 @@
+pub mod Public
 pub mod Handing
 pub mod Journals
 pub mod Splitting
@@ -10,3 +11,4 @@ pub mod Clashing
 pub mod Leading
 pub mod PurgeSteps
 pub mod Failing
+pub mod Seeing

@@ -1,12 +1,7 @@
 -- What rounds that are served together make of a store and its journal.
-use Rattle.std.proofs.Common.{◌≡◌, ◌≤◌, ◌<◌, ℕ, Bool, true, false, is_some, List, [], ◌∷◌, ◌++◌, length, map, sum, Option, None, refl, sym, ap, subst, ◌∙◌, arith}
-use Rattle.std.specs.Prelude.{Result, Ok, Err, IfErr, OnOk}
-use Rattle.std.specs.List.{All}
+use Rattle.std.proofs.Common.{◌≡◌, ℕ, Bool, true, false, is_some, List, [], ◌++◌, length, sum, Option, None, refl, sym, ap, subst, ◌∙◌}
 use Rattle.std.proofs.Math.Logic.{∥∥₁_elim, ∥∥₁_map}
 use Rattle.std.proofs.Props.{props}
-use Rattle.std.proofs.lemmas.Bool.{le-leb, leb-true, lt-ltb, ltb-true}
-use Rattle.std.proofs.lemmas.List.Elements.{All-cons, All-head, All-nil, All-tail, All-weaker}
-use Rattle.std.proofs.lemmas.List.Sums.{sum_by-cons}
 use Rattle.raft_voter_messages.specs.declared.reply.Reply.{Reply}
 use Rattle.raft_voter_messages.specs.declared.request.Request.{Request}
 use Rattle.raft_voter_messages.specs.declared.round.Round.{Round}
@@ -15,10 +10,8 @@ use Rattle.raft_voter.specs.Service.{AnswersRound, CutRound, CutsOff, FailsAs, I
 use Rattle.raft_voter.specs.declared.service.Cause.{Cause}
 use Rattle.raft_voter.specs.declared.service.Cause.TheVariants.{FileSystem, Memory, Failed, TooLong}
 use Rattle.raft_voter_rounds.specs.Journal.{IsLegal, reached}
-use Rattle.raft_voter_rounds.specs.declared.receipt.SharedFault.{SharedFault}
 use Rattle.raft_voter_rounds.specs.declared.receipt.SharedFault.TheVariants as faults
-use Rattle.raft_voter_rounds.specs.declared.done.Told.{Told}
-use Rattle.raft_voter_rounds.specs.Noting.{ToldOfLength, answered_each, may_cut, may_tell}
+use Rattle.raft_voter_rounds.specs.Noting.{answered_each}
 use Rattle.raft_voter_shared.specs.declared.failure.Failure.{Failure}
 use Rattle.raft_voter_shared.specs.Standing.{failure_behind, is_last, standing}
 use Rattle.raft_voter_shared.proofs.Journals.{AreCutOff, last-append, last_here, legal-append, reached-append, standing-append, standing_here}
@@ -27,13 +20,6 @@ use Rattle.raft_voter_shared.proofs.Splitting.{each_is_legal}
 -- a legal history is a fact
 pub legal_prop : (W : World) (rounds : List Round) → IsProp (IsLegal W rounds)
 legal_prop W rounds = Prim.hlevel props
-
--- where numbers add up to so many, none is more
-pub each_within : (counts : List ℕ) (most : ℕ) → sum counts ≤ most → All (λ n. n ≤ most) counts
-each_within [] most within = All-nil (λ (n : ℕ). n ≤ most)
-each_within (n ∷ counts) most within =
-    let is = sum_by-cons (λ (m : ℕ). m) n counts in
-    All-cons (λ (m : ℕ). m ≤ most) n counts (omega (arith, is, within)) (each_within counts most (omega (arith, is, within)))
 
 module _ {S : Type 0} (v : Service S) (old new : S) (rounds : List Round) (requests : List (ℕ × Request)) where
   -- Answered rounds.
@@ -145,41 +131,3 @@ cut_last Failed rounds requests refused cut failure are last = last-append failu
 cut_last TooLong rounds requests refused cut failure are last = last-append failure rounds cut last are.cut
 
 -- What is told of a round's length is so.
-
--- what is so of each number is so of what they are the numbers of
-pub each_of : {A : Type 0} (P : ℕ → Type 0) (f : A → ℕ) (xs : List A) → All P (map f xs) → All (λ x. P (f x)) xs
-each_of P f [] all = All-nil (λ x. P (f x))
-each_of P f (x ∷ xs) all =
-    All-cons (λ y. P (f y)) x xs (All-head P (f x) (map f xs) all) (each_of P f xs (All-tail P (f x) (map f xs) all))
-
--- each of these rounds may be cut off for the cause of all of them
-pub each_may_cut :
-    (cause : Cause) (counts : List ℕ) (count : ℕ) (before now : Bool) → sum counts ≡ count
-    → (4096 < count → length counts ≡ 1) → FailsAs cause count before now → All (λ n. may_cut cause n ≡ true) counts
-each_may_cut TooLong counts count before now all alone fails = only counts all (alone fails.0)
-  where
-    only : (counts : List ℕ) → sum counts ≡ count → length counts ≡ 1 → All (λ n. may_cut TooLong n ≡ true) counts
-    only [] all one = absurd (omega (arith, one))
-    only (n ∷ []) all one =
-        let is = sum_by-cons (λ (m : ℕ). m) n [] in
-        All-cons (λ (m : ℕ). may_cut TooLong m ≡ true) n [] (lt-ltb 4096 n (omega (arith, is, all, fails.0)))
-        (All-nil (λ (m : ℕ). may_cut TooLong m ≡ true))
-    only (n ∷ m ∷ counts) all one = absurd (omega (arith, one))
-each_may_cut FileSystem counts count before now all alone fails =
-    All-weaker (λ (n : ℕ). n ≤ 4096) (λ (n : ℕ). may_cut FileSystem n ≡ true) (λ n few. le-leb n 4096 few) counts (each_within counts 4096 (omega (arith, all, fails.0)))
-each_may_cut Memory counts count before now all alone fails =
-    All-weaker (λ (n : ℕ). n ≤ 4096) (λ (n : ℕ). may_cut Memory n ≡ true) (λ n few. le-leb n 4096 few) counts (each_within counts 4096 (omega (arith, all, fails.0)))
-each_may_cut Failed counts count before now all alone fails =
-    All-weaker (λ (n : ℕ). n ≤ 4096) (λ (n : ℕ). may_cut Failed n ≡ true) (λ n few. le-leb n 4096 few) counts (each_within counts 4096 (omega (arith, all, fails.0)))
-
-pub told_short : (answer : Result Told SharedFault) (count : ℕ) → may_tell answer count ≡ true → OnOk answer (count ≤ 4096)
-told_short (Ok told) count may = leb-true count 4096 may
-told_short (Err fault) count may = tt
-
-pub told_long : (answer : Result Told SharedFault) (count : ℕ) → may_tell answer count ≡ true → IfErr answer (λ fault. ToldOfLength fault count)
-told_long (Ok told) count may = tt
-told_long (Err (faults.Cut place FileSystem)) count may = leb-true count 4096 may
-told_long (Err (faults.Cut place Memory)) count may = leb-true count 4096 may
-told_long (Err (faults.Cut place Failed)) count may = leb-true count 4096 may
-told_long (Err (faults.Cut place TooLong)) count may = ltb-true 4096 count may
-told_long (Err faults.Memory) count may = tt

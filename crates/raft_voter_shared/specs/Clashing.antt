@@ -6,7 +6,7 @@ use Rattle.raft_voter_rounds.specs.declared.receipt.Statement.{Statement}
 use Rattle.raft_voter_shared.specs.Receipts.{clashes}
 
 -- Of the receipts whose index in the list is below `end`, those with places from `first` on have different places.
--- `turns` has the seat and the turn of each of them, at its place.
+-- `turns` has the seat and the turn of each of these receipts, at the receipt's place counted from `first`.
 pub record AreNoted (first : ℕ) (receipts : List Statement) (end : ℕ) (turns : List (Option (ℕ × ℕ))) : Type 0 where
   pub noted : (index : ℕ) (r : Statement) → index < end → slice_get receipts index ≡ Some r → first ≤ r.place
       → slice_get turns (r.place - first) ≡ Some (Some (r.seat, r.turn))

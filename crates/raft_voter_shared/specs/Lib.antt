@@ -5,3 +5,4 @@ pub mod Clashing
 pub mod Settling
 pub mod Openings
 pub mod Purging
+pub mod Looking

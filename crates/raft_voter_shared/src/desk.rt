@@ -6,8 +6,9 @@ ghost use Rattle.raft_voter_rounds.specs.Journal.{IsLegal, reached};
 ghost use Rattle.raft_voter_shared.specs.Failing.{CameToFailAs};
 ghost use Rattle.raft_voter_shared.specs.Standing.{is_last, standing};
 
-use crate::failure::{Failure, failure_behind, failure_in_purge};
-use crate::maintenance::Maintenance;
+mod upkeep;
+
+use crate::failure::{Failure, failure_behind};
 use crate::receipts::Check;
 use crate::seat::{Seat, have_all, merged};
 use crate::settled::{SettleCause, Settled};
@@ -309,36 +310,6 @@ impl<R, S: RoundService<R>, L: Opening> Desk<R, S, L> {
             failure,
             calls,
         }
-    }
-}
-
-impl<R, S: Maintenance<R>, L: Opening> Desk<R, S, L> {
-    ghost use Rattle.std.specs.Prelude.{IfErr, IfOk};
-    ghost use Rattle.raft_voter_shared.specs.Purging.{IsPurge, KeepsServed};
-
-    /// Purges the store's files. Returns the groups to compact. Appends nothing to the journal. Whether it succeeds or
-    /// fails, no voter changes.
-    pub fn maintain(&mut self, rt: &R) -> Result<Vec<u64>, S::Refusal>
-        ensures journal { self.new.journal ≡ self.old.journal }
-        ensures keeps { KeepsServed S.service self.old.store self.new.store }
-        ensures ok { IfOk result (λ groups. IsPurge S.service L.served (S.purges groups.items)) }
-        ensures err { IfErr result (λ refusal. IsPurge S.service L.served (S.refuses refusal)) }
-    {
-        let Desk {
-            alloc: _,
-            store,
-            journal: _,
-            failure,
-            book: _,
-            done: _,
-            together: _,
-            calls: _,
-            runtime: _,
-        } = self;
-        let before = store.is_failed();
-        let purged = store.maintain(rt);
-        *failure = failure_in_purge(before, store.is_failed(), *failure);
-        purged
     }
 }
 

@@ -14,7 +14,7 @@ mod shared;
 mod unsettled;
 
 pub use failure::Failure;
-pub use maintenance::Maintenance;
+pub use maintenance::{Listing, Maintenance};
 pub use raft_voter_history::{FreshHistory, Named};
 pub use raft_voter_rounds::{Opening, Receipt, SharedFault, Statement, Taken};
 pub use seat::Seat;

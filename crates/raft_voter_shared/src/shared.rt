@@ -3,8 +3,9 @@ ghost use Rattle.std.specs.Prelude.{◌≡◌, ◌<◌, length, IfErr, IfOk, IfS
 ghost use Rattle.raft_voter.specs.Rounds.{World};
 ghost use Rattle.raft_voter.specs.Service.{IsOpenAt};
 
+mod upkeep;
+
 use crate::desk::Desk;
-use crate::maintenance::Maintenance;
 use crate::seat::Seat;
 use crate::settled::{SettleFault, Settled};
 use crate::unsettled::Unsettled;
@@ -366,21 +367,6 @@ impl<R, S: RoundService<R>, L: Opening> SharedStore<R, S, L> {
             }),
             None => Ok(desk.close(rt, &history, taken, seats)),
         }
-    }
-}
-
-impl<R, S: Maintenance<R>, L: Opening> SharedStore<R, S, L> {
-    ghost use Rattle.raft_voter_shared.specs.Purging.{IsPurge};
-
-    /// Purges the store's files while it serves no round. Returns the groups to compact. Records nothing in the journal.
-    /// Whether it succeeds or fails, no voter changes. The result is that of a purge of the store, after some rounds.
-    pub fn maintain(&self, rt: &R) -> Result<Vec<u64>, S::Refusal>
-    where
-        R: Wait,
-        ensures ok { IfOk result (λ groups. IsPurge S.service L.served (S.purges groups.items)) }
-        ensures err { IfErr result (λ refusal. IsPurge S.service L.served (S.refuses refusal)) }
-    {
-        self.desk.lock(rt).maintain(rt)
     }
 }
 

@@ -3,17 +3,15 @@ use Rattle.std.proofs.Common.{◌≡◌, ℕ, false, List, [], refl, subst, sym}
 use Rattle.raft_log_fs.specs.Disk.{Disk as OnDisk}
 use Rattle.raft_voter_durability_laws.specs.raft_log_engine_laws.specs.Holding.{Represents}
 use Rattle.raft_voter_durability_laws.specs.raft_log_engine_laws.specs.EngineState.{LogDirectories, LogMap, EngineState, has_failed}
-use Rattle.raft_voter_durability_laws.specs.raft_log_engine_laws.proofs.OpenOrClosed.{closed_engines_are_left}
+use Rattle.raft_voter_durability_laws.specs.raft_log_engine_laws.proofs.Public.{closed_engines_are_left}
 use Rattle.raft_log_recovery_laws.specs.ByCalls.{home_of}
 use Rattle.raft_voter.specs.Service.{CutRound, MayFollow}
 use Rattle.raft_voter_durability_laws.specs.Standing.{IsLeftAmong}
-use Rattle.raft_voter_durability_laws.proofs.Keeping.{left_alone}
-use Rattle.raft_voter_log.proofs.Finding.{crashed_voters_are_found, left_voters_are_found}
+use Rattle.raft_voter_durability_laws.proofs.Public.{left_alone}
+use Rattle.raft_voter_log.proofs.Public.{crashed_voters_are_found, follows_none, left_voters_are_found, some_append, some_rewrite}
 use Rattle.raft_voter_store.specs.Service.{LeavesAt}
 use Rattle.raft_voter_store.specs.Service.LeavesAt.{left as is_left, running}
 use Rattle.raft_voter_log.specs.Instance.{ClosesStore}
-use Rattle.raft_voter_log.proofs.Homes.{some_append, some_rewrite}
-use Rattle.raft_voter_log.proofs.OpenLemmas.{follows_none}
 use Rattle.raft_voter_shared_log.specs.GoingOn.{ClosedStoresGoOn}
 
 -- an engine that holds a map hasn't failed

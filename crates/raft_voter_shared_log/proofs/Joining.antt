@@ -9,7 +9,7 @@ use Rattle.raft_voter.specs.Rounds.{ExplainsFrom, HasCut, OutcomeHolds, World, a
 use Rattle.raft_voter.specs.Service.{IsOpenAt, Service}
 use Rattle.raft_voter_world.specs.Stores.{Disk}
 use Rattle.raft_voter_shared.specs.Openings.{Openings}
-use Rattle.raft_voter_shared.proofs.Leading.{openings_are_explained}
+use Rattle.raft_voter_shared.proofs.Public.{openings_are_explained}
 use Rattle.raft_voter_shared_log.specs.Joining.{AreJoined, JoinedOpeningsAreExplained, Sharing, behind, sessions_of}
 use Rattle.raft_voter_shared_log.specs.Disks.{DisksGoOn}
 

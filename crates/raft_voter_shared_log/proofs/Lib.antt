@@ -1,4 +1,5 @@
 pub mod GoingOn
 pub mod Joining
 pub mod Keeping
+pub mod ListedVoters
 pub mod LogOpenings

@@ -12,21 +12,17 @@ use Rattle.raft_log_file_settings.specs.declared.config.Config.{Config}
 use Rattle.raft_voter_durability_laws.specs.raft_log_engine_laws.specs.EngineState.{LogDirectories, EngineState, log_in}
 use Rattle.raft_log_recovery_laws.specs.ByCalls.{home_of}
 use Rattle.raft_log_recovery_laws.specs.Left.{IsCrashOf}
-use Rattle.raft_log_recovery_laws.proofs.Left.{crashed_logs_rest}
-use Rattle.raft_log_recovery_laws.proofs.Running.{crashed_engines_open}
+use Rattle.raft_log_recovery_laws.proofs.Public.{crashed_engines_open, crashed_logs_rest}
 use Rattle.raft_voter.specs.Rounds.{World, fresh_world}
 use Rattle.raft_voter.specs.Service.{CutRound, IsOpenAt, MayFollow}
 use Rattle.raft_voter_outline.specs.Kept.{outlines_in}
 use Rattle.raft_voter_durability_laws.specs.Standing.{IsLeftAmong, Keeps}
 use Rattle.raft_voter_log.specs.Opens.{ServesFound}
-use Rattle.raft_voter_log.proofs.ClosedStores.{closed_stores_are_found}
-use Rattle.raft_voter_log.proofs.Finding.{crashed_voters_are_found, first_opens_are_fresh, left_voters_are_found}
+use Rattle.raft_voter_log.proofs.Public.{bare_for, closed_stores_are_found, crashed_voters_are_found, first_opens_are_fresh, follows_none, left_voters_are_found, one_home, opened_lives, some_append, some_rewrite}
 use Rattle.raft_voter_store.specs.Service.{LeavesAt}
 use Rattle.raft_voter_store.specs.Service.LeavesAt.{left as is_left, running}
-use Rattle.raft_voter_store.proofs.Serving.{open_in}
+use Rattle.raft_voter_store.proofs.Public.{open_in}
 use Rattle.raft_voter_log.specs.Leaving.{SparesStore}
-use Rattle.raft_voter_log.proofs.Homes.{bare_for, one_home, some_append, some_rewrite}
-use Rattle.raft_voter_log.proofs.OpenLemmas.{follows_none, opened_lives}
 use Rattle.raft_voter_shared_log.specs.declared.store.LogStore.{LogStore}
 use Rattle.raft_voter_shared_log.specs.GoingOn.{GoesOnBehindACrash, GoesOnInPlace}
 use Rattle.raft_voter_shared_log.specs.Joining.{AreJoined, BeginsFresh, ContinuesFrom, IsFollowedBy, behind}

@@ -7,8 +7,8 @@ use Rattle.raft_voter_world.specs.Stores.{Disk, FindsVoters, LeavesInFiles, Leav
 -- left of them. Suppose that after a close or a crash of `old`, an open finds only voters that are possible after the
 -- round `cut`, and that there is no CRC collision in `left`. Then `new` serves such voters.
 --
--- CRC collisions depend on a proof that the files leave these voters. For `closed` it is the proof that the close gives,
--- and for `left` the one that follows from it.
+-- What counts as a CRC collision depends on a proof of what the files hold. For `closed`, this is the proof that the
+-- close gives. For `left`, it is the proof that follows from that one.
 abbrev pub DisksGoOn : {S F : Type 0} → Service S → Disk S F → Type 0
 DisksGoOn {S} {F} v d = (old new : S) (closed left : F) (cut : CutRound) → (was : v.leaves old cut)
     → (closes : LeavesInFiles v d old closed) → (crashes : LeavesStanding v d closed left left)

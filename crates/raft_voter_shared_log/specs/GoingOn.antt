@@ -17,7 +17,7 @@ use Rattle.raft_voter_log.specs.Instance.{ClosesStore}
 
 -- A log was left on disk `d` (`left`), with voters that are possible after the round `cut`, and a crash made the image
 -- `old`. An open of the image finds such voters, the same for all settings that name the directories `home`. This
--- requires that there is no CRC collision.
+-- requires that there is no CRC collision in the image.
 abbrev pub GoesOnBehindACrash :
     {F : Type 0} → (F → Disk) → (F → List ℕ → ℕ → Type 0) → (home : LogDirectories) (d : Disk) (cut : CutRound)
     → IsLeftAmong home d (MayFollow cut) → Type 0

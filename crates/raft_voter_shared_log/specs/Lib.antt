@@ -4,3 +4,4 @@ pub mod Joining
 pub mod Disks
 pub mod LogOpenings
 pub mod Purging
+pub mod ListedVoters

@@ -77,13 +77,14 @@ pub record ComesNext {F : Type 0} (disk : F → Disk) (shows : LogStore F → En
   pub reads : ReadsClosed disk shows x next ⊎ ReadsLeft disk shows x next
 
 -- What follows the opening `x`. The next opening opens what `x` left. It finds the voters after the records of `x` with
--- replies. If the store of `x` failed in rounds, these voters also took the requests of these rounds before a position
--- (`ShowsPlace`). If there is no next opening, that position may be any (`HasPlace`).
+-- replies. If the store of `x` failed in rounds, the voters also took the requests of these rounds before the session's
+-- cut (`ShowsPlace`). If there is no next opening, the cut may be any position (`HasPlace`).
 abbrev pub IsFollowedInLog : {F : Type 0} → (F → Disk) → (LogStore F → EngineState) → LogSharing F → List (LogSharing F) → Type 0
 IsFollowedInLog disk shows x [] = HasPlace (log_service shows) x.shared
 IsFollowedInLog disk shows x (y ∷ ys) = ComesNext disk shows x y × ShowsPlace (log_service shows) x.shared y.shared.opened
 
--- in each opening the store was opened, settled and closed; the next opening continues from the files that it left
+-- In each opening the store was opened, settled and closed. The next opening continues from the files that this one
+-- left.
 abbrev pub AreLogOpenings :
     {F : Type 0} → (F → Disk) → (F → List ℕ → ℕ → Type 0) → (LogStore F → EngineState) → List (LogSharing F) → Type 0
 AreLogOpenings disk tells shows [] = Unit {0}
@@ -111,15 +112,15 @@ LogOpeningsAreExplained {F} disk tells shows = (xs : List (LogSharing F)) → Be
 abbrev pub RestsMeaning : LogDirectories → Disk → (World → Type 0) → Type 0
 RestsMeaning home d P = (W : World) × P W × (m : LogMap) × IsDurableAs (log_in home) d m × Means m W
 
--- Each crash image under the open store has a log at rest, with voters that are possible after the round `cut`. This
--- requires that there is no CRC collision in the image.
+-- Each crash image of the open store's disk has a log at rest, with voters that are possible after the round `cut`.
+-- This requires that there is no CRC collision in the image.
 abbrev pub ImagesMean : LogDirectories → EngineState → CutRound → Type 0
 ImagesMean home s cut = (known : LeavesAt home s cut)
     × ((image : Disk) → IsSound image → IsImage s.pipes.disk image → SparesStore home s cut known image
     → RestsMeaning home image (MayFollow cut))
 
--- Each crash image of the files of the closed store has a log at rest, with voters that are possible after the round
--- `cut`. This requires that there is no CRC collision in the image.
+-- Each crash image of the closed store's files has a log at rest, with voters that are possible after the round `cut`.
+-- This requires that there is no CRC collision in the image.
 abbrev pub ClosedImagesMean : LogDirectories → Disk → CutRound → Type 0
 ClosedImagesMean home d cut = (left : IsLeftAmong home d (MayFollow cut))
     × ((image : Disk) → IsCrashOf home left.left.1.lies.state d image → RestsMeaning home image (MayFollow cut))

@@ -3,11 +3,13 @@ ghost use Rattle.raft_log_engine.specs.raft_log_engine_core.specs.Reads.{shows_o
 ghost use Rattle.raft_voter_shared_log.specs.Disks.{DisksGoOn};
 ghost use Rattle.raft_voter_shared_log.specs.GoingOn.{ClosedStoresGoOn};
 ghost use Rattle.raft_voter_shared_log.specs.Joining.{JoinedOpeningsAreExplained};
+ghost use Rattle.raft_voter_shared_log.specs.ListedVoters.{ListingsAreVoters};
 ghost use Rattle.raft_voter_shared_log.specs.LogOpenings.{LogOpeningsAreExplained, SettledStoresMean};
 
 use raft_log_engine::{EnginePipes, Nobody, PipeLog};
 use raft_log_fs::FileSystem;
 use raft_voter::RoundService;
+use raft_voter_shared::Opening;
 use raft_voter_world::{VoterDisk, VoterStorage};
 
 /// Suppose a store, which runs or has failed, leaves voters that are possible after a cut-off round, and is closed. An
@@ -45,4 +47,10 @@ pub fn disks_go_on<R, S: VoterStorage<R>, F: VoterDisk<R, S>>()
 pub fn log_openings_are_explained<F: FileSystem + Sync>()
     ensures { LogOpeningsAreExplained F.disk F.tells_space
         (λ store. shows_of ⟦<EnginePipes<F, Nobody> as PipeLog>⟧.shown store.store.engine) }
+{}
+
+/// If a shared store lists its voters, these are the voters after the records of some legal history of its rounds.
+pub fn listings_are_voters<F: FileSystem + Sync, L: Opening>()
+    ensures { ListingsAreVoters {F = F}
+        (λ store. shows_of ⟦<EnginePipes<F, Nobody> as PipeLog>⟧.shown store.store.engine) L.served }
 {}

@@ -2,12 +2,14 @@
 //! any file system, including that of a real directory.
 #![tactic(auto)]
 
+mod forced;
 pub mod laws;
 mod service;
 mod store;
 
+pub use forced::ForcedPurge;
 pub use raft_voter_shared::{
-    Failure, FreshHistory, Maintenance, Named, Opening, Receipt, Seat, SettleCause, SettleFault,
-    Settled, SharedFault, SharedStore, Taken, Unsettled,
+    Failure, FreshHistory, Listing, Maintenance, Named, Opening, Receipt, Seat, SettleCause,
+    SettleFault, Settled, SharedFault, SharedStore, Taken, Unsettled,
 };
 pub use store::LogStore;

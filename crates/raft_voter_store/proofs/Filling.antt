@@ -13,8 +13,7 @@ use Rattle.raft_voter_messages.specs.declared.reply.VoterState.{VoterState}
 use Rattle.raft_voter_outline.specs.Outlines.{ChangesEach, sent_of}
 use Rattle.raft_voter_outline.specs.State.{State}
 use Rattle.raft_voter_records.specs.Changes.{IsFresh, with_change, with_state, with_write}
-use Rattle.raft_voter_records.proofs.EncodingSaying.{changes_are_said}
-use Rattle.raft_voter_records.proofs.Short.{changes_are_short}
+use Rattle.raft_voter_records.proofs.Public.{changes_are_said, changes_are_short}
 use Rattle.raft_voter_durability_laws.specs.Laws.{IsBare}
 use Rattle.raft_voter_durability_laws.specs.Requests.{SaysChange}
 

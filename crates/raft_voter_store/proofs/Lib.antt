@@ -1,3 +1,4 @@
+pub mod Public
 pub mod Reading
 pub mod Taking
 pub mod Upkeep
@@ -7,3 +8,4 @@ pub mod Places
 pub mod Serving
 pub mod Silence
 pub mod Opening
+pub mod Counting

@@ -1,18 +1,10 @@
 -- One more entry is read.
-use Rattle.std.proofs.Common.{◌≡◌, ℕ, ◌+◌, ◌<◌, ◌^◌, List, [], ◌∷◌, ◌++◌, length, map, length-take, take, get_or, sym, ap, subst, ◌∙◌, arith}
-use Rattle.std.proofs.lemmas.Bool.Decides.{nat_tests}
+use Rattle.std.proofs.Common.{◌≡◌, ℕ, ◌+◌, ◌<◌, List, [], ◌∷◌, ◌++◌, length, map, length-take, take, get_or, sym, ap, subst, ◌∙◌, arith}
 use Rattle.std.proofs.lemmas.List.{length-map, map-append, take_more}
 use Rattle.raft_log_record_items.specs.declared.raw_message.RawMessage.{RawMessage}
 use Rattle.raft_voter_messages.specs.declared.reply.Entry.{Entry}
 use Rattle.raft_voter_messages.specs.StoredForms.{IsEntry}
 use Rattle.raft_voter.specs.Laws.{AreReadAs}
-
--- an entry that is read stands below 2 ^ 63
-pub small_index : (bytes : List ℕ) (index : ℕ) (e : Entry) → IsEntry bytes index e → index < 2 ^ 63
-small_index bytes index e h =
-    let fit = h.in_range in
-    let at = h.at_index in
-    grind (arith, nat_tests, fit, at)
 
 behind : (first : ℕ) (texts : List (List ℕ)) (es : List Entry) (text : List ℕ) (e : Entry) (at : ℕ) → at ≡ first + length texts → AreReadAs first texts es → IsEntry text at e
     → AreReadAs first (texts ++ text ∷ []) (es ++ e ∷ [])

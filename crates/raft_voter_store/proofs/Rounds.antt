@@ -13,9 +13,7 @@ use Rattle.raft_voter_outline.specs.State.{State}
 use Rattle.raft_voter.specs.Service.{is_refused, refused_from}
 use Rattle.raft_voter_durability_laws.specs.Ends.{Went}
 use Rattle.raft_voter_durability_laws.specs.Requests.{Broke, Served, TurnedDown}
-use Rattle.raft_voter_durability_laws.proofs.Composing.{later_same, later_twice}
-use Rattle.raft_voter_durability_laws.proofs.Ending.{rounds_end}
-use Rattle.raft_voter_durability_laws.proofs.Going.{rounds_go_on}
+use Rattle.raft_voter_durability_laws.proofs.Public.{later_same, later_twice, rounds_end, rounds_go_on}
 use Rattle.raft_voter_store.specs.Rounds.{AreExcused, CutsRoundOff, GoesOn, Passes, RoundIsAnswered, StopsAt, TurnsDown}
 use Rattle.raft_voter_store.specs.Taking.{FailsToTake}
 
@@ -111,12 +109,6 @@ past_goes_on q error wrote told now t u us ws (same, inr broke) alive is qs s os
     let failed : has_failed u ≡ true = broke.1.failed in
     absurd cc
 
-pub broke_at : (q : ℕ × Request) (error : Error) (t u : EngineState) (us ws : ℕ → State) → FailsToTake q error t u us ws → has_failed u ≡ true → Broke q t u us
-broke_at q error t u us ws (same, inl turned) failed =
-    let alive : has_failed u ≡ false = turned.alive in
-    absurd cc
-broke_at q error t u us ws (same, inr broke) failed = broke.1
-
 pub stops_at : (qs : List (ℕ × Request)) (told now : List Reply) (i : ℕ) (q : ℕ × Request) (wrote : Bool) (s t u : EngineState) (os us : ℕ → State)
     → Passes qs told wrote s t os us → length told ≡ i → slice_get qs i ≡ Some q → now ≡ told → Broke q t u us → StopsAt qs now s u os
 stops_at qs told now i q wrote s t u os us passes count at same broke =
@@ -175,7 +167,3 @@ cut_unsynced qs told refused wrote error s t u os us passes unsynced few places 
       excused = excused_since qs told s t u os (unsynced_later error t u unsynced) passes.excused;
       left = λ home V keeps outlines. inr (rounds_end.unsynced home V qs told wrote error s t u os us keeps outlines passes.went unsynced);
     }
-
-pub unsynced_failed : (error : Error) (t u : EngineState) → has_failed t ≡ false → NotSynced error t u → has_failed u ≡ true
-unsynced_failed error t u alive (is, inl had) = absurd cc
-unsynced_failed error t u alive (is, inr fails) = fails.failed

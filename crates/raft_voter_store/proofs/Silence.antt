@@ -7,7 +7,7 @@ use Rattle.raft_voter_messages.specs.declared.request.Request.{Request}
 use Rattle.raft_voter_outline.specs.declared.outlines.Outlines.{Outlines}
 use Rattle.raft_voter_outline.specs.Kept.{outlines_in}
 use Rattle.raft_voter.specs.Rounds.{World}
-use Rattle.raft_voter_recovery.proofs.Telling.{stays_at_first, stays_on}
+use Rattle.raft_voter_recovery.proofs.Public.{stays_at_first, stays_on}
 use Rattle.raft_voter_durability_laws.specs.Standing.{AreOutlines}
 use Rattle.raft_voter_store.specs.Silence.{AsksForNone, IfVotersStay, IfVoterStays, LeavesVoter, ReadsAlone}
 

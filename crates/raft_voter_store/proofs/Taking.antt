@@ -32,9 +32,7 @@ use Rattle.raft_voter_durability_laws.specs.Laws.{IsBare}
 use Rattle.raft_voter_durability_laws.specs.Reads.{IsCounted, IsRaw}
 use Rattle.raft_voter_durability_laws.specs.Requests.{SaysChange, Served, StepsOutlines, TurnedDown}
 use Rattle.raft_voter_durability_laws.specs.Requests.WasTurnedDown.{no_memory}
-use Rattle.raft_voter_durability_laws.proofs.Fetching.{fetched_entries_are_read, unfetched_entries_are_unread}
-use Rattle.raft_voter_durability_laws.proofs.Serving.{read_requests_are_served, written_requests_are_served}
-use Rattle.raft_voter_durability_laws.proofs.Turning.{unmade_requests_are_turned_down, unread_requests_are_turned_down, unwritten_requests}
+use Rattle.raft_voter_durability_laws.proofs.Public.{fetched_entries_are_read, read_requests_are_served, unfetched_entries_are_unread, unmade_requests_are_turned_down, unread_requests_are_turned_down, unwritten_requests, written_requests_are_served}
 use Rattle.raft_voter_store.specs.Taking.{FailsToTake}
 use Rattle.raft_voter_store.specs.Writing.{FailsToWriteChange}
 use Rattle.raft_voter_store.specs.Writing.FailsToWriteChange.{unsaid, unwritten}

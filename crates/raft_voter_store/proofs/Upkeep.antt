@@ -1,17 +1,13 @@
 -- Purges change no voter: each exit is a call of one law.
-use Rattle.std.proofs.Common.{inl, inr, sym, subst, Result, Ok, Err, IfOk, OnOk}
+use Rattle.std.proofs.Common.{inl, inr, sym, subst}
 use Rattle.raft_log_record_base.specs.declared.errors.Error.{Error}
 use Rattle.raft_log_engine.specs.raft_log_engine_core.specs.Purging.{StopsPurgingExpired, StopsRewritingAppend}
 use Rattle.raft_voter_durability_laws.specs.raft_log_engine_laws.specs.Fetching.{HadFailed}
 use Rattle.raft_voter_durability_laws.specs.raft_log_engine_laws.specs.EngineState.{EngineState}
 use Rattle.raft_voter_durability_laws.specs.Calls.{KeepsMap, KeepsOrLeavesMap}
 use Rattle.raft_voter_durability_laws.specs.Standing.{Keeps}
-use Rattle.raft_voter_durability_laws.proofs.Keeping.{purges_keep_voters}
+use Rattle.raft_voter_durability_laws.proofs.Public.{purges_keep_voters}
 use Rattle.raft_voter_store.specs.Upkeep.{KeepsOrLeavesVoters, KeepsVoters}
-
-pub ok_of : {X E : Type 0} (r : Result X E) (P : X → Type 0) (Q : Type 0) → ((x : X) → P x → Q) → IfOk r P → OnOk r Q
-ok_of (Ok x) P Q f p = f x p
-ok_of (Err e) P Q f p = tt
 
 pub map_kept : (s t : EngineState) → KeepsMap s t → KeepsVoters s t
 map_kept s t kept home V keeps = purges_keep_voters.answered home V s t keeps kept

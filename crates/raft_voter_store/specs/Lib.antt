@@ -5,3 +5,4 @@ pub mod Silence
 pub mod Service
 pub mod Opening
 pub mod Writing
+pub mod Counting

@@ -14,7 +14,8 @@ use Rattle.raft_voter_outline.specs.State.{State}
 use Rattle.raft_voter_recovery.specs.Reading.{IsUnreadFor, ReadsVoters, cause_of}
 use Rattle.raft_voter_recovery.specs.declared.unread.Unread.{Unread}
 
--- the log of the settings `config` was opened from the files `old`, as an engine with the state `s` and no cached block
+-- the log of the settings `config` was opened from the files `old`; the engine over it has the state `s`, and no cached
+-- block
 pub record OpensEngine {F : Type 0} (disk : F → Disk) (tells : F → List ℕ → ℕ → Type 0) (config : Config)
     (old : F) (s : EngineState) : Type 0 where
   pub pipes : LogPipes
@@ -24,8 +25,8 @@ pub record OpensEngine {F : Type 0} (disk : F → Disk) (tells : F → List ℕ 
   pub none : cache.place ≡ None
   pub is : s ≡ shows pipes tables cache
 
--- The log of the settings `config` was opened from the files `old`, and its voters were read. The store has an engine
--- with the state `t`. The outlines of the voters are `os`.
+-- The log of the settings `config` was opened from the files `old`, and its voters were read. The store's engine has
+-- the state `t` after that. The outlines of the voters are `os`.
 pub record OpensVoters {F : Type 0} (disk : F → Disk) (tells : F → List ℕ → ℕ → Type 0) (config : Config)
     (old : F) (t : EngineState) (os : ℕ → State) : Type 0 where
   pub engine : EngineState
@@ -33,8 +34,8 @@ pub record OpensVoters {F : Type 0} (disk : F → Disk) (tells : F → List ℕ 
   pub reads : ReadsVoters engine os
   pub stays : StaysButBlock engine t
 
--- The log of the settings `config` was opened from the files `old`, but reading its voters failed with `cause`. If the
--- engine hasn't failed, its log was closed, and the files are `back`.
+-- The log of the settings `config` was opened from the files `old`, but reading its voters failed with `cause`. Unless
+-- the engine had failed, its log was closed. The files are `back` after that.
 pub record ClosesUnread {F : Type 0} (disk : F → Disk) (tells : F → List ℕ → ℕ → Type 0) (config : Config)
     (cause : Unread) (old back : F) : Type 0 where
   pub engine : EngineState
@@ -44,9 +45,9 @@ pub record ClosesUnread {F : Type 0} (disk : F → Disk) (tells : F → List ℕ
   pub stays : StaysButBlock engine after
   pub closes : has_failed after ≡ false → ClosesLog after.pipes (disk back)
 
--- An open of a store from the files `old` failed with `cause`, and returned the files `back`:
--- - `unopened`: opening its log failed
--- - `unread`: reading its voters failed
+-- Opening a store from the files `old` failed with `cause`, and returned the files `back`:
+-- - `unopened`: opening the log failed
+-- - `unread`: reading the voters failed
 pub data FailsToOpenVoters {F : Type 0} (disk : F → Disk) (tells : F → List ℕ → ℕ → Type 0) (config : Config)
     (cause : Unread) (old back : F) : Type 0 where
   unopened : (error : Error) → cause ≡ cause_of error

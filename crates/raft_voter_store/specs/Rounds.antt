@@ -1,5 +1,5 @@
--- How the store's loop serves the requests of a round one by one, and how the round ends. `s` and `os` are the
--- engine's state and the outlines before, `t` and `us` those after.
+-- How the store's loop serves the requests of a round one by one, and how the round ends. `s` and `os` are the engine's
+-- state and the outlines before the round or request. `t` and `us` are those after it.
 use Rattle.std.specs.Prelude.{◌≡◌, ◌⊎◌, ◌≤◌, ℕ, Bool, false, List, length, slice_get, Some, take}
 use Rattle.raft_log_fs.specs.Causes.{IsLater}
 use Rattle.raft_log_record_base.specs.declared.errors.Error.{Error}
@@ -16,8 +16,8 @@ use Rattle.raft_voter_durability_laws.specs.Requests.{Broke, TurnedDown}
 use Rattle.raft_voter_durability_laws.specs.Ends.{Answered, GaveUp, Unsynced, Went}
 
 -- The first requests of the round `qs` got the replies `told`, and then request `q` was rejected with an error. The
--- round began in the state `s`, with the outlines `os`. It ended in `t`, whose disk is no earlier than that after `q`.
--- So if a file call failed at `q`, one failed between `s` and `t`.
+-- round began in the state `s`, with the outlines `os`. The disk of `t` is that after the rejection, or a later one. So
+-- if a file call failed at `q`, one failed between `s` and `t`.
 pub record TurnsDown (qs : List (ℕ × Request)) (told : List Reply) (q : ℕ × Request) (s t : EngineState) (os : ℕ → State)
     : Type 0 where
   pub wrote : Bool
@@ -29,7 +29,7 @@ pub record TurnsDown (qs : List (ℕ × Request)) (told : List Reply) (q : ℕ �
   pub turned : TurnedDown q error mid next outlines
   pub later : IsLater next.pipes.disk t.pipes.disk
 
--- Each reply `Refused` in `told` has a reason. Either its request is out of range; or the request was rejected with an
+-- Each reply `Refused` in `told` has a reason. Either its request is out of range. Or its request was rejected with an
 -- error, after the requests before it were served.
 abbrev pub AreExcused : List (ℕ × Request) → List Reply → EngineState → EngineState → (ℕ → State) → Type 0
 AreExcused qs told s t os = (place : ℕ) (q : ℕ × Request) → slice_get told place ≡ Some Refused
@@ -59,8 +59,8 @@ abbrev pub RoundIsAnswered : List (ℕ × Request) → List Reply → EngineStat
 RoundIsAnswered qs told s t os us =
     (home : LogDirectories) (V : World) → Keeps home s V → AreOutlines os V → Answered home V qs told s t us
 
--- The round was cut off. If the log of `s` stored voters with the outlines `os`, then the engine failed at a request,
--- or the sync at the end failed. `refused` are the positions of the replies `Refused`, and each has a reason.
+-- The round was cut off. `refused` are the positions of the replies `Refused`, and each of these has a reason. If the
+-- log of `s` stored voters with the outlines `os`, then the engine failed at a request, or the sync at the end failed.
 pub record CutsRoundOff (qs : List (ℕ × Request)) (refused : List ℕ) (s t : EngineState) (os : ℕ → State) : Type 0 where
   pub told : List Reply
   pub few : length told ≤ length qs
@@ -69,9 +69,10 @@ pub record CutsRoundOff (qs : List (ℕ × Request)) (refused : List ℕ) (s t :
   pub left : (home : LogDirectories) (V : World) → Keeps home s V → AreOutlines os V
       → GaveUp home V qs told s t ⊎ Unsynced home V qs told s t
 
--- A round that got as far as the request `q` gets past it. Before `q` it has the replies `told`, the state `t` and
--- the outlines `us`; after `q` it has `now`, `u` and `ws`. `wrote` is false only if it wrote no record before `q`;
--- `more` is false only if it wrote none up to and with `q`.
+-- The request `q` of a round was served. Take any round that got the replies `told` to the requests before `q`, and has
+-- the state `t` and the outlines `us` then. After `q` it has the replies `now`, the state `u` and the outlines `ws`.
+-- `wrote` is false only if no record was written before `q`. `more` is false only if none was written up to and with
+-- `q`.
 abbrev pub GoesOn : ℕ × Request → Bool → Bool → List Reply → List Reply → EngineState → EngineState → (ℕ → State) → (ℕ → State) → Type 0
 GoesOn q wrote more told now t u us ws = (qs : List (ℕ × Request)) (s : EngineState) (os : ℕ → State)
     → Passes qs told wrote s t os us → slice_get qs (length told) ≡ Some q → Passes qs now more s u os ws

@@ -14,12 +14,13 @@ use Rattle.raft_voter_durability_laws.specs.Standing.{AreOutlines}
 abbrev pub LeavesVoter : World → ℕ × Request → Type 0
 LeavesVoter V q = next (V q.0) q.1 ≡ V q.0
 
--- `P` holds, if there are voters with the outlines `os`, and the request `q` leaves the voter of its group unchanged
+-- Suppose some voters have the outlines `os`, and the request `q` leaves the voter of its group unchanged. Then `P`
+-- holds.
 abbrev pub IfVoterStays : (ℕ → State) → ℕ × Request → Type 0 → Type 0
 IfVoterStays os q P = (V : World) → AreOutlines os V → LeavesVoter V q → P
 
--- `P` holds, if there are voters with the outlines `os`, and each request of the round `qs` leaves the voter of its
--- group unchanged
+-- Suppose some voters have the outlines `os`, and each request of the round `qs` leaves the voter of its group
+-- unchanged. Then `P` holds.
 abbrev pub IfVotersStay : (ℕ → State) → List (ℕ × Request) → Type 0 → Type 0
 IfVotersStay os qs P = (V : World) → AreOutlines os V → All (LeavesVoter V) qs → P
 
@@ -27,7 +28,7 @@ IfVotersStay os qs P = (V : World) → AreOutlines os V → All (LeavesVoter V) 
 abbrev pub AsksForNone : ℕ × Request → Type 0
 AsksForNone q = (from to : ℕ) → q.1 ≡ Read from to → ⊥
 
--- The call, from the state `s` to `t`, only read: the files, the pending batches and the outlines are unchanged. At
--- most the engine's cached block differs.
+-- The call, from the state `s` to the state `t`, only read. The files, the pending batches and the outlines are
+-- unchanged. The engine's cached block may differ.
 abbrev pub ReadsAlone : EngineState → EngineState → Outlines → Outlines → Type 0
 ReadsAlone s t old new = StaysButBlock s t × (new ≡ old)

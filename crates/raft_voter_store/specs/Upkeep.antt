@@ -5,11 +5,12 @@ use Rattle.raft_voter.specs.Rounds.{World}
 use Rattle.raft_voter_durability_laws.specs.Standing.{Keeps}
 use Rattle.raft_voter_durability_laws.specs.Calls.{KeepsOrLeaves}
 
--- if the log of `s` stores the voters of a world, with nothing pending, so does the log of `t`, in the same directories
+-- if the log of `s` stores the voters of a world, with nothing pending, the log of `t` stores them too, in the same
+-- directories
 abbrev pub KeepsVoters : EngineState → EngineState → Type 0
 KeepsVoters s t = (home : LogDirectories) (V : World) → Keeps home s V → Keeps home t V
 
--- After a purge that failed with `error`, the log of `t` stores the voters that the log of `s` stored. Or the engine of
--- `t` has failed, and its files can be opened with just these voters.
+-- A purge failed with `error`. If the log of `s` stored the voters of a world, the log of `t` stores the same voters.
+-- Or the engine of `t` has failed, and its files can be opened with just these voters.
 abbrev pub KeepsOrLeavesVoters : Error → EngineState → EngineState → Type 0
 KeepsOrLeavesVoters error s t = (home : LogDirectories) (V : World) → Keeps home s V → KeepsOrLeaves home error t V

@@ -19,7 +19,8 @@ pub record WritesChange (q : ℕ × Request) (c : Change) (s t : EngineState) : 
 
 -- Writing the change `c` for the request `q` failed with `error`:
 -- - `unsaid`: memory ran out before the write, and nothing changed
--- - `unwritten`: the write of the batch that encodes it failed, though its record has fewer than 2^56 bytes
+-- - `unwritten`: the change was encoded in a batch, and the write of this batch failed, though its record has fewer
+--   than 2^56 bytes
 pub data FailsToWriteChange (q : ℕ × Request) (c : Change) (error : Error) (s t : EngineState) : Type 0 where
   unsaid : error ≡ errors.Memory → t ≡ s → FailsToWriteChange q c error s t
   unwritten : (batch : Batch) → SaysChange q.0 q.1 c batch → record_len batch.items batch.entries < 2 ^ 56

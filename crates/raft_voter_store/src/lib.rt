@@ -4,9 +4,11 @@
 //! engine's log. The replies are returned after one sync. Only a request for entries reads the log.
 #![tactic(auto)]
 
+mod counters;
 mod entries;
 mod saying;
 mod store;
 mod writing;
 
+pub use counters::{StoreCounters, WorkCounters};
 pub use store::{LogVoterStore, StoreRefused, VoterStore};

@@ -2,6 +2,7 @@
 ghost use Rattle.std.specs.Prelude.{◌≡◌, ℕ, false, IfErr, IfOk, OnErr, OnOk};
 ghost use Rattle.raft_log_engine.specs.raft_log_engine_core.specs.Reads.{shows_of};
 
+mod counting;
 mod forking;
 mod opening;
 mod rounds;
@@ -9,6 +10,7 @@ mod service;
 mod status;
 mod upkeep;
 
+use crate::counters::WorkCounters;
 use crate::entries::read_entries;
 use crate::writing::write_change;
 use log::Log;
@@ -27,6 +29,8 @@ pub struct LogVoterStore<P> {
     outlines: Outlines,
     /// The batch of the last change that was written; the next one uses its memory.
     batch: Option<LogBatch>,
+    /// What it has done since it was opened.
+    work: WorkCounters,
 }
 
 /// A request that was served: its reply, and whether a record was written for it.
@@ -47,6 +51,7 @@ impl<P: PipeLog> LogVoterStore<P> {
     ghost use Rattle.raft_voter_durability_laws.specs.Laws.{IsBare};
     ghost use Rattle.raft_voter_durability_laws.specs.Requests.{Served, StepsOutlines};
     ghost use Rattle.raft_voter_outline.specs.Kept.{outlines_in};
+    ghost use Rattle.raft_voter_store.specs.Counting.{no_work};
     ghost use Rattle.raft_voter_store.specs.Silence.{AsksForNone, IfVoterStays, ReadsAlone};
     ghost use Rattle.raft_voter_store.specs.Taking.{FailsToTake};
     ghost use Rattle.raft_voter_store.specs.Writing.{FailsToWriteChange, WritesChange};
@@ -55,6 +60,7 @@ impl<P: PipeLog> LogVoterStore<P> {
     pub fn over_fresh(alloc: Global, engine: LogEngine<P>) -> LogVoterStore<P>
         ensures engine { result.engine ≡ engine }
         ensures outlines { (g : ℕ) → outlines_in result.outlines g ≡ fresh }
+        ensures work { result.work ≡ no_work }
     {
         let outlines = Outlines::new(alloc);
         LogVoterStore {
@@ -62,6 +68,7 @@ impl<P: PipeLog> LogVoterStore<P> {
             engine,
             outlines,
             batch: None,
+            work: WorkCounters::new(),
         }
     }
 

@@ -1,19 +1,16 @@
 -- Which rounds write, from what their requests change.
-use Rattle.std.proofs.Common.{◌≡◌, ℕ, ◌==◌, ◌||◌, Bool, true, false, if◌then◌else◌, List, [], ◌∷◌, ◌++◌, Option, Some, None, append-nil, append_assoc, refl, sym, ap, subst, inl, inr, ◌∙◌, arith}
+use Rattle.std.proofs.Common.{◌≡◌, ℕ, ◌||◌, Bool, true, false, if◌then◌else◌, List, [], ◌∷◌, ◌++◌, Option, Some, append-nil, append_assoc, refl, sym, ap, subst, inl, inr, ◌∙◌}
 use Rattle.std.specs.Prelude.{◌⊎◌, ◌&&◌, ◌+◌, OnSome, drop, nat_lt, not}
 use Rattle.std.specs.Borrow.{MutBor}
 use Rattle.std.specs.Bool.{Decides}
-use Rattle.std.proofs.lemmas.Bool.{cases_Bool}
 use Rattle.raft_voter_messages.specs.declared.request.Request.{Request}
 use Rattle.raft_voter_messages.specs.declared.round.Round.{Round}
-use Rattle.raft_voter_outline.specs.declared.outline.decision.Change.{Change}
 use Rattle.raft_voter_outline.specs.declared.outlines.Outlines.{Outlines}
 use Rattle.raft_voter_outline.specs.Decisions.{OutlineBecomes}
 use Rattle.raft_voter_outline.specs.Kept.{kept_of, kept_or_fresh, outlines_in}
 use Rattle.raft_voter_outline.specs.Lending.{HasOutline}
-use Rattle.raft_voter_outline.specs.Outlines.{ChangesEach, LeavesEach, Outlined, without_bytes}
-use Rattle.raft_voter_outline.specs.Rules.{next}
-use Rattle.raft_voter_outline.specs.State.{State, fresh}
+use Rattle.raft_voter_outline.specs.Outlines.{Outlined}
+use Rattle.raft_voter_outline.specs.State.{State}
 use Rattle.raft_voter.specs.Rounds.{World, after, after_one, fresh_world, is_among, taken_below, taken_from}
 use Rattle.raft_voter_timeline.specs.Marks.{cuts_behind, taken_up_to}
 use Rattle.raft_voter_timeline.specs.Writes.{AreOutlines, AreWrites, StepsOutlines, Takes, TakesIf}
@@ -23,29 +20,6 @@ use Rattle.raft_voter_timeline.specs.Writes.{AreOutlines, AreWrites, StepsOutlin
 abbrev neither : {A : Type 0} → A ⊎ ⊥ → A
 neither (inl a) = a
 neither (inr b) = absurd b
-
-equal_if : (a b : ℕ) → (a == b) ≡ true → a ≡ b
-equal_if a b h = grind (arith, h)
-
-pub takes_none : (os : ℕ → State) (q : ℕ × Request) → LeavesEach (os q.0) q.1 → Takes os os (q ∷ []) false
-takes_none os q leaves W are =
-    let stays : next (W q.0) q.1 ≡ W q.0 = leaves (W q.0) (sym (are q.0)) in (
-      (λ never. absurd (cc), λ changes. absurd (neither changes stays)),
-      λ g. elim (cases_Bool (g == q.0)) [
-        | inl t ↦ rw t (are g ∙ ap (λ j. without_bytes (W j)) (equal_if g q.0 t) ∙ ap without_bytes (sym stays))
-        | inr f ↦ rw f (are g)
-      ],
-    )
-
-pub takes_one : (os us : ℕ → State) (q : ℕ × Request) (c : Change) → ChangesEach (os q.0) q.1 c → StepsOutlines os us q → Takes os us (q ∷ []) true
-takes_one os us q c changes steps W are =
-    let is : without_bytes (W q.0) ≡ os q.0 = sym (are q.0) in (
-      (λ always. inl (changes (W q.0) is).moves, λ any. refl),
-      λ g. elim (cases_Bool (g == q.0)) [
-        | inl t ↦ rw t (ap us (equal_if g q.0 t) ∙ sym (steps.own (W q.0) is))
-        | inr f ↦ rw f (steps.others g f ∙ are g)
-      ],
-    )
 
 -- Outlines that are lent, or put.
 
@@ -61,15 +35,6 @@ steps_lent q old new o w is has becomes = record {
   own = subst (λ (v : State). OutlineBecomes v q.1 (outlines_in new q.0)) (kept_is old q.0 o is) (subst (λ (v : State). OutlineBecomes o.voter q.1 v) (sym has.own) becomes);
   others = has.others;
 }
-
-pub steps_over : (q : ℕ × Request) (os us ws : ℕ → State) → ((g : ℕ) → us g ≡ os g) → StepsOutlines us ws q → StepsOutlines os ws q
-steps_over q os us ws same steps = record {
-  own = subst (λ (v : State). OutlineBecomes v q.1 (ws q.0)) (same q.0) steps.own;
-  others = λ g f. steps.others g f ∙ same g;
-}
-
-pub fresh_unkept : (outlines : Outlines) (group : ℕ) → kept_of outlines group ≡ None → outlines_in outlines group ≡ fresh
-fresh_unkept outlines group none = ap kept_or_fresh none
 
 -- Requests one after another.
 
@@ -94,25 +59,10 @@ pub or_assoc : (a b c : Bool) → ((a || b) || c) ≡ (a || (b || c))
 or_assoc true b c = refl
 or_assoc false b c = refl
 
--- a request that isn't taken
-pub skipped : (os : ℕ → State) (q : ℕ × Request) (taken wrote : Bool) → taken ≡ false → TakesIf os os q taken wrote wrote
-skipped os q taken wrote is = record {
-  changed = false;
-  takes = rw is (takes_nothing os);
-  now_is = refl;
-}
-
 pub changed : (os us : ℕ → State) (q : ℕ × Request) (taken wrote more : Bool) → taken ≡ true → more ≡ true → Takes os us (q ∷ []) more → TakesIf os us q taken wrote true
 changed os us q taken wrote more is true_is takes = record {
   changed = true;
   takes = rw is (subst (λ (b : Bool). Takes os us (q ∷ []) b) true_is takes);
-  now_is = refl;
-}
-
-pub kept : (os us : ℕ → State) (q : ℕ × Request) (taken wrote more : Bool) → taken ≡ true → more ≡ false → Takes os us (q ∷ []) more → TakesIf os us q taken wrote wrote
-kept os us q taken wrote more is false_is takes = record {
-  changed = false;
-  takes = rw is (subst (λ (b : Bool). Takes os us (q ∷ []) b) false_is takes);
   now_is = refl;
 }
 

@@ -12,8 +12,8 @@ Gains old new more = string_bytes new ≡ string_bytes old ++ more
 abbrev pub has_no_place : ℕ → Bool
 has_no_place c = nat_lt c 32 || (c == 0xFFFE || c == 0xFFFF)
 
--- The bytes of a character in the XML. They are an entity for `&`, `<`, `>` and the quotes, U+FFFD if it is replaced
--- (`has_no_place`), and otherwise its UTF-8.
+-- The bytes of a character in the XML. They are an entity for `&`, `<`, `>` and the quotes, U+FFFD if the character is
+-- replaced (`has_no_place`), and otherwise the character's UTF-8.
 unfoldable pub escaped : ℕ → List ℕ
 escaped c =
     if c == 38 then codes "&amp;"

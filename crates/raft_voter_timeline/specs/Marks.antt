@@ -64,8 +64,9 @@ end_mark (outcomes.Answered replies) true = marks.Durable
 end_mark (outcomes.Answered replies) false = marks.Unchanged
 end_mark outcomes.Cut wrote = marks.Cut
 
--- The marks of a round: its first line, the requests before position `up_to`, which were taken, the line after them,
--- and the lost requests. `wrote` says whether the round wrote.
+-- The marks of a round's lines: of the first line, then of the requests before position `up_to`, which were taken
+-- unless refused, then of the line after these, and then of the other requests, which were lost unless refused. `wrote`
+-- says whether the round wrote.
 abbrev pub round_marks : Round → Bool → ℕ → List Mark
 round_marks round wrote up_to =
     head_mark round.outcome ∷ fates round.refused marks.Taken 0 (take up_to round.requests)

@@ -1,4 +1,4 @@
--- The picture as SVG: a head, then an SVG group (`<g>`) for each line.
+-- The picture as SVG: a head with a heading, then an SVG group (`<g>`) for each line.
 use Rattle.std.specs.Prelude.{◌≡◌, ℕ, ◌+◌, ◌*◌, List, [], ◌∷◌, ◌++◌, chars, codes, flat_map, string_bytes}
 use Rattle.std.specs.Fmt.{decimal}
 use Rattle.raft_voter_timeline.specs.declared.line.Line.{Line}
@@ -45,6 +45,16 @@ abbrev pub lines_text : ℕ → List Line → List ℕ
 lines_text number [] = []
 lines_text number (line ∷ lines) = line_text number line ++ lines_text (number + 1) lines
 
--- the picture is some head, then exactly these lines, then the end of the SVG
-abbrev pub ShowsLines : List Line → List ℕ → Type 0
-ShowsLines lines picture = (head : List ℕ) × (picture ≡ head ++ lines_text 0 lines ++ codes "</svg>\n")
+-- the heading's text, escaped
+unfoldable pub heading_text : List ℕ → List ℕ
+heading_text words =
+    codes "<text class=\"heading\" x=\"16\" y=\"30\">" ++ flat_map escaped (chars words) ++ codes "</text>\n"
+
+-- a picture's head shows this heading; something is before it, and something after it
+abbrev pub ShowsHeading : List ℕ → List ℕ → Type 0
+ShowsHeading words head = (before after : List ℕ) × (head ≡ before ++ heading_text words ++ after)
+
+-- the picture is a head with this heading, then exactly these lines, then the end of the SVG
+abbrev pub ShowsLines : List ℕ → List Line → List ℕ → Type 0
+ShowsLines heading lines picture = (head : List ℕ) × ShowsHeading heading head
+    × (picture ≡ head ++ lines_text 0 lines ++ codes "</svg>\n")

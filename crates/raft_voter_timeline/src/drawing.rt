@@ -1,6 +1,6 @@
 //! Draws the events of a session as a picture.
-ghost use Rattle.std.specs.Prelude.{IfOk, string_bytes};
-ghost use Rattle.raft_voter_timeline.specs.Drawing.{DrawsRounds, DrawsRun};
+ghost use Rattle.std.specs.Prelude.{◌≡◌, IfOk, string_bytes};
+ghost use Rattle.raft_voter_timeline.specs.Drawing.{DrawsRounds, DrawsRun, IsHeading, heading_with, verdict_word};
 ghost use Rattle.raft_voter_timeline.specs.Marks.{marks_of};
 
 use crate::line::Line;
@@ -28,13 +28,9 @@ pub fn draw_run<R: Threads + Sync, S: VoterStorage<R> + Drop, F: VoterDisk<R, S>
         DrawsRun S.service S.upkeep F.disk files events.items (string_bytes picture)) }
 {
     let titles = titles_of(alloc, &events)?;
+    let count = events.len();
     let report = run_world::<R, S, F>(rt, alloc, files, events)?;
-    let heading = heading_of(
-        alloc,
-        titles.len(),
-        &report.transcript,
-        report.cuts.as_slice(),
-    )?;
+    let heading = heading_of(alloc, count, &report.transcript, report.cuts.as_slice())?;
     picture_of(
         alloc,
         heading.as_str(),
@@ -50,15 +46,34 @@ fn heading_of(
     events: usize,
     transcript: &Transcript,
     cuts: &[usize],
-) -> Result<String, Memory> {
-    let rounds = transcript.rounds.len();
-    let cut_off = cuts.len();
-    let verdict = if judge(alloc, transcript, cuts)? {
-        "yes"
-    } else {
-        "no"
-    };
-    Ok(format!(in alloc; "events {events}, rounds {rounds}, cut off {cut_off}, verdict {verdict}")?)
+) -> Result<String, Memory>
+    ensures { IfOk result (λ heading.
+        IsHeading events transcript.now.rounds cuts.now (string_bytes heading)) }
+{
+    let explained = judge(alloc, transcript, cuts)?;
+    let word = verdict_word(explained);
+    words_of(alloc, events, transcript.rounds.len(), cuts.len(), word)
+}
+
+/// Returns the word for a verdict.
+fn verdict_word(verdict: bool) -> &'static str
+    ensures { result.now ≡ verdict_word verdict }
+{
+    if verdict { "yes" } else { "no" }
+}
+
+/// Returns the heading for these numbers of events, of rounds and of rounds that were cut off, with this word for the
+/// verdict.
+fn words_of(
+    alloc: Global,
+    events: usize,
+    rounds: usize,
+    cut_off: usize,
+    word: &str,
+) -> Result<String, Memory>
+    ensures { IfOk result (λ heading. string_bytes heading ≡ heading_with events rounds cut_off word.now) }
+{
+    Ok(format!(in alloc; "events {events}, rounds {rounds}, cut off {cut_off}, verdict {word}")?)
 }
 
 /// Returns the picture of these events, with the results of their rounds.
@@ -70,7 +85,8 @@ fn picture_of(
     cuts: &[usize],
 ) -> Result<String, Memory>
     ensures { IfOk result (λ picture.
-        DrawsRounds (marks_of titles.items) transcript.now.rounds cuts.now (string_bytes picture)) }
+        DrawsRounds heading.now (marks_of titles.items) transcript.now.rounds cuts.now
+        (string_bytes picture)) }
 {
     let rounds = transcript.rounds.as_slice();
     let writes = writes_of(alloc, rounds, cuts)?;

@@ -1,6 +1,7 @@
 //! The part of a picture before its lines: how marks are drawn, and what they mean.
-ghost use Rattle.std.specs.Prelude.{◌≡◌, ◌<◌, ◌^◌};
-ghost use Rattle.raft_voter_timeline.specs.Picture.{top_of};
+ghost use Rattle.std.specs.Prelude.{◌≡◌, ◌<◌, ◌^◌, IfOk, OnOk, string_bytes};
+ghost use Rattle.raft_voter_timeline.specs.Escape.{Gains};
+ghost use Rattle.raft_voter_timeline.specs.Picture.{ShowsHeading, heading_text, top_of};
 
 use crate::escape::push_escaped;
 use raft_voter_messages::Memory;
@@ -83,6 +84,7 @@ pub fn top_of(number: usize) -> usize
 /// Fails with `Memory` if there is no room for it.
 pub fn head_of(alloc: Global, heading: &str, count: usize) -> Result<String, Memory>
     requires { top_of count < 2 ^ 64 }
+    ensures { IfOk result (λ text. ShowsHeading heading.now (string_bytes text)) }
 {
     let height = top_of(count);
     let mut text = String::new(alloc);
@@ -98,9 +100,18 @@ pub fn head_of(alloc: Global, heading: &str, count: usize) -> Result<String, Mem
         text,
         "<rect width=\"1100\" height=\"{height}\" fill=\"#ffffff\"/>\n"
     )?;
-    text.push_str("<text class=\"heading\" x=\"16\" y=\"30\">")?;
-    push_escaped(&mut text, heading)?;
-    text.push_str("</text>\n")?;
+    push_heading(&mut text, heading)?;
     text.push_str(LEGEND)?;
     Ok(text)
+}
+
+/// Appends the heading.
+#[tactic(auto, unfolding(crate::specs::Picture::heading_text))]
+fn push_heading(text: &mut String, heading: &str) -> Result<(), Memory>
+    ensures { OnOk result (Gains text.old text.new (heading_text heading.now)) }
+{
+    text.push_str("<text class=\"heading\" x=\"16\" y=\"30\">")?;
+    push_escaped(text, heading)?;
+    text.push_str("</text>\n")?;
+    Ok(())
 }

@@ -14,7 +14,7 @@ use std::alloc::Global;
 ///
 /// Fails with `Memory` if there is no room for it.
 pub fn svg_of(alloc: Global, heading: &str, lines: &[Line]) -> Result<String, Memory>
-    ensures { IfOk result (λ picture. ShowsLines lines.now (string_bytes picture)) }
+    ensures { IfOk result (λ picture. ShowsLines heading.now lines.now (string_bytes picture)) }
 {
     let mut text = head_of(alloc, heading, lines.len())?;
     for (number, line) in lines.iter().enumerate() {

@@ -5,7 +5,7 @@ use Rattle.raft_voter.specs.Rounds.{World, after, taken_below}
 use Rattle.raft_voter.specs.Service.{CutRound, IsOpenAt, MayFollow, Service, uncut}
 use Rattle.raft_voter.specs.declared.service.Cause.{Cause}
 use Rattle.raft_voter.specs.declared.service.Cause.TheVariants.{FileSystem, Memory, Failed, TooLong}
-use Rattle.raft_voter.proofs.Places.{taken_none}
+use Rattle.raft_voter.proofs.Public.{taken_none}
 use Rattle.raft_voter_world.specs.declared.storage.Storage.{Storage}
 use Rattle.raft_voter_world.specs.declared.storage.Storage.TheVariants.{Closed, Open}
 use Rattle.raft_voter_world.specs.Cuts.{AreLeast, cut_after, cut_by, cuts_in}

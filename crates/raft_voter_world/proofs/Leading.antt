@@ -6,7 +6,7 @@ use Rattle.raft_voter_messages.specs.declared.round.Outcome.TheVariants.{Answere
 use Rattle.raft_voter_messages.specs.declared.round.Round.{Round}
 use Rattle.raft_voter.specs.Rounds.{World, ExplainsFrom, Leads, OutcomeHolds, after, after_rounds, are_rising, cuts_after, place_reached, replies_of, taken_below}
 use Rattle.raft_voter.specs.Service.{CutRound, IsOpenAt, Service, uncut}
-use Rattle.raft_voter.proofs.Places.{taken_none}
+use Rattle.raft_voter.proofs.Public.{taken_none}
 use Rattle.raft_voter_world.specs.declared.storage.Storage.{Storage}
 use Rattle.raft_voter_world.specs.declared.storage.Storage.TheVariants.{Closed, Open}
 use Rattle.raft_voter_world.specs.Cuts.{cuts_in, next_place}

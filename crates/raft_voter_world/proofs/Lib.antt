@@ -1,3 +1,4 @@
+pub mod Public
 pub mod AlikeLemmas
 mod Alone
 pub mod Believed

@@ -12,7 +12,7 @@ use Rattle.raft_voter_outline.specs.State.{fresh}
 use Rattle.raft_voter.specs.Rounds.{World, after, after_one, is_among, taken_from}
 use Rattle.raft_voter.specs.Service.{CutRound}
 use Rattle.raft_voter.specs.Voters.{is_listed}
-use Rattle.raft_voter.proofs.Places.{taken_none, taken_past}
+use Rattle.raft_voter.proofs.Public.{taken_none, taken_past}
 use Rattle.raft_voter_world.specs.Differing.{Leave, Marks}
 use Rattle.raft_voter_world.specs.Places.{IsLeastPlace, world_at}
 

@@ -9,7 +9,7 @@ use Rattle.raft_voter_messages.specs.Ranges.{in_range}
 use Rattle.raft_voter_outline.specs.Rules.{reply}
 use Rattle.raft_voter.specs.Rounds.{World, after, after_one, is_among, replies_from, taken_from}
 use Rattle.raft_voter.specs.Service.{Answers, IsOpenAt, Service, is_refused, out_of_range, refused_from}
-use Rattle.raft_voter.proofs.Places.{replies_behind, taken_behind}
+use Rattle.raft_voter.proofs.Public.{replies_behind, taken_behind}
 use Rattle.raft_voter_world.specs.LawsAlike.{AreServed, StoresAnswerTakenAsModels, TellsTaken, answers_in, taken_by}
 use Rattle.raft_voter_world.proofs.InTurn.{in_turn, turns}
 

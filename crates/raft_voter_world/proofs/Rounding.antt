@@ -10,7 +10,7 @@ use Rattle.raft_voter.specs.Service.{CutRound, Service, TakesNothing, is_refused
 use Rattle.raft_voter.specs.Voters.{world_of}
 use Rattle.raft_voter.specs.declared.service.Cause.{Cause}
 use Rattle.raft_voter.specs.declared.service.Cause.TheVariants.{FileSystem, Memory, Failed, TooLong}
-use Rattle.raft_voter.proofs.Steps.{by_test}
+use Rattle.raft_voter.proofs.Public.{by_test}
 use Rattle.raft_voter_world.specs.declared.event.Event.TheVariants.{Round as RoundEvent}
 use Rattle.raft_voter_world.specs.declared.event.Left.{Left}
 use Rattle.raft_voter_world.specs.declared.notes.Notes.{Notes}
@@ -37,16 +37,6 @@ rising low k high (r ∷ rs) a b =
     (λ _. rising low (k + 1) high rs (omega arith) (omega arith))
 
 -- What its notes need.
-
-pub answered_ready : {S F : Type 0} (v : Service S) (requests : List (ℕ × Request)) (old new : Storage S F) (round : Round) (P : Type 0) → IsServed v requests old (Answered round) new → WhereAlive v old P → P
-answered_ready v requests (Open old) (Open new) round P s a = a s.1.alive.0
-answered_ready v requests (Open old) (Closed new) round P s a = absurd s
-answered_ready v requests (Closed old) new round P s a = absurd s
-
-pub some_ready : {S F : Type 0} (v : Service S) (requests : List (ℕ × Request)) (old new : Storage S F) (round : Round) (P : Type 0) → IsServed v requests old (TookSome round) new → WhereAlive v old P → P
-some_ready v requests (Open old) (Open new) round P s a = a s.1.fails.1
-some_ready v requests (Open old) (Closed new) round P s a = absurd s
-some_ready v requests (Closed old) new round P s a = absurd s
 
 pub answered_rising : {S F : Type 0} (v : Service S) (requests : List (ℕ × Request)) (old new : Storage S F) (round : Round) → IsServed v requests old (Answered round) new → (high : ℕ) × IsTrue (are_rising 0 high round.refused)
 answered_rising v requests (Open old) (Open new) round s =

@@ -29,9 +29,9 @@ abbrev pub IsOfRun :
 IsOfRun v u d files events report run m at = HappenedTo m at (Closed files) (moments_of run.turns ++ run.closing)
 
 -- One of the moments that happened (`Happened`, with the storage before each) is this round:
--- - a store replied to it, and may refuse the positions that it refused;
--- - or a store cut it off for a cause that it may have, and the round had the effect that this cause allows;
--- - or it was cut off while no store was open.
+-- - a store replied to the round, and may refuse the positions that were refused;
+-- - or a store cut the round off for a cause that was possible, and the round did to the store what this cause allows;
+-- - or the round was cut off while no store was open.
 pub data HasItsCause {S F : Type 0} (v : Service S) (Happened : Moment S F → Storage S F → Type 0) (round : Round)
     : Type 0 where
   was_answered : (old new : S) → Happened (answered round new) (Open old) → IsAnswered v old round new

@@ -1,5 +1,5 @@
--- The cut of a round without replies: its requests before this position were taken. The next open shows voters. They
--- fit the round at a position if the round's requests before that position lead to these voters.
+-- The cut of a round without replies is a position: the round's requests before it were taken. The next open shows
+-- voters. These voters fit the round at a position if the round's requests before that position lead to them.
 use Rattle.std.specs.Prelude.{ℕ, ◌+◌, List, [], ◌∷◌, ◌++◌, length, None, unwrap_or}
 use Rattle.raft_voter_messages.specs.declared.round.Round.{Round}
 use Rattle.raft_voter.specs.Rounds.{World, after, taken_below}
@@ -11,8 +11,8 @@ use Rattle.raft_voter_world.specs.History.Moment.{opened, answered, cut_off, idl
 use Rattle.raft_voter_world.specs.Places.{IsPlaceFound}
 use Rattle.raft_voter_world.specs.Stores.{world_in}
 
--- the position that the next open in `ms` found for the cut-off round: 0 if it found none, and `last` if no open in
--- `ms` read the voters
+-- The position that an open found for the cut-off round, or 0 if it found none. The open is the next one in `ms` that
+-- read the voters. If there is no such open, the position is `last`.
 abbrev pub next_place : {S F : Type 0} → ℕ → List (Moment S F) → ℕ
 next_place last [] = last
 next_place last (opened workers store voters place now ∷ ms) = unwrap_or place 0
@@ -32,13 +32,13 @@ cuts_in last (idle round files ∷ ms) = 0 ∷ cuts_in last ms
 cuts_in last (m ∷ ms) = cuts_in last ms
 
 -- The last round that may have been taken in part, once `round` was cut off for this cause. It is `round` if the cause
--- is `FileSystem`. Otherwise nothing of `round` was taken, and it is `cut`, as before.
+-- is `FileSystem`. Otherwise nothing of `round` was taken, and the last such round is still `cut`.
 abbrev pub cut_by : Cause → CutRound → Round → CutRound
 cut_by FileSystem cut round =
     record { before = cut.before; requests = round.requests; refused = round.refused }
 cut_by cause cut round = cut
 
--- no round is cut off now: only the voters after `round`, which got replies, are possible
+-- `round` got replies, so no round is cut off now: only the voters after `round` are possible
 abbrev pub cut_after : CutRound → Round → CutRound
 cut_after cut round = uncut (after cut.before (taken_below round (length round.requests)))
 

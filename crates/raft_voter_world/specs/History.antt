@@ -1,6 +1,6 @@
--- A history: a list of moments. Each moment is one thing that happens to a store of voters or its files. An event of
--- a run makes some moments, or none. Throughout, `v` and `u` are what the store promises for rounds and between them,
--- and `d` what its disk promises.
+-- A history: a list of moments. Each moment is one thing that happens to a store of voters or its files. An event of a
+-- run makes some moments, or none. Throughout, `v` is what the store promises for rounds, `u` what it promises between
+-- rounds, and `d` what its disk promises.
 use Rattle.std.specs.Prelude.{◌≡◌, ℕ, ◌≤◌, ◌==◌, Bool, true, false, if◌then◌else◌, List, [], ◌∷◌, length, Option, None, Some, map}
 use Rattle.std.specs.List.{flat_map}
 use Rattle.std.specs.String.{string_bytes}
@@ -35,8 +35,8 @@ pub data Change : Type 0 where
   copies : List ℕ → Change
 
 -- One thing that happens, with the store or the files after it:
--- - `opened`: a store was opened by this many workers, and its voters were read. They fit the last cut-off round at
---   this position: the round's requests before it lead to them. If it is `None`, they fit at no position.
+-- - `opened`: a store was opened by this many workers, and its voters were read. The number is a position in the last
+--   cut-off round: its requests below that position lead to these voters. It is `None` if no position fits.
 -- - `unread`: a store was opened, but its voters couldn't be read. It was closed again, which left these files.
 -- - `fell`: a store was opened, but the disk stopped during the open. A crash left these files.
 -- - `unopened`: an open failed for a cause, and returned these files.
@@ -220,8 +220,8 @@ abbrev pub IsCrash : {S F : Type 0} → Left → Moment S F → Type 0
 IsCrash gone (crashed other files) = other ≡ gone
 IsCrash gone moment = ⊥
 
--- The moment is an open by this many workers, with any outcome. If the disk stopped in it, the crash left what `gone`
--- says.
+-- The moment is an open by this many workers, with any outcome. If a store was opened, and the disk stopped in the
+-- open, the moment is `fell`, and its crash left what `gone` says.
 abbrev pub IsOpening : {S F : Type 0} → Upkeep S → ℕ → Left → Moment S F → Type 0
 IsOpening u workers gone (opened n store voters place now) = (n ≡ workers) × (u.has_stopped now ≡ false)
 IsOpening u workers gone (unread n store now files) = (n ≡ workers) × (u.has_stopped now ≡ false)
@@ -242,9 +242,9 @@ Opens u d workers gone files ms =
     Either (d.has_stopped files) (Falls u d gone (Closed files) ms) (One u d gone (IsOpening u workers gone) ms)
 
 -- This event makes the moments `ms` in this storage. An Open first closes a store that is open. An event that doesn't
--- fit the storage, such as a purge if no store is open, does nothing; nor does a fault at call 0. If the disk stops in
--- a moment, a crash follows at once. `gone` is what that crash leaves of the unsynced changes, as the last event that
--- armed a stop asks.
+-- fit the storage, such as a purge if no store is open, does nothing. Arming a fault at call 0 does nothing either. If
+-- the disk stops in a moment, or had stopped before, a crash follows at once. `gone` is what that crash leaves of the
+-- unsynced changes, as the last event that armed a stop asks.
 abbrev pub Turns :
     {S F : Type 0} → Upkeep S → Disk S F → Left → Storage S F → Event → List (Moment S F) → Type 0
 Turns u d gone storage (RoundEvent requests) ms = One u d gone (IsRoundOf requests) ms

@@ -14,11 +14,11 @@ abbrev pub cut_from : World → Option Unsettled → CutRound
 cut_from W None = uncut W
 cut_from W (Some u) = record { before = W; requests = u.round.requests; refused = u.round.refused }
 
--- the unsettled round of these notes, with the voters before it; the next open finds voters that are possible after it
+-- the unsettled round of these notes, with the voters of the notes before it; if there is none, no round is cut off
 abbrev pub cut_of : Notes → CutRound
 cut_of n = cut_from (world_of n.voters) n.unsettled
 
--- the unsettled round, and the rounds after it; they wait for the next open
+-- the unsettled round and the rounds after it; all these rounds wait for the next open
 abbrev pub waiting : Option Unsettled → List Round
 waiting None = []
 waiting (Some u) = u.round ∷ u.rounds.items

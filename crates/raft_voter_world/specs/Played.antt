@@ -35,15 +35,15 @@ pub record HasPlayed {S F : Type 0} (v : Service S) (u : Upkeep S) (d : Disk S F
   pub noted : AddTurns old.notes turns new.notes
   pub ready : IsReady v old → IsReady v new
 
--- If the disk of `files` runs, `kept` are `files`. If it has stopped, `kept` are what a crash left of `files`, with
--- what `gone` says of the unsynced changes.
+-- If the disk of `files` runs, `kept` are `files`. If it has stopped, `kept` are what a crash left of `files`. `gone`
+-- says what that crash left of the unsynced changes.
 abbrev pub Stands : {S F : Type 0} → Service S → Disk S F → F → Left → F → Type 0
 Stands v d files gone kept =
     ((d.has_stopped files ≡ false) × (kept ≡ files))
     ⊎ ((d.has_stopped files ≡ true) × Crashes v d (Closed files) gone kept)
 
 -- A run ended in this world, and `report` is its report. The moments `closing` closed a store that was open. If no open
--- read the voters after the last cut-off round, the report has 0 as its cut.
+-- read the voters after the last cut-off round, this round's cut in the report is 0.
 pub record Ended {S F : Type 0} (v : Service S) (u : Upkeep S) (d : Disk S F) (world : World S F) (report : WorldReport F)
     : Type 0 where
   pub closing : List (Moment S F)

@@ -1,5 +1,5 @@
--- What holds for a run, for a reader who checks that there was no CRC collision. To state that condition takes a proof
--- of what the files leave (`leaves`). The reader may choose this proof after each moment.
+-- What holds for a run, for a reader who checks that there was no CRC collision. This condition (`without_chance`) is
+-- stated for a proof of what the files leave (`leaves`). The reader may choose another such proof after each moment.
 use Rattle.std.specs.Prelude.{List, [], ◌∷◌, ◌++◌, IsSome}
 use Rattle.raft_voter.specs.Rounds.{World, fresh_world}
 use Rattle.raft_voter.specs.Service.{CutRound, IsOpenAt, MayFollow, Service, uncut}
@@ -13,9 +13,9 @@ use Rattle.raft_voter_world.specs.History.Moment.{opened, unread, fell, unopened
 use Rattle.raft_voter_world.specs.Run.{EndsWell, IsRun, Knows, moments_of}
 use Rattle.raft_voter_world.specs.Stores.{Disk, Upkeep}
 
--- What holds for these moments, if by the proof `known` an open of `storage` finds only voters that are possible
--- after `cut`. After each moment the same holds for the next storage and cut-off round, and the reader continues with
--- any proof of it. The rest is as in `Goes`: what opens show, `End` at the end, and nothing after a CRC collision.
+-- What holds for these moments, if `known` proves that an open of `storage` finds only voters that are possible after
+-- `cut`. After each moment, the same holds for the next storage and cut-off round, and the reader goes on with any
+-- proof of that. The rest is as in `Goes`: what opens show, `End` at the end, and nothing after a CRC collision.
 abbrev pub GoesBy :
     {S F : Type 0}
     → (v : Service S) (d : Disk S F) → (Storage S F → CutRound → Type 0)

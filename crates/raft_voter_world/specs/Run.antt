@@ -20,8 +20,8 @@ Knows v d (Closed files) cut = d.leaves files cut
 Knows v d (Open store) cut = v.leaves store cut
 
 -- What holds for these moments, if an open of `storage` finds only voters that are possible after `cut`. After each
--- moment this holds for the next storage and cut-off round. Each open shows such voters and finds their position, or
--- leaves such voters in the files if it doesn't read them. `End` is true at the end. After a CRC collision, in files
+-- moment this holds for the next storage and cut-off round. An open that reads voters shows such voters and finds their
+-- position. Any other open leaves such voters in the files. `End` is true at the end. After a CRC collision, in files
 -- that an open reads or a crash leaves, nothing is claimed.
 abbrev pub Goes :
     {S F : Type 0}

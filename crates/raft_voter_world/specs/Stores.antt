@@ -59,16 +59,18 @@ RefusesPurge TooLong before now = ⊥
 
 -- Disks.
 
--- What a disk promises. Files are what is on it while no store is open; a store is one that is open on it:
+-- What a disk promises. Files are what is on the disk while no store is open. A store is one that is open on the disk.
 -- - `leaves`: the next open, even after a crash, finds only voters that are possible after this cut-off round;
--- - `without_chance`: given `leaves` for `files`, the second files have no CRC collision; they are what a crash left of
---   `files`, or `files` themselves;
--- - `leaves_under`: after a crash under this store, an open finds only voters that are possible after this round;
+-- - `without_chance`: given `leaves` for `files`, the last files have no CRC collision; these are `files` themselves,
+--   or what a crash left of `files`;
+-- - `leaves_under`: after a crash while this store is open, an open finds only voters that are possible after this
+--   round;
 -- - `spares`: given `leaves_under`, the files that such a crash left have no CRC collision;
 -- - `opens`: an open by this many workers may return this store;
 -- - `refuses`: such an open may fail for this cause and leave the second files;
 -- - `closes`: a close of this store may leave these files;
--- - `crashes`, `crashes_under`: a crash may leave the second files, of the first files or under this store;
+-- - `crashes`: a crash may turn the first files into the second;
+-- - `crashes_under`: a crash while this store is open may leave these files;
 -- - `forks`: a copy into this directory may change the first files into the second, whether it succeeds or fails;
 -- - `arms`: arming this fault may change the first files into the second;
 -- - `has_stopped`: the disk has stopped.
@@ -94,15 +96,15 @@ FindsVoters v d files store =
     → (W : World) × MayFollow cut W × IsOpenAt v store W
 
 -- A crash, or an open that failed, made the files `left` from `files`. `read` are `left` after a crash, and `files`
--- after an open. Without a CRC collision in `read`, an open of `left` may find only the voters that an open of `files`
--- could find.
+-- after such an open. Without a CRC collision in `read`, an open of `left` may find only the voters that an open of
+-- `files` could find.
 abbrev pub LeavesStanding : {S F : Type 0} → Service S → Disk S F → F → F → F → Type 0
 LeavesStanding v d files read left =
     (cut : CutRound) (known : d.leaves files cut) → d.without_chance files cut known read → d.leaves left cut
 
--- A crash under the open store `store` left the files `left`. Suppose that after a close or a crash of `store`, only
--- voters that are possible after a cut-off round are found. Then `leaves_under` holds for this round. If `left` have no
--- CRC collision (`spares`), an open of `left` finds only such voters.
+-- A crash while `store` was open left the files `left`. Suppose that after a close or a crash of `store`, only voters
+-- that are possible after a cut-off round are found. Then `leaves_under` holds for this round. If `left` have no CRC
+-- collision (`spares`), an open of `left` finds only such voters.
 abbrev pub LeavesUnder : {S F : Type 0} → Service S → Disk S F → S → F → Type 0
 LeavesUnder v d store left =
     (cut : CutRound) → v.leaves store cut

@@ -1,30 +1,26 @@
 -- What a batch of the engine says.
 use Rattle.std.proofs.Common.{◌≡◌, ◌∙◌, ℕ, Bool, true, false, List, [], ◌∷◌, ◌++◌, length, take, drop, map, Some, refl, sym, ap, append-nil}
-use Rattle.std.specs.Prelude.{unwrap_or}
 use Rattle.std.proofs.Math.Seq.{take-append_seam, drop-append_seam}
 use Rattle.std.proofs.lemmas.List.{length-map, map-append}
 use Rattle.std.proofs.lemmas.List.Concat.{flat_map-append}
 use Rattle.raft_log_model_laws.specs.Item.{Item, Tagged}
 use Rattle.raft_log_model_laws.specs.Item.Item.{Run}
-use Rattle.raft_log_model_laws.specs.Item.Record.{Plain}
 use Rattle.raft_log_record_items.specs.declared.command.Command.TheVariants as commands
 use Rattle.raft_log_record_items.specs.declared.entry.EntryIndex.{EntryIndex}
 use Rattle.raft_log_record_items.specs.declared.item.LogItemContent.{LogItemContent}
 use Rattle.raft_log_record_items.specs.declared.item.LogItemContent.TheVariants as contents
 use Rattle.raft_log_record_items.specs.declared.item.LogItem.{LogItem}
 use Rattle.raft_log_record_items.specs.Placed.{laid_run}
-use Rattle.raft_log_record_frames.specs.declared.marking.Marking.{Marking}
 use Rattle.raft_log_record_frames.specs.ItemBatch.{all_entries, content_entries}
 use Rattle.raft_log_record_frames.specs.Marking.{has_mark_key, marking_of_items}
-use Rattle.raft_log_record_frames.specs.Meaning.{IsUsers, marked, meaning, tagged as tagged_by, tagged_items, unless_mark}
-use Rattle.raft_log_record_batches.specs.Batch.{AddsItem, Batch, empty_batch}
+use Rattle.raft_log_record_frames.specs.Meaning.{IsUsers, meaning, tagged as tagged_by, tagged_items, unless_mark}
+use Rattle.raft_log_record_batches.specs.Batch.{AddsItem, Batch}
 use Rattle.raft_log_record_batches.specs.Entries.{entries_item, entries_of}
 use Rattle.raft_log_record_batches.specs.EntriesFrom.{AddsFrom, indexes_at}
 use Rattle.raft_log_record_batches.specs.Places.{AddsBytes, entry_bytes}
-use Rattle.raft_log_engine.specs.raft_log_engine_laws.specs.EngineState.{said_of}
 use Rattle.raft_log_judge.specs.declared.change.Change.{Change}
 use Rattle.raft_log_judge.specs.declared.change.ChangeKind.TheVariants.{Entries}
-use Rattle.raft_log_judge.specs.Changes.{says_of, tagged}
+use Rattle.raft_log_judge.specs.Changes.{tagged}
 use Rattle.raftlog.specs.Batches.{AddsChange, HasChanges}
 use Rattle.raftlog.proofs.Marks.{no_mark_key, stays_plain}
 
@@ -76,14 +72,6 @@ items_same f g (x ∷ xs) h =
     ∙ ap (λ (l : List (Tagged (List ℕ) (List ℕ))). unless_mark (has_mark_key x) (tagged_by g x) l) (items_same f g xs both.1)
 
 -- Batches.
-
-pub empty_says : (capacity buffer : ℕ) → HasChanges (empty_batch capacity buffer) []
-empty_says capacity buffer = record { filling = refl; plain = refl; says = refl }
-
-pub said : (b : Batch) (changes : List Change) → HasChanges b changes → said_of b ≡ says_of changes
-said b changes has =
-    ap (λ (m : Marking). unwrap_or (marked m (tagged_items (entry_bytes b.entries) b.items)) (Plain [])) has.plain
-    ∙ ap (λ (l : List (Tagged (List ℕ) (List ℕ))). Plain l) has.says
 
 -- the items of a batch with one more that has the meaning of a change
 one_more : (old new : Batch) (item : LogItem) (change : Change) (changes : List Change) → IsUsers item.content → new.items ≡ old.items ++ item ∷ [] → new.state ≡ old.state

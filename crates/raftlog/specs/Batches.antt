@@ -9,7 +9,7 @@ use Rattle.raft_log_record_batches.specs.Places.{entry_bytes}
 use Rattle.raft_log_judge.specs.declared.change.Change.{Change}
 use Rattle.raft_log_judge.specs.Changes.{tagged}
 
--- the batch is being filled, has no mark, and makes these changes
+-- the batch is being filled, has no mark of an atomic group, and makes these changes
 pub record HasChanges (b : Batch) (changes : List Change) : Type 0 where
   pub filling : b.state ≡ Filling
   pub plain : marking_of_items b.items ≡ Unmarked

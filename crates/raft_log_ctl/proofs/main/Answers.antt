@@ -1,7 +1,7 @@
 use denote.Param.Send.{sendable}
 use Rattle.std.proofs.Crossing.{crosses}
 use Rattle.std.proofs.MapsCrossing.{crosses as maps_cross}
-use Rattle.raft_log_fs_os.proofs.Sharing.{device_sync, kinds_sync}
+use Rattle.raft_log_fs_os.proofs.Public.{device_sync, kinds_sync}
 use Rattle.raft_log_ctl.proofs.main.Goals as goal
 
 -- the file system over real directories may be lent to threads

@@ -9,6 +9,7 @@ ghost use Rattle.raft_log_purge.specs.Append.{RewritesAppend};
 ghost use Rattle.raft_log_purge.specs.Counted.{CountsAndResets, PurgesAndCounts};
 ghost use Rattle.raft_log_purge.specs.Counting.{CountsTwice};
 ghost use Rattle.raft_log_purge.specs.ExpiredFiles.{SyncsAndRewrites};
+ghost use Rattle.raft_log_purge_steps.specs.Steps.{PurgesStep, StopsStep};
 ghost use Rattle.raft_log_engine_core.specs.ModelCalls.{FollowsModel, ModelPurges};
 ghost use Rattle.raft_log_engine_core.specs.Purging.{
   MayCountStanding,
@@ -26,6 +27,7 @@ use log::Log;
 use raft_log_dual_pipes::PipeLog;
 use raft_log_purge::raft_log_purge_copy::purge_all_stale;
 use raft_log_purge::{purge_and_count, rewrite_and_count, rewrite_append_and_count};
+use raft_log_purge_steps::{PurgeStep, purge_some};
 use raft_log_record_base::{Error, FileSeq, Result};
 
 impl<P: PipeLog> LogEngine<P> {
@@ -69,6 +71,41 @@ impl<P: PipeLog> LogEngine<P> {
             &mut self.tables,
             &mut self.cache,
             &mut self.counts,
+        )
+    }
+
+    /// Does one step of a purge of expired files, so that a caller needn't wait for a whole one. Repeat it while its
+    /// result says that `more` may be due. A step copies groups until it has copied as many bytes as the budget, but at
+    /// least one group; it may begin or end a compaction of Rewrite instead. An open forgets a compaction that was
+    /// under way. The log keeps its contents, and nothing is pending.
+    ///
+    /// Fails as `purge_expired_files` does. Then the log keeps its contents, and the same compaction is under way.
+    pub fn purge_some<L: Log>(&mut self, rt: &L, budget: u64) -> Result<PurgeStep>
+        ensures model { FollowsModel ModelPurges result (shows_of P.shown self.old) (shows_of P.shown self.new) }
+        ensures ok { IfOk result (λ step. PurgesStep (PipesHoldBack P.shown P.holds_back Append)
+            self.old.thresholds budget self.old.compacting self.new.compacting self.old.tables self.new.tables
+            self.old.counts self.new.counts step (shows_of P.shown self.old) (shows_of P.shown self.new)) }
+        ensures lived { OnOk result (Lives (shows_of P.shown self.old)) }
+        ensures err { IfErr result (StopsPurgingExpired
+            (shows_of P.shown self.old) (shows_of P.shown self.new)) }
+        ensures kept { OnErr result (StopsStep self.old.thresholds budget self.old.compacting self.new.compacting
+            self.old.tables self.old.counts self.new.counts (shows_of P.shown self.old) (shows_of P.shown self.new)) }
+        ensures sizes { self.new.thresholds ≡ self.old.thresholds }
+        ensures owes { OweNoMore (shows_of P.shown self.old).tables (shows_of P.shown self.new).tables }
+    {
+        if self.is_failed() {
+            return Err(Error::Failed);
+        }
+        purge_some(
+            self.alloc,
+            rt,
+            &self.thresholds,
+            &mut self.pipes,
+            &mut self.tables,
+            &mut self.cache,
+            &mut self.counts,
+            &mut self.compacting,
+            budget,
         )
     }
 

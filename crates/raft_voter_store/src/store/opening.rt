@@ -4,12 +4,15 @@ ghost use Rattle.raft_log_engine.specs.raft_log_engine_core.specs.Reads.{shows_o
 ghost use Rattle.raft_log_engine.specs.raft_log_engine_laws.specs.Fetching.{StaysButBlock};
 ghost use Rattle.raft_voter_outline.specs.Kept.{outlines_in};
 ghost use Rattle.raft_voter_recovery.specs.Reading.{IsUnreadFor, ListsVoters};
+ghost use Rattle.raft_voter_store.specs.Counting.{no_work};
 ghost use Rattle.raft_voter_store.specs.Opening.{FailsToOpenVoters, OpensVoters};
 
 use super::LogVoterStore;
+use crate::counters::WorkCounters;
 use log::Log;
 use raft_log_engine::{
-    Config, EnginePipes, EventListener, FileSystem, LogEngine, Nobody, PipeLog, ReplayThreads,
+    Config, EnginePipes, Error, EventListener, FileSystem, LogEngine, Nobody, PipeLog,
+    ReplayThreads,
 };
 use raft_voter::Voter;
 use raft_voter_recovery::{Unread, read_outlines, read_voters};
@@ -49,6 +52,7 @@ impl<F: FileSystem + Sync, E: EventListener> LogVoterStore<EnginePipes<F, E>> {
     ) -> Result<Self, StoreRefused<F>>
         ensures ok { IfOk result (λ store. OpensVoters F.disk F.tells_space config file_system
             (shows_of ⟦<EnginePipes<F, E> as PipeLog>⟧.shown store.engine) (outlines_in store.outlines)) }
+        ensures work { IfOk result (λ store. store.work ≡ no_work) }
         ensures err { IfErr result (λ refused. FailsToOpenVoters F.disk F.tells_space config refused.cause
             file_system refused.file_system) }
     {
@@ -75,6 +79,7 @@ impl<F: FileSystem + Sync, E: EventListener> LogVoterStore<EnginePipes<F, E>> {
     ) -> Result<Self, StoreRefused<F>>
         ensures ok { IfOk result (λ store. OpensVoters F.disk F.tells_space config file_system
             (shows_of ⟦<EnginePipes<F, E> as PipeLog>⟧.shown store.engine) (outlines_in store.outlines)) }
+        ensures work { IfOk result (λ store. store.work ≡ no_work) }
         ensures err { IfErr result (λ refused. FailsToOpenVoters F.disk F.tells_space config refused.cause
             file_system refused.file_system) }
     {
@@ -101,6 +106,7 @@ impl<F: FileSystem + Sync, E: EventListener> LogVoterStore<EnginePipes<F, E>> {
     ) -> Result<Self, StoreRefused<F>>
         ensures ok { IfOk result (λ store. OpensVoters F.disk F.tells_space config file_system
             (shows_of ⟦<EnginePipes<F, E> as PipeLog>⟧.shown store.engine) (outlines_in store.outlines)) }
+        ensures work { IfOk result (λ store. store.work ≡ no_work) }
         ensures err { IfErr result (λ refused. FailsToOpenVoters F.disk F.tells_space config refused.cause
             file_system refused.file_system) }
     {
@@ -126,6 +132,7 @@ impl<F: FileSystem + Sync, E: EventListener> LogVoterStore<EnginePipes<F, E>> {
                 engine,
                 outlines,
                 batch: None,
+                work: WorkCounters::new(),
             }),
             Err(cause) => {
                 let file_system = engine.close(rt).files;
@@ -136,16 +143,32 @@ impl<F: FileSystem + Sync, E: EventListener> LogVoterStore<EnginePipes<F, E>> {
 }
 
 impl<P: PipeLog> LogVoterStore<P> {
-    /// The stored voters, each with its group, sorted by group. Reads their entries from the log. Fails with `Engine`
-    /// if the engine has failed or an entry isn't read, with `Foreign`, or with `Memory`. Nothing changes except the
-    /// block that the engine caches.
+    ghost use Rattle.std.specs.Prelude.{true, Err};
+    ghost use Rattle.raft_log_record_base.specs.declared.errors.Error.TheVariants as errors;
+    ghost use Rattle.raft_log_engine.specs.raft_log_engine_laws.specs.EngineState.{has_failed};
+    ghost use Rattle.raft_voter_recovery.specs.declared.unread.Unread.TheVariants as unread;
+
+    /// The stored voters, each with its group, sorted by group. Reads their entries from the log. Nothing changes
+    /// except the block that the engine caches.
+    ///
+    /// # Errors
+    /// - `Engine` with `Failed` if the engine has failed. Then nothing is read.
+    /// - `Engine` with another error if an entry isn't read.
+    /// - `Foreign` with a group whose contents aren't a voter.
+    /// - `Memory`.
     pub fn voters(&mut self) -> Result<Vec<(u64, Voter)>, Unread>
         ensures ok { IfOk result (λ voters. ListsVoters (shows_of P.shown self.old.engine) voters.items) }
         ensures err { IfErr result (λ cause. IsUnreadFor cause (shows_of P.shown self.old.engine)) }
+        ensures failed { has_failed (shows_of P.shown self.old.engine) ≡ true
+            → result ≡ Err (unread.Engine errors.Failed) }
         ensures stays { StaysButBlock
             (shows_of P.shown self.old.engine) (shows_of P.shown self.new.engine) }
         ensures outlines { self.new.outlines ≡ self.old.outlines }
+        ensures work { self.new.work ≡ self.old.work }
     {
+        if self.engine.is_failed() {
+            return Err(Unread::Engine(Error::Failed));
+        }
         read_voters(self.alloc, &mut self.engine)
     }
 }

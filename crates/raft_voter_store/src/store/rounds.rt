@@ -1,5 +1,5 @@
 //! Serves rounds of requests.
-ghost use Rattle.std.specs.Prelude.{◌≡◌, ◌+◌, ◌<◌, ◌≤◌, ◌++◌, ◌∷◌, [], false, length, All, vec_capacity, vec_len, IfErr, IfOk, OnOk};
+ghost use Rattle.std.specs.Prelude.{◌≡◌, ◌+◌, ◌<◌, ◌≤◌, ◌++◌, ◌∷◌, [], false, length, All, vec_capacity, vec_len, IfErr, IfOk, OnErr, OnOk};
 ghost use Rattle.raft_log_engine.specs.raft_log_engine_core.specs.Reads.{shows_of};
 ghost use Rattle.raft_voter.specs.Service.{refused_from};
 
@@ -15,6 +15,7 @@ impl<P: PipeLog> LogVoterStore<P> {
     ghost use Rattle.raft_voter.specs.Service.{FailsAs, IsAlive, TakesNothing};
     ghost use Rattle.raft_voter_outline.specs.Kept.{outlines_in};
     ghost use Rattle.raft_voter_durability_laws.specs.Requests.{Broke};
+    ghost use Rattle.raft_voter_store.specs.Counting.{after_fault, with_round, CountsRound};
     ghost use Rattle.raft_voter_store.specs.Rounds.{AreExcused, CutsRoundOff, GoesOn, Passes, RoundIsAnswered, StopsAt};
     ghost use Rattle.raft_voter_store.specs.Silence.{AsksForNone, IfVoterStays, IfVotersStay, ReadsAlone};
 
@@ -48,14 +49,25 @@ impl<P: PipeLog> LogVoterStore<P> {
         ensures errors { IfErr result (λ fault. FailsAs fault.cause (length requests.now)
             (has_failed (shows_of P.shown self.old.engine)) (has_failed (shows_of P.shown self.new.engine))) }
 
+        // A round with replies is counted, and its sync if it wrote a record. A round that was cut off in its midst is
+        // counted without a sync.
+        ensures counted { IfOk result (λ told. CountsRound requests.now told
+            (shows_of P.shown self.old.engine) (shows_of P.shown self.new.engine)
+            (outlines_in self.old.outlines) (outlines_in self.new.outlines) self.old.work self.new.work) }
+        ensures faults { IfErr result (λ fault. self.new.work
+            ≡ after_fault fault.cause self.old.work (length requests.now)) }
+
         // A round that changes no voter only reads: it writes and syncs no file. So the files, what is pending in them
         // and the failures that were counted are unchanged. If it also requests no entries, it leaves the whole store
-        // unchanged, with its file system.
+        // unchanged, with its file system, except that it counts the round and its requests.
         ensures quiet { IfVotersStay (outlines_in self.old.outlines) requests.now
             (ReadsAlone (shows_of P.shown self.old.engine) (shows_of P.shown self.new.engine)
             self.old.outlines self.new.outlines) }
-        ensures idle { All AsksForNone requests.now
-            → IfVotersStay (outlines_in self.old.outlines) requests.now (self.new ≡ self.old) }
+        ensures idle { OnOk result (All AsksForNone requests.now
+            → IfVotersStay (outlines_in self.old.outlines) requests.now
+            (self.new ≡ record self.old { work = with_round self.old.work (length requests.now) false })) }
+        ensures unmoved { OnErr result (All AsksForNone requests.now
+            → IfVotersStay (outlines_in self.old.outlines) requests.now (self.new ≡ self.old)) }
     {
         if requests.len() > MAX_ROUND_REQUESTS {
             return Err(RoundFault::new(self.alloc, Cause::TooLong));
@@ -69,14 +81,18 @@ impl<P: PipeLog> LogVoterStore<P> {
         let Ok(places) = Vec::with_capacity(self.alloc, requests.len()) else {
             return Err(RoundFault::new(self.alloc, Cause::Memory));
         };
+        let before = self.work;
         let Some(wrote) = self.take_all(rt, requests, &mut replies) else {
+            self.work = before.with_round(requests.len(), false);
             return Err(cut_off(replies.as_slice(), places));
         };
         if wrote {
             let Ok(()) = self.engine.sync(rt) else {
+                self.work = before.with_round(requests.len(), false);
                 return Err(cut_off(replies.as_slice(), places));
             };
         }
+        self.work = before.with_round(requests.len(), wrote);
         Ok(Items::from_vec(replies))
     }
 

@@ -6,13 +6,14 @@ ghost use Rattle.raft_log_dual_pipes.specs.HoldingBack.{PipesHoldBack};
 ghost use Rattle.raft_log_purge.specs.Append.{RewritesAppend};
 ghost use Rattle.raft_log_purge.specs.Counted.{PurgesAndCounts};
 ghost use Rattle.raft_log_purge.specs.ExpiredFiles.{SyncsAndRewrites};
+ghost use Rattle.raft_log_purge_steps.specs.Steps.{PurgesStep};
 ghost use Rattle.raft_log_engine.specs.raft_log_engine_core.specs.Purging.{StopsPurgingExpired, StopsRewritingAppend};
 ghost use Rattle.raft_log_engine.specs.raft_log_engine_core.specs.Reads.{shows_of, IsFailed, Lives};
 ghost use Rattle.raft_log_engine.specs.raft_log_engine_core.specs.Whole.{ArmsEngine, TellsSpan};
 
 use super::LogVoterStore;
 use log::Log;
-use raft_log_engine::{Closed, Fault, FileSeq, LogQueue, PipeLog, Result};
+use raft_log_engine::{Closed, Fault, FileSeq, LogQueue, PipeLog, PurgeStep, Result};
 
 impl<P: PipeLog> LogVoterStore<P> {
     ghost use Rattle.raft_log_engine.specs.raft_log_fs.specs.Causes.{IsLater};
@@ -20,6 +21,7 @@ impl<P: PipeLog> LogVoterStore<P> {
     ghost use Rattle.raft_log_engine.specs.raft_log_dual_pipes.specs.Calls.{ArmsNoPipes};
     ghost use Rattle.raft_log_engine.specs.raft_log_dual_pipes.specs.ClosingCalls.{ClosesAs, ClosesLog, ClosesSettled};
     ghost use Rattle.raft_voter_durability_laws.specs.raft_log_engine_laws.specs.Syncing.{NotSynced, SyncsAppend};
+    ghost use Rattle.raft_voter_store.specs.Counting.{after_purge, after_step, after_sync};
     ghost use Rattle.raft_voter_store.specs.Upkeep.{KeepsOrLeavesVoters, KeepsVoters};
 
     /// Whether the engine has failed: then no round is served until the log is opened again.
@@ -37,8 +39,15 @@ impl<P: PipeLog> LogVoterStore<P> {
         ensures err { IfErr result (λ error. NotSynced error
             (shows_of P.shown self.old.engine) (shows_of P.shown self.new.engine)) }
         ensures outlines { self.new.outlines ≡ self.old.outlines }
+        ensures work { self.new.work ≡ after_sync result self.old.work }
     {
-        self.engine.sync(rt)
+        match self.engine.sync(rt) {
+            Ok(()) => {
+                self.work = self.work.with_sync();
+                Ok(())
+            }
+            Err(error) => Err(error),
+        }
     }
 
     /// The file system.
@@ -68,6 +77,7 @@ impl<P: PipeLog> LogVoterStore<P> {
         ensures armed { OnOk result (P.arms_files fault.now
             (P.files self.old.engine.pipes) (P.files self.new.engine.pipes)) }
         ensures outlines { self.new.outlines ≡ self.old.outlines }
+        ensures work { self.new.work ≡ self.old.work }
         ensures cause { IfErr result (ArmsNoPipes (P.shown self.old.engine.pipes)) }
     {
         self.engine.arm(fault)
@@ -88,9 +98,43 @@ impl<P: PipeLog> LogVoterStore<P> {
             (shows_of P.shown self.old.engine) (shows_of P.shown self.new.engine)) }
         ensures err { IfErr result (λ error. KeepsOrLeavesVoters error
             (shows_of P.shown self.old.engine) (shows_of P.shown self.new.engine)) }
-        ensures outlines { self.new.outlines ≡ self.old.outlines }
+        ensures others { (self.new.outlines ≡ self.old.outlines)
+            × (self.new.work ≡ after_purge result self.old.work) }
     {
-        self.engine.purge_expired_files(rt)
+        match self.engine.purge_expired_files(rt) {
+            Ok(groups) => {
+                self.work = self.work.with_purge();
+                Ok(groups)
+            }
+            Err(error) => Err(error),
+        }
+    }
+
+    /// Does one step of what `maintain` does, so that a node can serve rounds between two steps. Copies groups until it
+    /// has copied as many bytes as the budget, but at least one group. Repeat it while its result says that `more` may
+    /// be due. No stored voter changes; see `maintain` if the engine fails.
+    pub fn purge_some<R: Log>(&mut self, rt: &R, budget: u64) -> Result<PurgeStep>
+        ensures ok { OnOk result (KeepsVoters
+            (shows_of P.shown self.old.engine) (shows_of P.shown self.new.engine)) }
+        ensures purges { IfOk result (λ step. PurgesStep (PipesHoldBack P.shown P.holds_back Append)
+            self.old.engine.thresholds budget self.old.engine.compacting self.new.engine.compacting
+            self.old.engine.tables self.new.engine.tables self.old.engine.counts self.new.engine.counts step
+            (shows_of P.shown self.old.engine) (shows_of P.shown self.new.engine)) }
+        ensures lived { OnOk result (Lives (shows_of P.shown self.old.engine)) }
+        ensures why { IfErr result (StopsPurgingExpired
+            (shows_of P.shown self.old.engine) (shows_of P.shown self.new.engine)) }
+        ensures err { IfErr result (λ error. KeepsOrLeavesVoters error
+            (shows_of P.shown self.old.engine) (shows_of P.shown self.new.engine)) }
+        ensures others { (self.new.outlines ≡ self.old.outlines)
+            × (self.new.work ≡ after_step result self.old.work) }
+    {
+        match self.engine.purge_some(rt, budget) {
+            Ok(step) => {
+                self.work = self.work.with_step(step.more);
+                Ok(step)
+            }
+            Err(error) => Err(error),
+        }
     }
 
     /// Rewrites Append up to a file, the watermark, or up to its last one. With `exit_after_step` it ends after the
@@ -110,10 +154,19 @@ impl<P: PipeLog> LogVoterStore<P> {
             (shows_of P.shown self.old.engine) (shows_of P.shown self.new.engine)) }
         ensures err { IfErr result (λ error. KeepsOrLeavesVoters error
             (shows_of P.shown self.old.engine) (shows_of P.shown self.new.engine)) }
-        ensures outlines { self.new.outlines ≡ self.old.outlines }
+        ensures others { (self.new.outlines ≡ self.old.outlines)
+            × (self.new.work ≡ after_purge result self.old.work) }
     {
-        self.engine
+        match self
+            .engine
             .must_rewrite_append_queue(rt, watermark, exit_after_step)
+        {
+            Ok(()) => {
+                self.work = self.work.with_purge();
+                Ok(())
+            }
+            Err(error) => Err(error),
+        }
     }
 
     /// Compacts Rewrite, whatever its size is. No stored voter changes; see `maintain` if the engine fails.
@@ -127,9 +180,16 @@ impl<P: PipeLog> LogVoterStore<P> {
             (shows_of P.shown self.old.engine) (shows_of P.shown self.new.engine)) }
         ensures err { IfErr result (λ error. KeepsOrLeavesVoters error
             (shows_of P.shown self.old.engine) (shows_of P.shown self.new.engine)) }
-        ensures outlines { self.new.outlines ≡ self.old.outlines }
+        ensures others { (self.new.outlines ≡ self.old.outlines)
+            × (self.new.work ≡ after_purge result self.old.work) }
     {
-        self.engine.must_rewrite_rewrite_queue(rt)
+        match self.engine.must_rewrite_rewrite_queue(rt) {
+            Ok(()) => {
+                self.work = self.work.with_purge();
+                Ok(())
+            }
+            Err(error) => Err(error),
+        }
     }
 
     /// Closes the log, and returns the file system in any case.
@@ -154,6 +214,7 @@ impl<P: PipeLog> LogVoterStore<P> {
             engine,
             outlines: _outlines,
             batch: _batch,
+            work: _work,
         } = self;
         engine.close(rt)
     }

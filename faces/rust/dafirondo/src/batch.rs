@@ -25,6 +25,8 @@ pub enum Command {
 #[derive(Clone, Debug, Default, PartialEq, Eq)]
 pub struct LogBatch {
     pub(crate) bytes: Vec<u8>,
+    // The groups of the items, in order; a group isn't repeated while the items are of the same one.
+    pub(crate) groups: Vec<u64>,
 }
 
 impl LogBatch {
@@ -32,6 +34,7 @@ impl LogBatch {
     pub fn with_capacity(capacity: usize) -> LogBatch {
         LogBatch {
             bytes: Vec::with_capacity(capacity),
+            groups: Vec::new(),
         }
     }
 
@@ -48,11 +51,14 @@ impl LogBatch {
     /// Empties the batch.
     pub fn clear(&mut self) {
         self.bytes.clear();
+        self.groups.clear();
     }
 
     /// Adds all of another batch, which is empty afterwards.
     pub fn merge(&mut self, other: &mut LogBatch) -> Result<()> {
         self.bytes.append(&mut other.bytes);
+        self.groups.append(&mut other.groups);
+        self.groups.dedup();
         Ok(())
     }
 
@@ -120,6 +126,9 @@ impl LogBatch {
     fn begin(&mut self, kind: u8, region_id: u64) {
         self.bytes.push(kind);
         self.bytes.extend_from_slice(&region_id.to_le_bytes());
+        if self.groups.last() != Some(&region_id) {
+            self.groups.push(region_id);
+        }
     }
 
     /// Adds a run of entries. If it fails, the batch is as it was.
@@ -127,7 +136,7 @@ impl LogBatch {
         let Ok(count) = u32::try_from(entries.len()) else {
             return Err(Error::Full);
         };
-        let start = self.bytes.len();
+        let (start, groups) = (self.bytes.len(), self.groups.len());
         self.begin(ENTRIES, region_id);
         self.bytes.extend_from_slice(&first.to_le_bytes());
         self.bytes.extend_from_slice(&count.to_le_bytes());
@@ -139,6 +148,7 @@ impl LogBatch {
                 Ok(len) => self.bytes[at..at + 4].copy_from_slice(&len),
                 Err(error) => {
                     self.bytes.truncate(start);
+                    self.groups.truncate(groups);
                     return Err(error);
                 }
             }
@@ -184,6 +194,21 @@ mod tests {
             &[5, 9, 0, 0, 0, 0, 0, 0, 0],
         ];
         assert_eq!(batch.bytes, wanted.concat());
+        assert_eq!(batch.groups, [7, 8, 9]);
+    }
+
+    #[test]
+    fn merged_batches_equal_one() {
+        let (mut one, mut first, mut second) = (LogBatch::default(), LogBatch::default(), LogBatch::default());
+        for batch in [&mut one, &mut first] {
+            batch.put(7, vec![1], vec![2]).unwrap();
+        }
+        for batch in [&mut one, &mut second] {
+            batch.delete(7, vec![1]);
+            batch.add_command(8, Command::Clean);
+        }
+        first.merge(&mut second).unwrap();
+        assert_eq!((first, second), (one, LogBatch::default()));
     }
 
     #[test]

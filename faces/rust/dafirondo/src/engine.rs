@@ -53,8 +53,9 @@ impl Engine {
         &self.path
     }
 
-    /// Writes a batch as one record, empties the batch, and returns the record's length. With `sync`, makes this record
-    /// and all earlier ones durable. If it fails, the batch keeps its items; with `Failed` it may be in the log or not.
+    /// Writes a batch as one record, empties the batch, and returns the record's length. Batches of other threads may be
+    /// in the same record, if they touch other groups. With `sync`, makes this record and all earlier ones durable. If it
+    /// fails, the batch keeps its items; with `Failed` it may be in the log or not.
     pub fn write(&self, log_batch: &mut LogBatch, sync: bool) -> Result<usize> {
         if log_batch.is_empty() {
             if sync {
@@ -62,9 +63,9 @@ impl Engine {
             }
             return Ok(0);
         }
-        let bytes = std::mem::take(&mut log_batch.bytes);
-        let (bytes, written) = self.writers.write(bytes, sync, || self.lock());
-        log_batch.bytes = bytes;
+        let batch = std::mem::take(log_batch);
+        let (batch, written) = self.writers.write(batch, sync, || self.lock());
+        *log_batch = batch;
         let len = written?;
         log_batch.clear();
         Ok(len)
@@ -83,6 +84,12 @@ impl Engine {
     /// Purges what is past the thresholds in the settings. Returns the groups that the caller should compact.
     pub fn purge_expired_files(&self) -> Result<Vec<u64>> {
         self.lock().purge()
+    }
+
+    /// Does one step of a purge, which copies groups until it has copied `budget` bytes, but at least one group. Returns
+    /// the groups that the caller should compact, and whether more may be due. raft-engine has no such call.
+    pub fn purge_some(&self, budget: u64) -> Result<(Vec<u64>, bool)> {
+        self.lock().purge_some(budget)
     }
 
     /// Compacts the rewrite queue, whatever its size is.

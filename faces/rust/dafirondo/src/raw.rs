@@ -33,6 +33,14 @@ extern "C" {
     fn dafirondo_sync(log: *mut Dafirondo) -> i32;
     fn dafirondo_compact_to(log: *mut Dafirondo, group: u64, index: u64, dropped: *mut u64) -> i32;
     fn dafirondo_purge(log: *mut Dafirondo, groups: *mut u64, len: usize, needed: *mut usize) -> i32;
+    fn dafirondo_purge_some(
+        log: *mut Dafirondo,
+        budget: u64,
+        groups: *mut u64,
+        len: usize,
+        needed: *mut usize,
+        more: *mut u64,
+    ) -> i32;
     fn dafirondo_must_rewrite_rewrite_queue(log: *mut Dafirondo) -> i32;
     fn dafirondo_must_rewrite_append_queue(
         log: *mut Dafirondo,
@@ -215,6 +223,19 @@ impl Handle {
         };
         self.done(status)?;
         Ok(self.groups[..needed].to_vec())
+    }
+
+    /// Does one step of a purge. Returns the groups that should be compacted, and whether more may be due. There is room
+    /// for all groups beforehand, since a step isn't done twice.
+    pub fn purge_some(&mut self, budget: u64) -> Result<(Vec<u64>, bool)> {
+        self.groups()?;
+        let (mut needed, mut more) = (0, 0);
+        let status = unsafe {
+            let (groups, len) = (self.groups.as_mut_ptr(), self.groups.len());
+            dafirondo_purge_some(&mut self.log, budget, groups, len, &mut needed, &mut more)
+        };
+        self.done(status)?;
+        Ok((self.groups[..needed].to_vec(), more == 1))
     }
 
     /// Compacts the rewrite queue, whatever its size is.

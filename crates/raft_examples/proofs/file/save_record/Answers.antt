@@ -1,6 +1,6 @@
 use Rattle.std.proofs.Common.{◌++◌}
 use Rattle.std.proofs.lemmas.Result.{on_ok_weaker, on_err_weaker, err_from_is_err_and}
-use Rattle.raft_log_fs.proofs.CauseLaws.{fails_after}
+use Rattle.raft_log_fs.proofs.Public.{fails_after}
 use Rattle.raft_examples.proofs.file.save_record.Goals as goal
 
 pub returns-clause-ok : goal.returns-clause-ok

@@ -1,6 +1,6 @@
 use Rattle.std.proofs.Common.{ℕ, List, ◌++◌, take, sym, ap, ◌∙◌}
 use Rattle.std.proofs.lemmas.List.{take-append-drop}
-use Rattle.raft_log_record_frames.proofs.Fronts.{record_is_read}
+use Rattle.raft_log_record_frames.proofs.Public.{record_is_read}
 use Rattle.raft_examples.proofs.frames.behind_record.Goals as goal
 
 pub split_at-requires : goal.split_at-requires

@@ -1,6 +1,6 @@
 use Rattle.std.proofs.Common.{refl}
 use Rattle.raft_log_fs.specs.Disk.{at_rest}
-use Rattle.raft_log_fs.proofs.ImageLaws.{synced_file_has_one_image}
+use Rattle.raft_log_fs.proofs.Public.{synced_file_has_one_image}
 use Rattle.raft_examples.proofs.Saving.{saved}
 use Rattle.raft_examples.proofs.log_disk.save.Goals as goal
 

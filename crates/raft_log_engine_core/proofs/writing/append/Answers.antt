@@ -10,7 +10,7 @@ use Rattle.raft_log_purge.specs.raft_log_engine_laws.specs.Writing.{Writes}
 use Rattle.raft_log_engine_core.specs.Touching.{PipeRefuses, PipeTakes, WritesRecord}
 use Rattle.raft_log_dual_pipes.specs.Telling.{files_begun}
 use Rattle.raft_log_dual_pipes.specs.Telling.Told.{RecordApplied, RecordWritten}
-use Rattle.raft_log_dual_pipes.proofs.Telling.{hears_after}
+use Rattle.raft_log_dual_pipes.proofs.Public.{hears_after}
 use Rattle.raft_log_record_base.specs.declared.pipe_log.LogQueue.TheVariants.{Append}
 use Rattle.raft_log_engine_core.specs.Hearing.{HearsRecord}
 use Rattle.raft_log_engine_core.proofs.Hearing.{goes_into_last}

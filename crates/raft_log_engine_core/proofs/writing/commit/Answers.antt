@@ -6,7 +6,7 @@ use Rattle.raft_log_record_items.specs.Placed.{written_item}
 use Rattle.raft_log_record_frames.specs.Meaning.{tagged_items}
 use Rattle.raft_log_record_batches.specs.Batch.{Batch, block_place, emptied}
 use Rattle.raft_log_memtables.specs.Batch.{IsReadyFor}
-use Rattle.raft_log_memtables.proofs.Applied.{ready_written}
+use Rattle.raft_log_memtables.proofs.Public.{ready_written}
 use Rattle.raft_log_engine_core.proofs.Put.{on_ok}
 use Rattle.raft_log_engine_core.proofs.writing.commit.Goals as goal
 

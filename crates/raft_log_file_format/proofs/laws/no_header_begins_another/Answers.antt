@@ -1,4 +1,4 @@
-use Rattle.raft_log_record_base.proofs.Grammar.{prefix_free}
+use Rattle.raft_log_record_base.proofs.Public.{prefix_free}
 use Rattle.raft_log_file_format.proofs.Headers.{is_header}
 use Rattle.raft_log_file_format.proofs.laws.no_header_begins_another.Goals as goal
 

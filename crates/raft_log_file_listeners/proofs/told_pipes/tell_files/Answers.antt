@@ -2,7 +2,7 @@ use Rattle.std.proofs.Common.{arith, subst}
 use Rattle.raft_log_dual_pipes.specs.LastFile.{last_of}
 use Rattle.raft_log_dual_pipes.specs.Pipes.{files_of, which_of}
 use Rattle.raft_log_dual_pipes.specs.State.{pipe_at}
-use Rattle.raft_log_dual_pipes.proofs.Telling.{a_file, hears_all}
+use Rattle.raft_log_dual_pipes.proofs.Public.{a_file, hears_all}
 use Rattle.raft_log_file_listeners.proofs.Tellings.{hears_begun}
 use Rattle.raft_log_file_listeners.proofs.told_pipes.tell_files.Goals as goal
 

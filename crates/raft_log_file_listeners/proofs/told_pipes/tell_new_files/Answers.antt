@@ -1,5 +1,5 @@
 use Rattle.std.proofs.Common.{◌+◌, refl, arith}
-use Rattle.raft_log_dual_pipes.proofs.Telling.{hears_all, hears_more}
+use Rattle.raft_log_dual_pipes.proofs.Public.{hears_all, hears_more}
 use Rattle.raft_log_file_listeners.proofs.Tellings.{hears_begun}
 use Rattle.raft_log_file_listeners.proofs.told_pipes.tell_new_files.Goals as goal
 

@@ -1,4 +1,4 @@
-use Rattle.raft_log_fs.proofs.CauseLaws.{later_then}
+use Rattle.raft_log_fs.proofs.Public.{later_then}
 use Rattle.std.proofs.Common.{reverse}
 use Rattle.raft_log_file_pipe.proofs.SettingAside.{reserves_step, held_step, held_done}
 use Rattle.raft_log_file_pipe.proofs.closing.reserve_files.Goals as goal

@@ -1,6 +1,5 @@
 use Rattle.raft_log_active_file.specs.Layout.{path_of}
-use Rattle.raft_log_active_file.proofs.Rotating.{open_left}
-use Rattle.raft_log_active_file.proofs.Keeping.{files_are_kept, files_restart}
+use Rattle.raft_log_active_file.proofs.Public.{files_are_kept, files_restart, open_left}
 use Rattle.raft_log_file_pipe.specs.Laws.{PipesAreKept}
 use Rattle.raft_log_file_pipe.proofs.laws.pipes_are_kept.Goals as goal
 

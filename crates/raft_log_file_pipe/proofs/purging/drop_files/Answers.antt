@@ -1,7 +1,7 @@
 use Rattle.std.specs.String.{string_bytes}
 use Rattle.std.proofs.Common.{rules, ◌≡◌, ℕ, ◌+◌, ◌<◌, suc, List, [], ◌∷◌, ◌++◌, length, map, drop, take, sym, subst, arith}
 use Rattle.std.proofs.lemmas.List.{length-map, take_all}
-use Rattle.raft_log_fs.proofs.CauseLaws.{later_then}
+use Rattle.raft_log_fs.proofs.Public.{later_then}
 use Rattle.raft_log_file_pipe.specs.Calls.{DropsBy, DropsUntil}
 use Rattle.raft_log_file_pipe.specs.Purging.{DropsTo, FailsToDropAll}
 use Rattle.raft_log_file_pipe.proofs.Dropping.{drops_by_more, drops_more, drops_until, drop_fails, front_more, split_here}

@@ -1,5 +1,5 @@
 use Rattle.std.proofs.Common.{arith}
-use Rattle.raft_log_record_frames.proofs.Words.{word_there, word_leaves}
+use Rattle.raft_log_record_frames.proofs.Public.{word_leaves, word_there}
 use Rattle.raft_log_file_reader.proofs.foreign.spelled_header.Goals as goal
 
 pub returns-in_err-word : goal.returns-in_err-word

@@ -3,7 +3,7 @@ use Rattle.std.specs.Iterator.{Drains}
 use Rattle.raft_log_file_reader.specs.Answers.{GivesFiles}
 use Rattle.raft_log_file_reader.specs.ItemReader.{GivesFirst}
 use Rattle.raft_log_file_reader.specs.declared.item_reader.LogItemReader.{LogItemReader}
-use Rattle.raft_log_file_reader.proofs.Items.{calls_give_all_is}
+use Rattle.raft_log_file_reader.proofs.Public.{calls_give_all_is}
 use Rattle.raft_log_file_uses.proofs.answers.answers_of.Goals as goal
 
 pub returns : goal.returns

@@ -4,7 +4,7 @@ use Rattle.raft_log_fs.specs.Disk.{IsPathIn}
 use Rattle.raft_log_fs_state.specs.declared.storage.Node.{Node}
 use Rattle.raft_log_fs_state.specs.Listing.{IsChild}
 use Rattle.raft_log_fs_state.specs.Storage.{file_named}
-use Rattle.raft_log_fs.proofs.PathLaws.{no_path}
+use Rattle.raft_log_fs.proofs.Public.{no_path}
 use Rattle.raft_log_fs_state.proofs.Paths.{own_parts, same_directory}
 use Rattle.raft_log_fs_state.proofs.storage.child.Goals as goal
 

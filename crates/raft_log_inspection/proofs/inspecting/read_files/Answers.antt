@@ -1,6 +1,6 @@
 use Rattle.std.proofs.Common.{◌+◌, ◌<◌, [], map, length, take, sym, ap, subst, ◌∙◌}
 use Rattle.std.specs.String.{string_bytes}
-use Rattle.raft_log_recovery_read.proofs.Handing.{takes_none}
+use Rattle.raft_log_recovery_read.proofs.Public.{takes_none}
 use Rattle.raft_log_inspection.specs.Steps.{HandsFiles}
 use Rattle.raft_log_inspection.proofs.FileLemmas.{hands_damaged, hands_sound}
 use Rattle.raft_log_inspection.proofs.inspecting.read_files.Goals as goal

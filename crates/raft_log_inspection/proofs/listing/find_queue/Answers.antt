@@ -3,8 +3,7 @@ use Rattle.std.specs.String.{string_bytes}
 use Rattle.raft_log_fs.specs.Reading.{IsListing}
 use Rattle.raft_log_recovery_scan.specs.Found.{AreAmongAll}
 use Rattle.raft_log_recovery_scan.specs.declared.file_kind.FileKind.{FileKind}
-use Rattle.raft_log_recovery_scan.proofs.FoundLemmas.{are_files_in}
-use Rattle.raft_log_recovery_scan.proofs.Steps.{zip_map}
+use Rattle.raft_log_recovery_scan.proofs.Public.{are_files_in, zip_map}
 use Rattle.raft_log_inspection.specs.Intact.{kind_of}
 use Rattle.raft_log_inspection.proofs.listing.find_queue.Goals as goal
 

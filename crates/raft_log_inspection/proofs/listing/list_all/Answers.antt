@@ -3,7 +3,7 @@ use Rattle.std.specs.List.{AllZip}
 use Rattle.std.specs.String.{string_bytes}
 use Rattle.std.proofs.lemmas.List.{take_more}
 use Rattle.raft_log_fs.specs.Reading.{IsListing}
-use Rattle.raft_log_recovery_scan.proofs.Steps.{zip_push}
+use Rattle.raft_log_recovery_scan.proofs.Public.{zip_push}
 use Rattle.raft_log_inspection.proofs.listing.list_all.Goals as goal
 
 pub loop-path-preserved : goal.loop-path-preserved

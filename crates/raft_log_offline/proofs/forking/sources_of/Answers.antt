@@ -8,8 +8,7 @@ use Rattle.raft_log_recovery_scan.specs.Found.{FileLiesIn}
 use Rattle.raft_log_recovery_scan.specs.Opened.{AreOpen}
 use Rattle.raft_log_offline.specs.Sources.{source_of}
 use Rattle.raft_log_recovery_scan.specs.declared.scanning.found.FoundFile.{FoundFile}
-use Rattle.raft_log_recovery_scan.proofs.ScanLemmas.{fails_to_find, fails_to_open}
-use Rattle.raft_log_recovery_scan.proofs.Steps.{zip_map}
+use Rattle.raft_log_recovery_scan.proofs.Public.{fails_to_find, fails_to_open, zip_map}
 use Rattle.raft_log_offline.proofs.Finding.{chosen_lie, files_in, names_of, short_find, sources_of_kind}
 use Rattle.raft_log_offline.proofs.forking.sources_of.Goals as goal
 

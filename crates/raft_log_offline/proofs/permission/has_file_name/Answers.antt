@@ -2,7 +2,7 @@ use Rattle.std.proofs.Common.{◌<◌, ◌≤◌, ℕ, List, String, Global, len
 use Rattle.std.specs.String.{string_bytes}
 use Rattle.std.proofs.lemmas.Bool.{false≢true}
 use Rattle.std.proofs.lemmas.List.{take_all}
-use Rattle.raft_log_recovery_scan.proofs.Steps.{so_far}
+use Rattle.raft_log_recovery_scan.proofs.Public.{so_far}
 use Rattle.raft_log_file_settings.specs.Sanitized.{IsFileName}
 use Rattle.raft_log_offline.specs.Telling.{HasFileName}
 use Rattle.raft_log_offline.proofs.Permitting.{no_name_more}

@@ -2,7 +2,7 @@ use Rattle.std.proofs.Common.{◌<◌, ◌≤◌, ℕ, List, String, Global, len
 use Rattle.std.specs.String.{string_bytes}
 use Rattle.std.proofs.lemmas.Bool.{false≢true}
 use Rattle.std.proofs.lemmas.List.{take_all}
-use Rattle.raft_log_recovery_scan.proofs.Steps.{so_far}
+use Rattle.raft_log_recovery_scan.proofs.Public.{so_far}
 use Rattle.raft_log_offline.specs.Forks.{LiesInOne, LiesWithin}
 use Rattle.raft_log_offline.proofs.Permitting.{none_in_more}
 use Rattle.raft_log_offline.proofs.permission.lies_in_one.Goals as goal

@@ -4,7 +4,7 @@ use Rattle.raft_log_record_base.specs.declared.errors.Error.{Error}
 use Rattle.raft_log_record_base.specs.declared.pipe_log.FileBlockHandle.{FileBlockHandle}
 use Rattle.raft_log_file_reader.specs.Source.{bytes_of, CannotRead}
 use Rattle.raft_log_file_reader.specs.Reader.{end_of, last_block}
-use Rattle.raft_log_recovery_read.proofs.FaultLemmas.{batch_unread}
+use Rattle.raft_log_recovery_read.proofs.Public.{batch_unread}
 use Rattle.raft_log_open.proofs.Joining.{begins_there}
 use Rattle.raft_log_open.proofs.content.read_next.Goals as goal
 

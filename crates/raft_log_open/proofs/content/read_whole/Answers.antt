@@ -1,6 +1,6 @@
 use Rattle.std.proofs.Common.{length, ap, arith}
 use Rattle.std.proofs.lemmas.Result.{err_from_is_err_and}
-use Rattle.raft_log_file_reader.proofs.Opened.{size_told}
+use Rattle.raft_log_file_reader.proofs.Public.{size_told}
 use Rattle.raft_log_open.proofs.Joining.{unread_whole}
 use Rattle.raft_log_open.proofs.content.read_whole.Goals as goal
 

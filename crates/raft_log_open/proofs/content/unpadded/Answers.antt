@@ -6,7 +6,7 @@ use Rattle.raft_log_file_reader.specs.Opening.{SaysFormat}
 use Rattle.raft_log_file_reader.specs.Reader.{end_of}
 use Rattle.raft_log_file_reader.specs.Source.{bytes_in}
 use Rattle.raft_log_file_reader.specs.declared.open_file.OpenFile.{OpenFile}
-use Rattle.raft_log_recovery_read.proofs.FaultLemmas.{file_unread}
+use Rattle.raft_log_recovery_read.proofs.Public.{file_unread}
 use Rattle.raft_log_open.specs.Content.{AreJoined, plain_format}
 use Rattle.raft_log_open.proofs.Joining.{plain_is, unopened}
 use Rattle.raft_log_open.proofs.content.unpadded.Goals as goal

@@ -1,6 +1,6 @@
 use Rattle.std.proofs.Common.{[], sym, ◌∙◌}
 use Rattle.std.specs.String.{string_bytes}
-use Rattle.raft_log_recovery_scan.proofs.Steps.{at_map}
+use Rattle.raft_log_recovery_scan.proofs.Public.{at_map}
 use Rattle.raft_log_open.proofs.placing.directory_of.Goals as goal
 
 pub returns : goal.returns

@@ -1,7 +1,7 @@
 use Rattle.std.proofs.Common.{◌+◌, ◌<◌, List, map, take, length, subst, sym, arith}
 use Rattle.std.specs.List.{AllZip}
 use Rattle.std.specs.String.{string_bytes}
-use Rattle.raft_log_recovery_scan.proofs.Steps.{zip_more}
+use Rattle.raft_log_recovery_scan.proofs.Public.{zip_more}
 use Rattle.raft_log_open.specs.Placing.{IsPlaced, last_number}
 use Rattle.raft_log_open.specs.declared.placed_file.PlacedFile.{PlacedFile}
 use Rattle.raft_log_open.proofs.Places.{renumbered}

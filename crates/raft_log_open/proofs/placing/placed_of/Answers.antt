@@ -7,9 +7,8 @@ use Rattle.raft_log_fs.specs.Reading.{IsListing}
 use Rattle.raft_log_recovery_scan.specs.Found.{AreAmongAll}
 use Rattle.raft_log_recovery_scan.specs.declared.file_kind.FileKind.{FileKind}
 use Rattle.raft_log_recovery_scan.specs.declared.scanning.found.FoundFile.{FoundFile}
-use Rattle.raft_log_recovery_scan.proofs.ScanLemmas.{fails_to_find}
-use Rattle.raft_log_recovery_scan.proofs.Steps.{zip_map}
-use Rattle.raft_log_offline.proofs.Finding.{files_in, names_of, short_find}
+use Rattle.raft_log_recovery_scan.proofs.Public.{fails_to_find, zip_map}
+use Rattle.raft_log_offline.proofs.Public.{files_in, names_of, short_find}
 use Rattle.raft_log_open.specs.Placing.{IsListed, IsPlaced, kind_of, last_number}
 use Rattle.raft_log_open.proofs.Places.{chosen_listed}
 use Rattle.raft_log_open.proofs.placing.placed_of.Goals as goal

@@ -1,6 +1,6 @@
 use Rattle.std.proofs.lemmas.Result.{err_from_is_err_and}
 use Rattle.raft_log_purge_copy.specs.raft_log_engine_laws.specs.EngineState.{shows}
-use Rattle.raft_log_purge_copy.proofs.PartExits.{alive_ok}
+use Rattle.raft_log_purge_copy.proofs.Public.{alive_ok}
 use Rattle.raft_log_purge.proofs.Whole.{append_unsynced, not_carried, not_passed, whole_done, whole_stopped}
 use Rattle.raft_log_purge.proofs.append.rewrite_append_queue.Goals as goal
 

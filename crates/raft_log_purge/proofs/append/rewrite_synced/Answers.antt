@@ -1,7 +1,6 @@
 use Rattle.std.proofs.lemmas.Result.{err_from_is_err_and}
 use Rattle.raft_log_purge_copy.specs.raft_log_engine_laws.specs.EngineState.{shows}
-use Rattle.raft_log_purge_copy.proofs.Adding.{part_adds}
-use Rattle.raft_log_purge_copy.proofs.Grouping.{among}
+use Rattle.raft_log_purge_copy.proofs.Public.{among, part_adds}
 use Rattle.raft_log_purge.proofs.Past.{whole_synced, whole_unsynced}
 use Rattle.raft_log_purge.proofs.append.rewrite_synced.Goals as goal
 

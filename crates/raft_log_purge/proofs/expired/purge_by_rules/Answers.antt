@@ -7,7 +7,7 @@ use Rattle.raft_log_purge_policy.specs.Watermarks.{watermarks_of}
 use Rattle.raft_log_purge_policy.specs.Picking.{count_of, rewrites_at}
 use Rattle.raft_log_record_items.specs.declared.item.LogItem.{LogItem}
 use Rattle.raft_log_purge.specs.Expired.{DeletesFirst, PicksGroups, RewritesPicked}
-use Rattle.raft_log_purge_copy.proofs.Grouping.{among}
+use Rattle.raft_log_purge_copy.proofs.Public.{among}
 use Rattle.raft_log_purge.proofs.Picked.{failed_after_deleting, listed_picked, nothing_purged}
 use Rattle.raft_log_purge.proofs.expired.purge_by_rules.Goals as goal
 

@@ -1,6 +1,6 @@
 use Rattle.std.proofs.lemmas.Result.{err_from_is_err_and}
 use Rattle.raft_log_purge_copy.specs.raft_log_engine_laws.specs.EngineState.{shows}
-use Rattle.raft_log_purge_copy.proofs.Grouping.{among}
+use Rattle.raft_log_purge_copy.proofs.Public.{among}
 use Rattle.raft_log_purge.proofs.Picked.{marks_refused, not_rewritten, whole_picked, whole_unpicked}
 use Rattle.raft_log_purge.proofs.expired.rewrite_picked.Goals as goal
 

@@ -3,7 +3,7 @@ use Rattle.std.proofs.lemmas.Result.{err_from_is_err_and, on_err_weaker}
 use Rattle.raft_log_record_base.specs.declared.pipe_log.LogQueue.TheVariants.{Append}
 use Rattle.raft_log_dual_pipes.specs.HoldingBack.{PipesHoldBack}
 use Rattle.raft_log_purge_copy.specs.raft_log_engine_laws.specs.EngineState.{shows}
-use Rattle.raft_log_purge_copy.proofs.PartExits.{alive_ok}
+use Rattle.raft_log_purge_copy.proofs.Public.{alive_ok}
 use Rattle.raft_log_purge_policy.specs.Picking.{count_of}
 use Rattle.raft_log_purge.proofs.Expiring.{not_restated, still_surveyed, whole_purged, whole_unpurged}
 use Rattle.raft_log_purge.proofs.Whole.{append_unsynced}

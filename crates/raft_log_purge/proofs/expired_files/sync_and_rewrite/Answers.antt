@@ -1,7 +1,7 @@
 use Rattle.std.proofs.Common.{inl, inr, refl}
 use Rattle.std.proofs.lemmas.Result.{err_from_is_err_and, on_err_weaker}
 use Rattle.raft_log_purge_copy.specs.raft_log_engine_laws.specs.EngineState.{shows}
-use Rattle.raft_log_purge_copy.proofs.PartExits.{alive_ok}
+use Rattle.raft_log_purge_copy.proofs.Public.{alive_ok}
 use Rattle.raft_log_purge.proofs.Expiring.{whole_restated, whole_unrestated}
 use Rattle.raft_log_purge.proofs.Whole.{append_unsynced}
 use Rattle.raft_log_purge.proofs.expired_files.sync_and_rewrite.Goals as goal

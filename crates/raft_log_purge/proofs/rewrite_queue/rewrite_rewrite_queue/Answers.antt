@@ -4,7 +4,7 @@ use Rattle.raft_log_memtables.specs.Tables.{has_table, shown_of}
 use Rattle.raft_log_memtables.specs.Walking.{ListsGroups}
 use Rattle.raft_log_purge_copy.specs.Restated.{last_file}
 use Rattle.raft_log_purge_copy.specs.raft_log_engine_laws.specs.EngineState.{shows}
-use Rattle.raft_log_purge_copy.proofs.PartExits.{alive_ok}
+use Rattle.raft_log_purge_copy.proofs.Public.{alive_ok}
 use Rattle.raft_log_purge.specs.Garbage.{CountsGarbage}
 use Rattle.raft_log_purge.proofs.Turning.{none_restated_yet, not_lost, not_restated, not_turned, rewritten}
 use Rattle.raft_log_purge.proofs.rewrite_queue.rewrite_rewrite_queue.Goals as goal

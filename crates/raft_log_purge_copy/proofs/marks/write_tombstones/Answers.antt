@@ -1,5 +1,5 @@
 use Rattle.std.proofs.lemmas.Result.{err_from_is_err_and}
-use Rattle.raft_log_memtables.proofs.Segments.{unmarked_rests}
+use Rattle.raft_log_memtables.proofs.Public.{unmarked_rests}
 use Rattle.raft_log_purge_copy.proofs.PartExits.{marks_are_carried, marks_are_unsynced}
 use Rattle.raft_log_purge_copy.proofs.Adding.{unmarked_adds}
 use Rattle.raft_log_purge_copy.proofs.marks.write_tombstones.Goals as goal

@@ -1,6 +1,6 @@
 use Rattle.std.proofs.Common.{refl}
 use Rattle.std.proofs.lemmas.Result.{err_from_is_err_and}
-use Rattle.raft_log_memtables.proofs.Moved.{none_promised}
+use Rattle.raft_log_memtables.proofs.Public.{none_promised}
 use Rattle.raft_log_purge_copy.proofs.Together.{asked_more, asked_then, last_let_go, part_let_go}
 use Rattle.raft_log_purge_copy.proofs.Room.{no_room_yet, room_more, room_then, same_twice, stay_same, stay_then, stay_twice}
 use Rattle.raft_log_purge_copy.proofs.taking.make_room.Goals as goal

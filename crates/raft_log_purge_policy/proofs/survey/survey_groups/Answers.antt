@@ -4,7 +4,7 @@ use Rattle.std.specs.BTreeMap.{keys}
 use Rattle.std.specs.Ordering.{nat_cmp}
 use Rattle.raft_log_memtable.specs.Reads.{StandIn}
 use Rattle.raft_log_memtable.specs.Table.{Raw, shown}
-use Rattle.raft_log_memtables.proofs.Segments.{once_each}
+use Rattle.raft_log_memtables.proofs.Public.{once_each}
 use Rattle.raft_log_purge_policy.specs.Picking.{answers_in, asks_in, count_of, rewrites_in}
 use Rattle.raft_log_purge_policy.proofs.Surveying.{all_surveyed, surveyed_more, surveyed_none}
 use Rattle.raft_log_purge_policy.proofs.survey.survey_groups.Goals as goal

@@ -3,7 +3,7 @@ use Rattle.raft_log_record_base.specs.Fault.{Fault}
 use Rattle.raft_log_record_base.specs.Grammar.{◌>>=◌}
 use Rattle.raft_log_record_items.specs.declared.item.LogItem.{LogItem}
 use Rattle.raft_log_record_items.specs.Placed.{placed, entries_len}
-use Rattle.raft_log_record_base.proofs.Grammar.{done}
+use Rattle.raft_log_record_base.proofs.Public.{done}
 use Rattle.raft_log_record_frames.specs.Record.{placed_footer_of, whole_of}
 use Rattle.raft_log_record_frames.proofs.Footers.{whole_found, adds_up_fits, footer_made}
 use Rattle.raft_log_record_frames.proofs.footer.decode_placed_footer.Goals as goal

@@ -2,7 +2,7 @@ use Rattle.std.proofs.Common.{◌<◌, arith, refl}
 use Rattle.std.proofs.lemmas.Result.{err_from_is_err_and}
 use Rattle.std.proofs.lemmas.List.{length-append}
 use Rattle.raft_log_record_items.specs.Reading.{entry_len_at, entries_from_at}
-use Rattle.raft_log_record_base.proofs.Faults.{fails_through}
+use Rattle.raft_log_record_base.proofs.Public.{fails_through}
 use Rattle.raft_log_record_items.proofs.Entries.{entries_go_on, entries_fail, entries_done, follows-push}
 use Rattle.raft_log_record_items.proofs.entry_indexes.split_entries.Goals as goal
 

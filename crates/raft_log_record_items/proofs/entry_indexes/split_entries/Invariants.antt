@@ -1,5 +1,5 @@
 use Rattle.std.proofs.Common.{◌≡◌, ◌+◌, ◌-◌, length}
-use Rattle.raft_log_record_base.proofs.Grammar.{with_front}
+use Rattle.raft_log_record_base.proofs.Public.{with_front}
 use Rattle.raft_log_record_items.specs.Run.{FollowsFrom}
 use Rattle.raft_log_record_items.specs.Reading.{entries_from_at}
 use Rattle.raft_log_record_items.proofs.entry_indexes.split_entries.Given as goal

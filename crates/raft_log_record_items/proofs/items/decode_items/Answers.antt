@@ -1,4 +1,4 @@
-use Rattle.raft_log_record_base.proofs.Faults.{decodes_items}
+use Rattle.raft_log_record_base.proofs.Public.{decodes_items}
 use Rattle.raft_log_record_items.proofs.Reading.{are_items}
 use Rattle.raft_log_record_items.proofs.items.decode_items.Goals as goal
 

@@ -1,8 +1,7 @@
 use Rattle.std.proofs.Common.{◌<◌, ◌++◌, ◌∷◌, [], arith, refl}
 use Rattle.std.proofs.lemmas.Result.{err_from_is_err_and}
 use Rattle.raft_log_record_base.specs.Grammar.{times_at}
-use Rattle.raft_log_record_base.proofs.Grammar.{times_go_on, times_fail, times_done}
-use Rattle.raft_log_record_base.proofs.Faults.{fails_through}
+use Rattle.raft_log_record_base.proofs.Public.{fails_through, times_done, times_fail, times_go_on}
 use Rattle.raft_log_record_items.specs.Reading.{item_at}
 use Rattle.raft_log_record_items.proofs.ItemPlaces.{placed_more}
 use Rattle.raft_log_record_items.proofs.items.split_placed_items.Goals as goal

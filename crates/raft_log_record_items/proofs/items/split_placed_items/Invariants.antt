@@ -1,6 +1,6 @@
 use Rattle.std.proofs.Common.{◌≡◌, ◌-◌, List}
 use Rattle.raft_log_record_base.specs.Grammar.{times_at}
-use Rattle.raft_log_record_base.proofs.Grammar.{with_front}
+use Rattle.raft_log_record_base.proofs.Public.{with_front}
 use Rattle.raft_log_record_items.specs.declared.item.LogItem.{LogItem}
 use Rattle.raft_log_record_items.specs.Placed.{ArePlaced}
 use Rattle.raft_log_record_items.specs.Reading.{item_at}

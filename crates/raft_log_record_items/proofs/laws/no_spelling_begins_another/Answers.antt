@@ -1,5 +1,5 @@
 -- Each kind has a reader, so no spelling of the kind begins another.
-use Rattle.raft_log_record_base.proofs.Grammar.{prefix_free}
+use Rattle.raft_log_record_base.proofs.Public.{prefix_free}
 use Rattle.raft_log_record_items.proofs.Reading.{is_bytes, is_entries, is_command, is_key_value, is_item, are_items}
 use Rattle.raft_log_record_items.proofs.laws.no_spelling_begins_another.Goals as goal
 

@@ -1,7 +1,7 @@
 use Rattle.std.proofs.Common.{◌≡◌, ◌∙◌, ◌||◌, ap, take, true, ℕ, rules}
 use Rattle.std.proofs.lemmas.List.{take_all}
 use Rattle.raft_log_memtables.specs.Batch.{mentions}
-use Rattle.raft_log_memtables.proofs.Items.{mentions_more}
+use Rattle.raft_log_memtables.proofs.Public.{mentions_more}
 use Rattle.raft_log_replay_context.specs.Pieces.{ends_with}
 use Rattle.raft_log_replay_context.specs.Noting.{is_listed}
 use Rattle.raft_log_replay_context.proofs.Settling.{list_kept, list_pushed, listed_none}

@@ -1,5 +1,5 @@
 use Rattle.std.proofs.Common.{arith}
-use Rattle.raft_voter.proofs.Ordered.{last_in_range}
+use Rattle.raft_voter.proofs.Public.{last_in_range}
 use Rattle.raft_voter_plain.proofs.Damage.{handed_on, no_entries}
 use Rattle.raft_voter_plain.proofs.Records.{one_more}
 use Rattle.raft_voter_plain.proofs.record.read_entries.Goals as goal

@@ -1,6 +1,6 @@
 use Rattle.std.proofs.lemmas.Result.{IfErr-weaker, IfOk-weaker}
 use Rattle.raft_log_engine_core.specs.Reads.{shows_of}
-use Rattle.raft_voter_durability_laws.proofs.Fetching.{engines_are_counted}
+use Rattle.raft_voter_durability_laws.proofs.Public.{engines_are_counted}
 use Rattle.raft_voter_recovery.proofs.Pieces.{piece_read, piece_unread}
 use Rattle.raft_voter_recovery.proofs.Refusing.{raw_total, reading_of, unfetched_for, unfetched_stays}
 use Rattle.raft_voter_recovery.proofs.entries.read_piece.Goals as goal

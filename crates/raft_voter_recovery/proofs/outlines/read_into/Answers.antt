@@ -2,7 +2,7 @@ use Rattle.std.proofs.Common.{◌++◌, ◌∷◌, [], Option, refl, inr, subst}
 use Rattle.raft_log_engine_core.specs.Reads.{shows_of}
 use Rattle.raft_voter_outline.specs.Outlines.{Outlined}
 use Rattle.raft_voter_outline.specs.Pairs.{outlines_of}
-use Rattle.raft_voter_outline.proofs.Pairs.{pushed_others, pushed_own}
+use Rattle.raft_voter_outline.proofs.Public.{pushed_others, pushed_own}
 use Rattle.raft_voter_recovery.specs.Listing.{TellsOutline}
 use Rattle.raft_voter_recovery.proofs.Filling.{outline_kept}
 use Rattle.raft_voter_recovery.proofs.outlines.read_into.Goals as goal

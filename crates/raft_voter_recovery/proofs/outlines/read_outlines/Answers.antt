@@ -2,7 +2,7 @@ use Rattle.std.proofs.Common.{◌+◌, ◌∙◌, ap, get_or, take, refl, arith}
 use Rattle.std.proofs.lemmas.List.{take_all, take_more}
 use Rattle.std.proofs.lemmas.Result.{err_from_is_err_and}
 use Rattle.raft_log_engine_core.specs.Reads.{shows_of}
-use Rattle.raft_voter_durability_laws.specs.raft_log_engine_laws.specs.raft_log_memtables.proofs.Bare.{uncounted_bare}
+use Rattle.raft_voter_durability_laws.specs.raft_log_engine_laws.specs.raft_log_memtables.proofs.Public.{uncounted_bare}
 use Rattle.raft_voter_outline.specs.Kept.{outlines_in}
 use Rattle.raft_voter_outline.specs.Pairs.{outlines_of}
 use Rattle.raft_voter_recovery.proofs.Filling.{adds_outline_before, no_outline, one_outline, outlines_read, outlines_same}

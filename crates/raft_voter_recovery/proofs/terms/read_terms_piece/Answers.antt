@@ -1,7 +1,7 @@
 use Rattle.std.proofs.Common.{◌+◌, ◌∙◌, sym, arith}
 use Rattle.std.proofs.lemmas.Result.{err_from_is_err_and}
 use Rattle.raft_log_engine_core.specs.Reads.{shows_of}
-use Rattle.raft_voter_durability_laws.proofs.Fetching.{engines_are_counted}
+use Rattle.raft_voter_durability_laws.proofs.Public.{engines_are_counted}
 use Rattle.raft_voter_recovery.proofs.TermsRead.{head_of, heads_fetched, heads_total, terms_added, terms_unread}
 use Rattle.raft_voter_recovery.proofs.Refusing.{unfetched_for, unfetched_stays}
 use Rattle.raft_voter_recovery.proofs.Telling.{placed_below}

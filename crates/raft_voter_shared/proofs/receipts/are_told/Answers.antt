@@ -1,5 +1,5 @@
 use Rattle.std.specs.Cmp.Lexicographic.{pointwise_decides}
-use Rattle.raft_voter_messages.proofs.Equality.{decides_reply}
+use Rattle.raft_voter_messages.proofs.Public.{decides_reply}
 use Rattle.raft_voter_shared.proofs.receipts.are_told.Goals as goal
 
 pub returns : goal.returns

@@ -2,7 +2,7 @@ use Rattle.std.proofs.Common.{map, sym, ◌∙◌, ap, subst}
 use Rattle.std.specs.String.{string_bytes}
 use Rattle.raft_log_fs.specs.Disk.{Disk}
 use Rattle.raft_log_fs.specs.Causes.{IsLater}
-use Rattle.raft_log_fs.proofs.CauseLaws.{later_then}
+use Rattle.raft_log_fs.proofs.Public.{later_then}
 use Rattle.raft_log_file_pipe.specs.declared.pipe_files.PipeFiles.{PipeFiles}
 use Rattle.raft_log_dual_pipes.specs.Opening.{OpensFound}
 use Rattle.raft_log_dual_pipes.proofs.Opened.{append_not_opened, opens_log, rewrite_not_opened}

@@ -4,7 +4,7 @@ use Rattle.raft_log_machine_laws.specs.Calls.Which.{InAppend, InRewrite}
 use Rattle.raft_log_dual_pipes.proofs.Exits.{appends_not_when, appends_when}
 use Rattle.raft_log_dual_pipes.specs.Pipes.{LogPipes, OnePipe}
 use Rattle.raft_log_dual_pipes.proofs.PairNumbers.{append_ends_when}
-use Rattle.raft_log_dual_pipes.proofs.LastFile.{lasts_when, turns_when}
+use Rattle.raft_log_dual_pipes.proofs.LastFile.{lasts_when}
 use Rattle.raft_log_dual_pipes.proofs.Pairing.{either_false, when_alive}
 use Rattle.raft_log_dual_pipes.proofs.Telling.{grows_when, nobody_hears_err, nobody_hears_ok}
 use Rattle.raft_log_dual_pipes.proofs.dual_pipes.DualPipesPipeLog.append.Goals as goal
@@ -65,19 +65,6 @@ returns-in-Append-clause-goes_into g c =
     let o : OnePipe = record { queue = p.layout.queue; directories = map string_bytes p.layout.paths.items; settings = p.settings; files = p.files; failed = p.failed } in
     rw c.in-Append.is (lasts_when InAppend v o (g.F.FileSystem.disk c.append.new.file_system) (g.B.ReactiveBytes.signed c.args.bytes.now) c.append.result c.append.ensures.ok)
 
-pub returns-in-Append-clause-behind : goal.returns-in-Append-clause-behind
-returns-in-Append-clause-behind g c =
-    let alive = (either_false _ _ (sym c.is_failed.ensures ∙ c.if-is_failed.false)).0 in
-    let was = c.args.self.now in
-    let v : LogPipes = record {
-      append = record { queue = was.append.layout.queue; directories = map string_bytes was.append.layout.paths.items; settings = was.append.settings; files = was.append.files; failed = was.append.failed };
-      rewrite = record { queue = was.rewrite.layout.queue; directories = map string_bytes was.rewrite.layout.paths.items; settings = was.rewrite.settings; files = was.rewrite.files; failed = was.rewrite.failed };
-      disk = g.F.FileSystem.disk was.file_system;
-    } in
-    let p = c.append.new.self in
-    let o : OnePipe = record { queue = p.layout.queue; directories = map string_bytes p.layout.paths.items; settings = p.settings; files = p.files; failed = p.failed } in
-    rw c.in-Append.is (turns_when InAppend v o (g.F.FileSystem.disk c.append.new.file_system) (g.B.ReactiveBytes.signed c.args.bytes.now) c.append.result (c.append.ensures.err alive))
-
 pub returns-in-Rewrite-clause-goes_into : goal.returns-in-Rewrite-clause-goes_into
 returns-in-Rewrite-clause-goes_into g c =
     let was = c.args.self.now in
@@ -89,19 +76,6 @@ returns-in-Rewrite-clause-goes_into g c =
     let p = c.append-in-Rewrite.new.self in
     let o : OnePipe = record { queue = p.layout.queue; directories = map string_bytes p.layout.paths.items; settings = p.settings; files = p.files; failed = p.failed } in
     rw c.in-Rewrite.is (lasts_when InRewrite v o (g.F.FileSystem.disk c.append-in-Rewrite.new.file_system) (g.B.ReactiveBytes.signed c.args.bytes.now) c.append-in-Rewrite.result c.append-in-Rewrite.ensures.ok)
-
-pub returns-in-Rewrite-clause-behind : goal.returns-in-Rewrite-clause-behind
-returns-in-Rewrite-clause-behind g c =
-    let alive = (either_false _ _ (sym c.is_failed.ensures ∙ c.if-is_failed.false)).1 in
-    let was = c.args.self.now in
-    let v : LogPipes = record {
-      append = record { queue = was.append.layout.queue; directories = map string_bytes was.append.layout.paths.items; settings = was.append.settings; files = was.append.files; failed = was.append.failed };
-      rewrite = record { queue = was.rewrite.layout.queue; directories = map string_bytes was.rewrite.layout.paths.items; settings = was.rewrite.settings; files = was.rewrite.files; failed = was.rewrite.failed };
-      disk = g.F.FileSystem.disk was.file_system;
-    } in
-    let p = c.append-in-Rewrite.new.self in
-    let o : OnePipe = record { queue = p.layout.queue; directories = map string_bytes p.layout.paths.items; settings = p.settings; files = p.files; failed = p.failed } in
-    rw c.in-Rewrite.is (turns_when InRewrite v o (g.F.FileSystem.disk c.append-in-Rewrite.new.file_system) (g.B.ReactiveBytes.signed c.args.bytes.now) c.append-in-Rewrite.result (c.append-in-Rewrite.ensures.err alive))
 
 pub returns-in-Append-clause-calls : goal.returns-in-Append-clause-calls
 returns-in-Append-clause-calls g c = rw c.in-Append.is c.append.ensures.ok
@@ -118,32 +92,6 @@ pub returns-in-Rewrite-clause-refusal : goal.returns-in-Rewrite-clause-refusal
 returns-in-Rewrite-clause-refusal g c =
     let alive = (either_false _ _ (sym c.is_failed.ensures ∙ c.if-is_failed.false)).1 in
     rw c.in-Rewrite.is (when_alive c.append-in-Rewrite.result _ _ (c.append-in-Rewrite.ensures.err alive))
-
-pub returns-in-Append-clause-rules : goal.returns-in-Append-clause-rules
-returns-in-Append-clause-rules g c =
-    let e = c.append.ensures in
-    (record { queue = ap (λ l. l.queue) e.same.0; directories = ap (λ l. map string_bytes l.paths.items) e.same.0; settings = e.same.1 }, record { queue = refl; directories = refl; settings = refl })
-
-pub returns-in-Rewrite-clause-rules : goal.returns-in-Rewrite-clause-rules
-returns-in-Rewrite-clause-rules g c =
-    let e = c.append-in-Rewrite.ensures in
-    (record { queue = refl; directories = refl; settings = refl }, record { queue = ap (λ l. l.queue) e.same.0; directories = ap (λ l. map string_bytes l.paths.items) e.same.0; settings = e.same.1 })
-
-pub returns-in-Append-clause-made : goal.returns-in-Append-clause-made
-returns-in-Append-clause-made g c = rw c.in-Append.is c.append.ensures.calls
-
-pub returns-in-Append-clause-refused : goal.returns-in-Append-clause-refused
-returns-in-Append-clause-refused g c =
-    let alive = (either_false _ _ (sym c.is_failed.ensures ∙ c.if-is_failed.false)).0 in
-    rw c.in-Append.is (when_alive c.append.result _ _ (c.append.ensures.refusal alive))
-
-pub returns-in-Rewrite-clause-made : goal.returns-in-Rewrite-clause-made
-returns-in-Rewrite-clause-made g c = rw c.in-Rewrite.is c.append-in-Rewrite.ensures.calls
-
-pub returns-in-Rewrite-clause-refused : goal.returns-in-Rewrite-clause-refused
-returns-in-Rewrite-clause-refused g c =
-    let alive = (either_false _ _ (sym c.is_failed.ensures ∙ c.if-is_failed.false)).1 in
-    rw c.in-Rewrite.is (when_alive c.append-in-Rewrite.result _ _ (c.append-in-Rewrite.ensures.refusal alive))
 
 pub returns-in-Append-clause-grows : goal.returns-in-Append-clause-grows
 returns-in-Append-clause-grows g c = rw c.in-Append.is (grows_when c.append.result 2 c.args.self.now.append.files c.append.new.self.files c.append.ensures.near)

@@ -1,11 +1,10 @@
 use Rattle.std.proofs.Common.{map, refl, sym, ◌∙◌, ap}
 use Rattle.std.specs.String.{string_bytes}
 use Rattle.raft_log_machine_laws.specs.Calls.Which.{InAppend, InRewrite}
-use Rattle.raft_log_dual_pipes.specs.Pipes.{LogPipes, OnePipe}
+use Rattle.raft_log_dual_pipes.specs.Pipes.{OnePipe}
 use Rattle.raft_log_dual_pipes.proofs.PairNumbers.{purge_ends_when}
-use Rattle.raft_log_dual_pipes.proofs.LastFile.{raises_when}
 use Rattle.raft_log_dual_pipes.proofs.PairSpans.{purges_not_when, purges_when}
-use Rattle.raft_log_dual_pipes.proofs.Pairing.{either_false, when_alive}
+use Rattle.raft_log_dual_pipes.proofs.Pairing.{either_false}
 use Rattle.raft_log_dual_pipes.proofs.Telling.{nobody_hears}
 use Rattle.raft_log_dual_pipes.proofs.dual_pipes.DualPipesPipeLog.purge_to.Goals as goal
 
@@ -44,72 +43,6 @@ returns-in-Rewrite-clause-range g c =
     let p = c.purge_to-in-Rewrite.new.self in
     let o : OnePipe = record { queue = p.layout.queue; directories = map string_bytes p.layout.paths.items; settings = p.settings; files = p.files; failed = p.failed } in
     rw c.in-Rewrite.is (purge_ends_when InRewrite _ o _ c.args.file_id.seq c.purge_to-in-Rewrite.result (c.purge_to-in-Rewrite.ensures.err alive))
-
-pub returns-in-Append-clause-raised : goal.returns-in-Append-clause-raised
-returns-in-Append-clause-raised g c =
-    let was = c.args.self.now in
-    let v : LogPipes = record {
-      append = record { queue = was.append.layout.queue; directories = map string_bytes was.append.layout.paths.items; settings = was.append.settings; files = was.append.files; failed = was.append.failed };
-      rewrite = record { queue = was.rewrite.layout.queue; directories = map string_bytes was.rewrite.layout.paths.items; settings = was.rewrite.settings; files = was.rewrite.files; failed = was.rewrite.failed };
-      disk = g.F.FileSystem.disk was.file_system;
-    } in
-    let p = c.purge_to.new.self in
-    let o : OnePipe = record { queue = p.layout.queue; directories = map string_bytes p.layout.paths.items; settings = p.settings; files = p.files; failed = p.failed } in
-    rw c.in-Append.is (raises_when InAppend v o (g.F.FileSystem.disk c.purge_to.new.file_system) c.args.file_id.seq c.purge_to.result c.purge_to.ensures.raised)
-
-pub returns-in-Rewrite-clause-raised : goal.returns-in-Rewrite-clause-raised
-returns-in-Rewrite-clause-raised g c =
-    let was = c.args.self.now in
-    let v : LogPipes = record {
-      append = record { queue = was.append.layout.queue; directories = map string_bytes was.append.layout.paths.items; settings = was.append.settings; files = was.append.files; failed = was.append.failed };
-      rewrite = record { queue = was.rewrite.layout.queue; directories = map string_bytes was.rewrite.layout.paths.items; settings = was.rewrite.settings; files = was.rewrite.files; failed = was.rewrite.failed };
-      disk = g.F.FileSystem.disk was.file_system;
-    } in
-    let p = c.purge_to-in-Rewrite.new.self in
-    let o : OnePipe = record { queue = p.layout.queue; directories = map string_bytes p.layout.paths.items; settings = p.settings; files = p.files; failed = p.failed } in
-    rw c.in-Rewrite.is (raises_when InRewrite v o (g.F.FileSystem.disk c.purge_to-in-Rewrite.new.file_system) c.args.file_id.seq c.purge_to-in-Rewrite.result c.purge_to-in-Rewrite.ensures.raised)
-
-pub returns-in-Append-clause-calls : goal.returns-in-Append-clause-calls
-returns-in-Append-clause-calls g c = rw c.in-Append.is c.purge_to.ensures.ok
-
-pub returns-in-Append-clause-refusal : goal.returns-in-Append-clause-refusal
-returns-in-Append-clause-refusal g c =
-    let alive = (either_false _ _ (sym c.is_failed.ensures ∙ c.if-is_failed.false)).0 in
-    rw c.in-Append.is (when_alive c.purge_to.result _ _ (c.purge_to.ensures.err alive))
-
-pub returns-in-Rewrite-clause-calls : goal.returns-in-Rewrite-clause-calls
-returns-in-Rewrite-clause-calls g c = rw c.in-Rewrite.is c.purge_to-in-Rewrite.ensures.ok
-
-pub returns-in-Rewrite-clause-refusal : goal.returns-in-Rewrite-clause-refusal
-returns-in-Rewrite-clause-refusal g c =
-    let alive = (either_false _ _ (sym c.is_failed.ensures ∙ c.if-is_failed.false)).1 in
-    rw c.in-Rewrite.is (when_alive c.purge_to-in-Rewrite.result _ _ (c.purge_to-in-Rewrite.ensures.err alive))
-
-pub returns-in-Append-clause-rules : goal.returns-in-Append-clause-rules
-returns-in-Append-clause-rules g c =
-    let e = c.purge_to.ensures in
-    (record { queue = ap (λ l. l.queue) e.same.0; directories = ap (λ l. map string_bytes l.paths.items) e.same.0; settings = e.same.1 }, record { queue = refl; directories = refl; settings = refl })
-
-pub returns-in-Rewrite-clause-rules : goal.returns-in-Rewrite-clause-rules
-returns-in-Rewrite-clause-rules g c =
-    let e = c.purge_to-in-Rewrite.ensures in
-    (record { queue = refl; directories = refl; settings = refl }, record { queue = ap (λ l. l.queue) e.same.0; directories = ap (λ l. map string_bytes l.paths.items) e.same.0; settings = e.same.1 })
-
-pub returns-in-Append-clause-made : goal.returns-in-Append-clause-made
-returns-in-Append-clause-made g c = rw c.in-Append.is c.purge_to.ensures.calls
-
-pub returns-in-Append-clause-refused : goal.returns-in-Append-clause-refused
-returns-in-Append-clause-refused g c =
-    let alive = (either_false _ _ (sym c.is_failed.ensures ∙ c.if-is_failed.false)).0 in
-    rw c.in-Append.is (when_alive c.purge_to.result _ _ (c.purge_to.ensures.refusal alive))
-
-pub returns-in-Rewrite-clause-made : goal.returns-in-Rewrite-clause-made
-returns-in-Rewrite-clause-made g c = rw c.in-Rewrite.is c.purge_to-in-Rewrite.ensures.calls
-
-pub returns-in-Rewrite-clause-refused : goal.returns-in-Rewrite-clause-refused
-returns-in-Rewrite-clause-refused g c =
-    let alive = (either_false _ _ (sym c.is_failed.ensures ∙ c.if-is_failed.false)).1 in
-    rw c.in-Rewrite.is (when_alive c.purge_to-in-Rewrite.result _ _ (c.purge_to-in-Rewrite.ensures.refusal alive))
 
 pub returns-in-Append-clause-told : goal.returns-in-Append-clause-told
 returns-in-Append-clause-told g c = nobody_hears _ _ _

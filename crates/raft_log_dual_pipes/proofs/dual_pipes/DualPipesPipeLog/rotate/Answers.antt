@@ -4,7 +4,7 @@ use Rattle.raft_log_machine_laws.specs.Calls.Which.{InAppend, InRewrite}
 use Rattle.raft_log_dual_pipes.specs.Pipes.{OnePipe}
 use Rattle.raft_log_dual_pipes.proofs.PairNumbers.{ends_when}
 use Rattle.raft_log_dual_pipes.proofs.PairSpans.{rotates_not_when, rotates_when}
-use Rattle.raft_log_dual_pipes.proofs.Pairing.{either_false, when_alive}
+use Rattle.raft_log_dual_pipes.proofs.Pairing.{either_false}
 use Rattle.raft_log_dual_pipes.proofs.Telling.{nobody_hears}
 use Rattle.raft_log_dual_pipes.proofs.dual_pipes.DualPipesPipeLog.rotate.Goals as goal
 
@@ -47,44 +47,8 @@ returns-in-Rewrite-clause-range g c =
 pub returns-in-Append-clause-calls : goal.returns-in-Append-clause-calls
 returns-in-Append-clause-calls g c = rw c.in-Append.is c.rotate.ensures.ok
 
-pub returns-in-Append-clause-refusal : goal.returns-in-Append-clause-refusal
-returns-in-Append-clause-refusal g c =
-    let alive = (either_false _ _ (sym c.is_failed.ensures ∙ c.if-is_failed.false)).0 in
-    rw c.in-Append.is (when_alive c.rotate.result _ _ (c.rotate.ensures.err alive))
-
 pub returns-in-Rewrite-clause-calls : goal.returns-in-Rewrite-clause-calls
 returns-in-Rewrite-clause-calls g c = rw c.in-Rewrite.is c.rotate-in-Rewrite.ensures.ok
-
-pub returns-in-Rewrite-clause-refusal : goal.returns-in-Rewrite-clause-refusal
-returns-in-Rewrite-clause-refusal g c =
-    let alive = (either_false _ _ (sym c.is_failed.ensures ∙ c.if-is_failed.false)).1 in
-    rw c.in-Rewrite.is (when_alive c.rotate-in-Rewrite.result _ _ (c.rotate-in-Rewrite.ensures.err alive))
-
-pub returns-in-Append-clause-rules : goal.returns-in-Append-clause-rules
-returns-in-Append-clause-rules g c =
-    let e = c.rotate.ensures in
-    (record { queue = ap (λ l. l.queue) e.same.0; directories = ap (λ l. map string_bytes l.paths.items) e.same.0; settings = e.same.1 }, record { queue = refl; directories = refl; settings = refl })
-
-pub returns-in-Rewrite-clause-rules : goal.returns-in-Rewrite-clause-rules
-returns-in-Rewrite-clause-rules g c =
-    let e = c.rotate-in-Rewrite.ensures in
-    (record { queue = refl; directories = refl; settings = refl }, record { queue = ap (λ l. l.queue) e.same.0; directories = ap (λ l. map string_bytes l.paths.items) e.same.0; settings = e.same.1 })
-
-pub returns-in-Append-clause-made : goal.returns-in-Append-clause-made
-returns-in-Append-clause-made g c = rw c.in-Append.is c.rotate.ensures.calls
-
-pub returns-in-Append-clause-refused : goal.returns-in-Append-clause-refused
-returns-in-Append-clause-refused g c =
-    let alive = (either_false _ _ (sym c.is_failed.ensures ∙ c.if-is_failed.false)).0 in
-    rw c.in-Append.is (when_alive c.rotate.result _ _ (c.rotate.ensures.refusal alive))
-
-pub returns-in-Rewrite-clause-made : goal.returns-in-Rewrite-clause-made
-returns-in-Rewrite-clause-made g c = rw c.in-Rewrite.is c.rotate-in-Rewrite.ensures.calls
-
-pub returns-in-Rewrite-clause-refused : goal.returns-in-Rewrite-clause-refused
-returns-in-Rewrite-clause-refused g c =
-    let alive = (either_false _ _ (sym c.is_failed.ensures ∙ c.if-is_failed.false)).1 in
-    rw c.in-Rewrite.is (when_alive c.rotate-in-Rewrite.result _ _ (c.rotate-in-Rewrite.ensures.refusal alive))
 
 pub returns-in-Append-clause-told : goal.returns-in-Append-clause-told
 returns-in-Append-clause-told g c = nobody_hears _ _ _

@@ -2,7 +2,7 @@ use Rattle.std.proofs.Common.{map, refl, sym, ◌∙◌, ap}
 use Rattle.std.specs.String.{string_bytes}
 use Rattle.raft_log_machine_laws.specs.Calls.Which.{InAppend, InRewrite}
 use Rattle.raft_log_dual_pipes.proofs.Exits.{sync_refused, syncs_when}
-use Rattle.raft_log_dual_pipes.proofs.Pairing.{either_false, when_alive}
+use Rattle.raft_log_dual_pipes.proofs.Pairing.{either_false}
 use Rattle.raft_log_dual_pipes.proofs.dual_pipes.DualPipesPipeLog.sync.Goals as goal
 
 pub returns-in-Append-clause-ok : goal.returns-in-Append-clause-ok
@@ -26,45 +26,3 @@ pub returns-in-Rewrite-clause-err : goal.returns-in-Rewrite-clause-err
 returns-in-Rewrite-clause-err g c =
     let alive = (either_false _ _ (sym c.is_failed.ensures ∙ c.if-is_failed.false)).1 in
     rw c.in-Rewrite.is (sync_refused InRewrite _ _ c.sync-in-Rewrite.result (c.sync-in-Rewrite.ensures.err alive))
-
-pub returns-in-Append-clause-calls : goal.returns-in-Append-clause-calls
-returns-in-Append-clause-calls g c = rw c.in-Append.is c.sync.ensures.ok
-
-pub returns-in-Append-clause-refusal : goal.returns-in-Append-clause-refusal
-returns-in-Append-clause-refusal g c =
-    let alive = (either_false _ _ (sym c.is_failed.ensures ∙ c.if-is_failed.false)).0 in
-    rw c.in-Append.is (when_alive c.sync.result _ _ (c.sync.ensures.err alive))
-
-pub returns-in-Rewrite-clause-calls : goal.returns-in-Rewrite-clause-calls
-returns-in-Rewrite-clause-calls g c = rw c.in-Rewrite.is c.sync-in-Rewrite.ensures.ok
-
-pub returns-in-Rewrite-clause-refusal : goal.returns-in-Rewrite-clause-refusal
-returns-in-Rewrite-clause-refusal g c =
-    let alive = (either_false _ _ (sym c.is_failed.ensures ∙ c.if-is_failed.false)).1 in
-    rw c.in-Rewrite.is (when_alive c.sync-in-Rewrite.result _ _ (c.sync-in-Rewrite.ensures.err alive))
-
-pub returns-in-Append-clause-rules : goal.returns-in-Append-clause-rules
-returns-in-Append-clause-rules g c =
-    let e = c.sync.ensures in
-    (record { queue = ap (λ l. l.queue) e.same.0; directories = ap (λ l. map string_bytes l.paths.items) e.same.0; settings = e.same.1 }, record { queue = refl; directories = refl; settings = refl })
-
-pub returns-in-Rewrite-clause-rules : goal.returns-in-Rewrite-clause-rules
-returns-in-Rewrite-clause-rules g c =
-    let e = c.sync-in-Rewrite.ensures in
-    (record { queue = refl; directories = refl; settings = refl }, record { queue = ap (λ l. l.queue) e.same.0; directories = ap (λ l. map string_bytes l.paths.items) e.same.0; settings = e.same.1 })
-
-pub returns-in-Append-clause-made : goal.returns-in-Append-clause-made
-returns-in-Append-clause-made g c = rw c.in-Append.is c.sync.ensures.calls
-
-pub returns-in-Append-clause-refused : goal.returns-in-Append-clause-refused
-returns-in-Append-clause-refused g c =
-    let alive = (either_false _ _ (sym c.is_failed.ensures ∙ c.if-is_failed.false)).0 in
-    rw c.in-Append.is (when_alive c.sync.result _ _ (c.sync.ensures.refusal alive))
-
-pub returns-in-Rewrite-clause-made : goal.returns-in-Rewrite-clause-made
-returns-in-Rewrite-clause-made g c = rw c.in-Rewrite.is c.sync-in-Rewrite.ensures.calls
-
-pub returns-in-Rewrite-clause-refused : goal.returns-in-Rewrite-clause-refused
-returns-in-Rewrite-clause-refused g c =
-    let alive = (either_false _ _ (sym c.is_failed.ensures ∙ c.if-is_failed.false)).1 in
-    rw c.in-Rewrite.is (when_alive c.sync-in-Rewrite.result _ _ (c.sync-in-Rewrite.ensures.refusal alive))

@@ -5,7 +5,7 @@ use Rattle.raft_log_engine_core.specs.Compacting.{entries_below}
 use Rattle.raft_log_record_base.specs.declared.pipe_log.LogQueue.TheVariants.{Append}
 use Rattle.raft_log_machine_laws.specs.Calls.Which.{InAppend}
 use Rattle.raft_log_dual_pipes.specs.LastFile.{last_of}
-use Rattle.raft_log_dual_pipes.proofs.Telling.{hears_none}
+use Rattle.raft_log_dual_pipes.proofs.Public.{hears_none}
 use Rattle.raft_log_engine_core.proofs.Hearing.{heard_compact, heard_nothing, heard_unsynced_less}
 use Rattle.raft_log_engine_core.proofs.Put.{compacts, not_compacted}
 use Rattle.raft_log_engine_core.proofs.ModelCalls.{compacted_or_not, had_failed}

@@ -4,7 +4,7 @@ use Rattle.raft_log_engine_core.specs.Reads.{IsToldAs}
 use Rattle.raft_log_engine_core.proofs.Entries.{fetch_told_as, runs_as}
 use Rattle.raft_log_engine_core.proofs.ModelCalls.{had_failed}
 use Rattle.raft_log_engine_core.proofs.ModelReads.{entries_fetched, entries_not_fetched}
-use Rattle.raft_log_memtables.proofs.Bare.{uncounted_bare}
+use Rattle.raft_log_memtables.proofs.Public.{uncounted_bare}
 use Rattle.raft_log_engine_core.proofs.engine.LogEngine.fetch_entries_to.Goals as goal
 
 pub returns-in-Err-clause-err : goal.returns-in-Err-clause-err

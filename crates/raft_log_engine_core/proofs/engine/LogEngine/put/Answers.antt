@@ -3,7 +3,7 @@ use Rattle.raft_log_purge.specs.raft_log_engine_laws.specs.EngineState.{shows}
 use Rattle.raft_log_record_base.specs.declared.pipe_log.LogQueue.TheVariants.{Append}
 use Rattle.raft_log_machine_laws.specs.Calls.Which.{InAppend}
 use Rattle.raft_log_dual_pipes.specs.LastFile.{last_of}
-use Rattle.raft_log_dual_pipes.proofs.Telling.{hears_none}
+use Rattle.raft_log_dual_pipes.proofs.Public.{hears_none}
 use Rattle.raft_log_engine_core.proofs.Hearing.{heard_kept}
 use Rattle.raft_log_engine_core.proofs.Put.{kept_record, kept_unrecorded, put_answers, put_refuses, refused_made, unfit_made, unfit_unrecorded}
 use Rattle.raft_log_engine_core.proofs.engine.LogEngine.put.Goals as goal

@@ -4,7 +4,7 @@ use Rattle.raft_log_memtable.specs.Table.{shown}
 use Rattle.raft_log_memtable.specs.Reads.{FetchRefused, places_between}
 use Rattle.raft_log_extents.specs.Counts.{sized}
 use Rattle.raft_log_memtable_index.specs.Shown.{Shown}
-use Rattle.raft_log_block_cache.proofs.Entries.{none_read}
+use Rattle.raft_log_block_cache.proofs.Public.{none_read}
 use Rattle.raft_log_purge.specs.raft_log_engine_laws.specs.Fetching.{AreToRead}
 use Rattle.raft_log_purge.specs.raft_log_engine_laws.specs.EngineState.{shows}
 use Rattle.raft_log_engine_core.specs.Reads.{entries_on}

@@ -1,4 +1,4 @@
-use Rattle.raft_log_purge.specs.raft_log_engine_laws.proofs.Exits.{sync_answers, sync_refuses}
+use Rattle.raft_log_purge.specs.raft_log_engine_laws.proofs.Public.{sync_answers, sync_refuses}
 use Rattle.raft_log_engine_core.proofs.ModelCalls.{synced}
 use Rattle.raft_log_engine_core.proofs.engine.LogEngine.sync.Goals as goal
 

@@ -6,7 +6,7 @@ use Rattle.raft_log_engine_core.specs.Touching.{WritesFiles}
 use Rattle.raft_log_record_base.specs.declared.pipe_log.LogQueue.TheVariants.{Append}
 use Rattle.raft_log_machine_laws.specs.Calls.Which.{InAppend}
 use Rattle.raft_log_dual_pipes.specs.LastFile.{last_of}
-use Rattle.raft_log_dual_pipes.proofs.Telling.{hears_none}
+use Rattle.raft_log_dual_pipes.proofs.Public.{hears_none}
 use Rattle.raft_log_engine_core.proofs.Hearing.{heard_not_synced, heard_synced, heard_unsynced}
 use Rattle.raft_log_engine_core.proofs.Put.{not_written as put_not_written, none_unsynced, none_unsynced_files, put_synced, put_synced_files, put_unsynced, put_unsynced_files, unsynced_made}
 use Rattle.raft_log_engine_core.proofs.ModelCalls.{had_failed, not_written, written}

@@ -5,7 +5,7 @@ use Rattle.raft_log_extents.specs.Bounds.{bounds_of}
 use Rattle.raft_log_extents.specs.Entries.{entries_between}
 use Rattle.raft_log_memtable.specs.Table.{shown}
 use Rattle.raft_log_block_cache.specs.Blocks.{AreUnread, ReadsEntries}
-use Rattle.raft_log_block_cache.proofs.Entries.{front_kept, kept_through, read_both, unread_behind, unread_front}
+use Rattle.raft_log_block_cache.proofs.Public.{front_kept, kept_through, read_both, unread_behind, unread_front}
 use Rattle.raft_log_engine_core.specs.Reads.{AreNext, LieNext, entries_on}
 use Rattle.raft_log_engine_core.proofs.Pieces.{next_lie, on_split}
 use Rattle.raft_log_engine_core.proofs.engine.entries.push_entries.Goals as goal

@@ -1,4 +1,4 @@
-use Rattle.raft_log_record_base.proofs.Faults.{decodes}
+use Rattle.raft_log_record_base.proofs.Public.{decodes}
 use Rattle.raft_log_file_format.proofs.Headers.{is_header}
 use Rattle.raft_log_file_format.proofs.header.LogFileFormat.decode.Goals as goal
 

@@ -1,6 +1,6 @@
 use Rattle.raft_log_record_base.specs.declared.pipe_log.LogQueue.TheVariants.{Append, Rewrite}
 use Rattle.raft_log_dual_pipes.specs.Telling.{files_found}
-use Rattle.raft_log_dual_pipes.proofs.Telling.{hears_on}
+use Rattle.raft_log_dual_pipes.proofs.Public.{hears_on}
 use Rattle.raft_log_file_listeners.proofs.told_pipes.ToldPipes.new.Goals as goal
 
 pub returns-clause-told : goal.returns-clause-told

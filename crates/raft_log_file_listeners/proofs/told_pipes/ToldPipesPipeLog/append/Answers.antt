@@ -4,7 +4,7 @@ use Rattle.raft_log_dual_pipes.specs.LastFile.{last_of}
 use Rattle.raft_log_dual_pipes.specs.Pipes.{which_of}
 use Rattle.raft_log_dual_pipes.specs.Telling.{files_begun}
 use Rattle.raft_log_dual_pipes.specs.Telling.Told.{RecordWritten}
-use Rattle.raft_log_dual_pipes.proofs.Telling.{both_hear_err, both_hear_ok, hears_all, hears_more, hears_on, hears_one}
+use Rattle.raft_log_dual_pipes.proofs.Public.{both_hear_err, both_hear_ok, hears_all, hears_more, hears_on, hears_one}
 use Rattle.raft_log_file_listeners.proofs.Tellings.{hears_begun}
 use Rattle.raft_log_file_listeners.proofs.told_pipes.ToldPipesPipeLog.append.Goals as goal
 
@@ -55,9 +55,6 @@ returns-in_default-clause-range g c = rw c.loop-seq.invariant.pipes c.append-ans
 pub returns-in_default-clause-refusal : goal.returns-in_default-clause-refusal
 returns-in_default-clause-refusal g c = rw c.loop-seq.invariant.pipes c.append-answer.ensures.refusal
 
-pub returns-in_default-clause-refused : goal.returns-in_default-clause-refused
-returns-in_default-clause-refused g c = rw c.loop-seq.invariant.pipes c.append-answer.ensures.refused
-
 pub returns-in_default-clause-grows : goal.returns-in_default-clause-grows
 returns-in_default-clause-grows g c = rw c.loop-seq.invariant.pipes c.append-answer.ensures.grows
 
@@ -69,6 +66,3 @@ returns-in-Ok-clause-goes_into g c = rw c.loop-seq.invariant.pipes c.append-answ
 
 pub returns-in-Ok-clause-calls : goal.returns-in-Ok-clause-calls
 returns-in-Ok-clause-calls g c = rw c.loop-seq.invariant.pipes c.append-answer.ensures.calls
-
-pub returns-in-Ok-clause-made : goal.returns-in-Ok-clause-made
-returns-in-Ok-clause-made g c = rw c.loop-seq.invariant.pipes c.append-answer.ensures.made

@@ -1,6 +1,6 @@
 use Rattle.std.specs.Prelude.{[], ◌∷◌}
 use Rattle.raft_log_dual_pipes.specs.Telling.Told.{RecordApplied}
-use Rattle.raft_log_dual_pipes.proofs.Telling.{both_hear, hears_one}
+use Rattle.raft_log_dual_pipes.proofs.Public.{both_hear, hears_one}
 use Rattle.raft_log_file_listeners.proofs.told_pipes.ToldPipesPipeLog.post_apply_memtables.Goals as goal
 
 pub returns-clause-told : goal.returns-clause-told

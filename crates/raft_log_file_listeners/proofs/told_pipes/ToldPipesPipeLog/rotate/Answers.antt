@@ -2,7 +2,7 @@ use Rattle.std.proofs.Common.{◌+◌, arith}
 use Rattle.raft_log_dual_pipes.specs.LastFile.{last_of}
 use Rattle.raft_log_dual_pipes.specs.Pipes.{which_of}
 use Rattle.raft_log_dual_pipes.specs.Telling.{files_begun}
-use Rattle.raft_log_dual_pipes.proofs.Telling.{both_hear, hears_all, hears_more}
+use Rattle.raft_log_dual_pipes.proofs.Public.{both_hear, hears_all, hears_more}
 use Rattle.raft_log_file_listeners.proofs.Tellings.{hears_begun}
 use Rattle.raft_log_file_listeners.proofs.told_pipes.ToldPipesPipeLog.rotate.Goals as goal
 
@@ -23,15 +23,6 @@ returns-clause-err g c = rw c.loop-seq.invariant.pipes c.rotate-answer.ensures.e
 
 pub returns-clause-calls : goal.returns-clause-calls
 returns-clause-calls g c = rw c.loop-seq.invariant.pipes c.rotate-answer.ensures.calls
-
-pub returns-clause-refusal : goal.returns-clause-refusal
-returns-clause-refusal g c = rw c.loop-seq.invariant.pipes c.rotate-answer.ensures.refusal
-
-pub returns-clause-made : goal.returns-clause-made
-returns-clause-made g c = rw c.loop-seq.invariant.pipes c.rotate-answer.ensures.made
-
-pub returns-clause-refused : goal.returns-clause-refused
-returns-clause-refused g c = rw c.loop-seq.invariant.pipes c.rotate-answer.ensures.refused
 
 pub returns-clause-told : goal.returns-clause-told
 returns-clause-told g c =

@@ -3,7 +3,7 @@ use Rattle.std.specs.Map.Iter.{deref_pair}
 use Rattle.std.proofs.lemmas.Bool.{false≢true}
 use Rattle.std.proofs.lemmas.List.{map-append}
 use Rattle.std.proofs.lemmas.Map.Iter.{iter_end}
-use Rattle.raft_log_fs_state.proofs.Listings.{Stands, stands_pushed}
+use Rattle.raft_log_fs_state.proofs.Public.{stands_pushed, Stands}
 use Rattle.raft_log_fs_memory.specs.Memory.{disk_of}
 use Rattle.raft_log_fs_memory.specs.Space.{LiesIn}
 use Rattle.raft_log_fs_memory.proofs.Space.{no_space}

@@ -1,6 +1,6 @@
 use Rattle.std.proofs.Common.{ℕ, List, map}
 use Rattle.std.specs.Map.Iter.{deref_pair}
-use Rattle.raft_log_fs_state.proofs.Listings.{Stands}
+use Rattle.raft_log_fs_state.proofs.Public.{Stands}
 use Rattle.raft_log_fs_memory.specs.Memory.{disk_of}
 use Rattle.raft_log_fs_memory.specs.Space.{LiesIn}
 use Rattle.raft_log_fs_memory.proofs.memory.MemoryFileSystem.free_for.Given as goal

@@ -2,8 +2,8 @@ use Rattle.std.proofs.Common.{rules, sym, subst, ◌∙◌, ◌≡◌, List, ℕ
 use Rattle.std.proofs.lemmas.Str.Pattern.{rfind_char}
 use Rattle.std.proofs.lemmas.Slice.Eq.{bytes_eq-Decides}
 use Rattle.raft_log_fs.specs.Disk.{IsPathIn}
-use Rattle.raft_log_fs.proofs.PathLaws.{no_path}
-use Rattle.raft_log_fs_state.proofs.Paths.{own_path, same_directory}
+use Rattle.raft_log_fs.proofs.Public.{no_path}
+use Rattle.raft_log_fs_state.proofs.Public.{own_path, same_directory}
 use Rattle.raft_log_fs_memory.proofs.memory.space.is_within.Goals as goal
 
 pub returns-in_default : goal.returns-in_default

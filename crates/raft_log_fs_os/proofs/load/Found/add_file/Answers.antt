@@ -1,7 +1,7 @@
 use Rattle.std.specs.Option.{option_map}
 use Rattle.std.proofs.Common.{ap, sym, subst, ◌≡◌, ℕ, None}
 use Rattle.raft_log_fs_state.specs.Held.{file_of, held_of}
-use Rattle.raft_log_fs_state.proofs.Whole.{some_file_held}
+use Rattle.raft_log_fs_state.proofs.Public.{some_file_held}
 use Rattle.raft_log_fs_os.proofs.Filling.{is_added}
 use Rattle.raft_log_fs_os.proofs.Resting.{rest_added, rest_alike, rest_filled}
 use Rattle.raft_log_fs_os.proofs.load.Found.add_file.Goals as goal

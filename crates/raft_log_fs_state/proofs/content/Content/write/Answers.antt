@@ -2,7 +2,7 @@ use Rattle.std.proofs.Common.{refl, sym, arith, ap, subst, ◌≡◌, ◌∙◌,
 use Rattle.std.specs.Prelude.{◌+◌, ◌≤◌, max, min, vec_len}
 use Rattle.std.proofs.lemmas.List.{length-take}
 use Rattle.raft_log_fs.specs.Disk.{grown, overwritten}
-use Rattle.raft_log_fs.proofs.ChangeLaws.{overwritten_torn}
+use Rattle.raft_log_fs.proofs.Public.{overwritten_torn}
 use Rattle.raft_log_fs_state.specs.Zeros.{HasZerosBehind}
 use Rattle.raft_log_fs_state.proofs.Behind.{front_grown, written_behind}
 use Rattle.raft_log_fs_state.proofs.Exits.{ok_then}

@@ -1,7 +1,7 @@
 use Rattle.std.proofs.Common.{rules, sym, ◌∙◌, ap, ◌≡◌, ℕ, List, Some, None, take, lit<}
 use Rattle.std.proofs.lemmas.Str.Pattern.{rfind_char}
 use Rattle.raft_log_fs_state.specs.Storage.{is_directory, node_at}
-use Rattle.raft_log_fs.proofs.PathLaws.{no_path}
+use Rattle.raft_log_fs.proofs.Public.{no_path}
 use Rattle.raft_log_fs_state.proofs.Paths.{own_path, same_directory}
 use Rattle.raft_log_fs_state.proofs.storage.Storage.has_directory.Goals as goal
 

@@ -5,7 +5,7 @@ use Rattle.std.specs.List.Sorted.{IsPermutation}
 use Rattle.std.specs.Option.{option_map}
 use Rattle.raft_log_fs.specs.Disk.{file_limit}
 use Rattle.raft_log_fs.specs.Image.{end_of, IsImage}
-use Rattle.raft_log_fs.proofs.ImageLaws.{image_is_sound}
+use Rattle.raft_log_fs.proofs.Public.{image_is_sound}
 use Rattle.raft_log_fs_state.specs.declared.files.Stored.{Stored}
 use Rattle.raft_log_fs_state.specs.declared.storage.Storage.{Storage}
 use Rattle.raft_log_fs_state.specs.Held.{Held, held_of, changes_in}

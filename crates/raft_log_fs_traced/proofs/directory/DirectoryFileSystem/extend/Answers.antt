@@ -8,8 +8,8 @@ use Rattle.raft_log_fs.specs.Image.{end_of}
 use Rattle.raft_log_fs.specs.Calls.{IsRight, Changes, SomeOf, none, after_change}
 use Rattle.raft_log_fs.specs.Arguments.{WrongWriter}
 use Rattle.raft_log_fs_state.specs.Storage.{contents_of}
-use Rattle.raft_log_fs_state.proofs.Exits.{ok_then}
-use Rattle.raft_log_fs_memory.proofs.Calls.{right_writer}
+use Rattle.raft_log_fs_state.proofs.Public.{ok_then}
+use Rattle.raft_log_fs_memory.proofs.Public.{right_writer}
 use Rattle.raft_log_fs_traced.specs.declared.device.Attempt.{Attempt}
 use Rattle.raft_log_fs_traced.specs.declared.device.Attempt.TheVariants as attempt
 use Rattle.raft_log_fs_traced.specs.Device.{Changed, attempted, noted, MayBeMade, undone_change}

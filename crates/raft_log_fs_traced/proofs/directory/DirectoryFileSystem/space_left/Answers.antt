@@ -6,7 +6,7 @@ use Rattle.raft_log_fs_state.specs.declared.storage.Node.{Node}
 use Rattle.raft_log_fs_state.specs.Listing.{IsChild}
 use Rattle.raft_log_fs_state.specs.Storage.{contents_of}
 use Rattle.raft_log_fs_memory.specs.Space.{size_at}
-use Rattle.raft_log_fs_memory.proofs.Space.{LeavesSoFar, so_far_skip, so_far_more, so_far_all}
+use Rattle.raft_log_fs_memory.proofs.Public.{so_far_all, so_far_more, so_far_skip, LeavesSoFar}
 use Rattle.raft_log_fs_traced.proofs.directory.DirectoryFileSystem.space_left.Goals as goal
 
 pub loop-path-preserved-in-Some-child : goal.loop-path-preserved-in-Some-child

@@ -1,5 +1,5 @@
 use Rattle.std.proofs.Common.{◌≡◌, ◌+◌, ap, ap₂, arith, length, nat_lt, sym, if◌then◌else◌, ◌∙◌}
-use Rattle.raft_log_model_laws.proofs.Cases.{if_false, if_true, lt_false, lt_true}
+use Rattle.raft_log_model_laws.proofs.Public.{if_false, if_true, lt_false, lt_true}
 use Rattle.raft_log_memtable_index.specs.Replayed.{left, with_newer}
 use Rattle.raft_log_memtable_index.specs.Keys.{keys_of}
 use Rattle.raft_log_memtable.specs.Replays.{under}

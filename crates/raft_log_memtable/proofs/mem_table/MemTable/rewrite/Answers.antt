@@ -1,7 +1,7 @@
 use Rattle.std.proofs.Common.{◌≡◌, ◌+◌, ◌-◌, ◌≤◌, ap, arith, drop, length, map, min, sym, take, ◌∙◌}
 use Rattle.raft_log_extents.specs.Blocks.{pieces}
 use Rattle.raft_log_extents.specs.Entries.{PlaceList, place_of, run_of}
-use Rattle.raft_log_extents.proofs.EntryPieces.{pieces_within}
+use Rattle.raft_log_extents.proofs.Public.{pieces_within}
 use Rattle.raft_log_memtable.specs.Moves.{gated, rewritten_by}
 use Rattle.raft_log_memtable.specs.Table.{shown}
 use Rattle.raft_log_memtable.specs.contracts.mem_table.MemTable.{the_view}

@@ -3,7 +3,7 @@ use Rattle.std.specs.BTreeMap.{get}
 use Rattle.std.specs.Ordering.{nat_cmp}
 use Rattle.raft_log_memtable_index.specs.Replayed.{LeavesHole, joined}
 use Rattle.raft_log_memtable.specs.Table.{replay_of}
-use Rattle.raft_log_memtable.proofs.Behind.{nothing_fits}
+use Rattle.raft_log_memtable.proofs.Public.{nothing_fits}
 use Rattle.raft_log_memtables.specs.Tables.{replayed_in, shown_in}
 use Rattle.raft_log_memtables.proofs.mem_tables.MemTables.join_table.Goals as goal
 

@@ -4,7 +4,7 @@ use Rattle.std.proofs.lemmas.List.{length-append, length_push}
 use Rattle.std.proofs.lemmas.Result.{err_from_is_err_and}
 use Rattle.raft_log_record_items.specs.declared.entry.EntryIndex.{EntryIndex}
 use Rattle.raft_log_record_items.specs.Writing.{KeepsFront}
-use Rattle.raft_log_record_items.proofs.Each.{keeps_more}
+use Rattle.raft_log_record_items.proofs.Public.{keeps_more}
 use Rattle.raft_log_record_batches.specs.Entries.{joined}
 use Rattle.raft_log_record_batches.proofs.EntriesFrom.{entry_more, run_end, text_more, texts_len, texts_part}
 use Rattle.raft_log_record_batches.proofs.log_batch.from_index.append_each.Goals as goal

@@ -7,7 +7,7 @@ use Rattle.raft_log_record_items.specs.declared.entry.EntryIndex.{EntryIndex}
 use Rattle.raft_log_record_items.specs.Message.{IsReadBack}
 use Rattle.raft_log_record_items.specs.Run.{unplaced_entry}
 use Rattle.raft_log_record_items.specs.Writing.{KeepsFront}
-use Rattle.raft_log_record_items.proofs.Each.{keeps_more}
+use Rattle.raft_log_record_items.proofs.Public.{keeps_more}
 use Rattle.raft_log_record_batches.specs.Entries.{joined, bytes_len}
 use Rattle.raft_log_record_batches.proofs.Entries.{message_more, message_sized, read_more, out_len, part_len}
 use Rattle.raft_log_record_batches.proofs.log_batch.messages.append_each.Goals as goal

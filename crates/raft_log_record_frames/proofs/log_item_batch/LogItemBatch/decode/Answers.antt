@@ -2,8 +2,7 @@ use Rattle.std.proofs.Common.{ℕ, List, Option, refl, sym, subst, ◌∙◌}
 use Rattle.std.proofs.lemmas.Result.{err_from_is_err_and}
 use Rattle.raft_log_record_base.specs.Fault.{Fault}
 use Rattle.raft_log_record_base.specs.Files.{signature_of}
-use Rattle.raft_log_record_base.proofs.Faults.{fails_of_ok}
-use Rattle.raft_log_record_base.proofs.Grammar.{ok_is}
+use Rattle.raft_log_record_base.proofs.Public.{fails_of_ok, ok_is}
 use Rattle.raft_log_record_items.specs.declared.item.LogItem.{LogItem}
 use Rattle.raft_log_record_items.specs.Placed.{placed}
 use Rattle.raft_log_record_frames.specs.Record.{IsFooterOf, placed_footer_of}

@@ -1,4 +1,4 @@
-use Rattle.raft_log_record_base.proofs.Faults.{decodes}
+use Rattle.raft_log_record_base.proofs.Public.{decodes}
 use Rattle.raft_log_record_items.proofs.Reading.{is_entries}
 use Rattle.raft_log_record_items.proofs.entry_indexes.EntryIndexes.decode.Goals as goal
 

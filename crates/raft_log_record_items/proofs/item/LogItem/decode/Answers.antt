@@ -1,4 +1,4 @@
-use Rattle.raft_log_record_base.proofs.Faults.{decodes}
+use Rattle.raft_log_record_base.proofs.Public.{decodes}
 use Rattle.raft_log_record_items.proofs.Reading.{is_item}
 use Rattle.raft_log_record_items.proofs.item.LogItem.decode.Goals as goal
 

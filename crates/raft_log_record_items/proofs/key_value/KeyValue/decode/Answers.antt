@@ -1,4 +1,4 @@
-use Rattle.raft_log_record_base.proofs.Faults.{decodes}
+use Rattle.raft_log_record_base.proofs.Public.{decodes}
 use Rattle.raft_log_record_items.proofs.Reading.{is_key_value}
 use Rattle.raft_log_record_items.proofs.key_value.KeyValue.decode.Goals as goal
 

@@ -1,7 +1,7 @@
 use Rattle.std.proofs.Common.{sym, ap, subst, [], Some}
-use Rattle.raft_log_machine_laws.proofs.TruthRaises.{no_word}
+use Rattle.raft_log_machine_laws.proofs.Public.{no_word}
 use Rattle.raft_log_memtable_index.specs.Replayed.{IsReplayed}
-use Rattle.raft_log_memtable_index.proofs.Replays.{read_nothing}
+use Rattle.raft_log_memtable_index.proofs.Public.{read_nothing}
 use Rattle.raft_log_memtable.specs.Replays.{in_append}
 use Rattle.raft_log_replay_context.specs.Noting.{IsNotedTo}
 use Rattle.raft_log_replay_context.proofs.context.MemTableRecoverContext.new.Goals as goal

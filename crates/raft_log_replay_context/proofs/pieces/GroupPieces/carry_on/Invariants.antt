@@ -3,7 +3,7 @@ use Rattle.std.specs.BTreeMap.{get}
 use Rattle.std.specs.Ordering.{nat_cmp}
 use Rattle.std.specs.Vec.Iter.{into_iter_items}
 use Rattle.raft_log_model_laws.specs.Fragments.{carried_on, completed}
-use Rattle.raft_log_model_laws.proofs.Chunks.{open_in}
+use Rattle.raft_log_model_laws.proofs.Public.{open_in}
 use Rattle.raft_log_replay_context.specs.OpenGroups.{begun_of}
 use Rattle.raft_log_replay_context.specs.Pieces.{groups_seen, head_in, left_open, unfinished_of, AllGroups, Reading}
 use Rattle.raft_log_replay_context.proofs.Fragments.{AreDistinct}

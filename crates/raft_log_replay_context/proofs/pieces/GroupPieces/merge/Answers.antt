@@ -3,8 +3,7 @@ use Rattle.std.proofs.lemmas.List.{map-append}
 use Rattle.std.specs.BTreeMap.{get}
 use Rattle.std.specs.Ordering.{nat_cmp}
 use Rattle.raft_log_model_laws.specs.Fragments.{carried_on, completed, head, then_head, unfinished}
-use Rattle.raft_log_model_laws.proofs.Heads.{head_append}
-use Rattle.raft_log_model_laws.proofs.LeftOpen.{unfinished_append}
+use Rattle.raft_log_model_laws.proofs.Public.{head_append, unfinished_append}
 use Rattle.raft_log_replay_context.specs.Pieces.{head_at, head_in, seen_by, unfinished_of, IsCompleted, Reading}
 use Rattle.raft_log_replay_context.proofs.CarryOn.{all_turned, same_heads}
 use Rattle.raft_log_replay_context.proofs.Fragments.{distinct, AreDistinct}

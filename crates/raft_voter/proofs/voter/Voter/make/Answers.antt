@@ -1,5 +1,5 @@
 use Rattle.std.proofs.Common.{◌≡◌, ◌<◌, ◌^◌, ◌∙◌, ap, sym, refl}
-use Rattle.raft_voter_outline.proofs.Deciding.{change_small, room_copies}
+use Rattle.raft_voter_outline.proofs.Public.{change_small, room_copies}
 use Rattle.raft_voter_outline.specs.Outlines.{ChangesEach, IsChangeOf, log_written, sent_of, without_bytes}
 use Rattle.raft_voter_outline.specs.Rules.{next}
 use Rattle.raft_voter_outline.specs.Runs.{bare}

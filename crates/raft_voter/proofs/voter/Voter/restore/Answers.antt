@@ -5,7 +5,7 @@ use Rattle.std.proofs.lemmas.Bool.Decides.{nat_tests}
 use Rattle.raft_voter_outline.specs.Restoring.{are_in_order, with_log}
 use Rattle.raft_voter_outline.specs.Outlines.{without_bytes}
 use Rattle.raft_voter_messages.specs.StoredForms.{stored_entry_fits}
-use Rattle.raft_voter_outline.proofs.Ordered.{last_in_range}
+use Rattle.raft_voter_outline.proofs.Public.{last_in_range}
 use Rattle.raft_voter.proofs.voter.Voter.restore.Goals as goal
 
 pub restore-requires-clause-small : goal.restore-requires-clause-small

@@ -1,5 +1,5 @@
 use Rattle.std.proofs.Common.{◌∙◌, ap, sym}
-use Rattle.raft_voter_outline.proofs.Deciding.{status-bare}
+use Rattle.raft_voter_outline.proofs.Public.{status-bare}
 use Rattle.raft_voter_outline.specs.State.{state_of}
 use Rattle.raft_voter.specs.Entries.{with_entries}
 use Rattle.raft_voter.proofs.Owning.{outline_is}

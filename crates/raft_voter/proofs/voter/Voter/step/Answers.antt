@@ -1,5 +1,5 @@
 use Rattle.std.proofs.Common.{◌≡◌}
-use Rattle.raft_voter_outline.proofs.Deciding.{answer_copies}
+use Rattle.raft_voter_outline.proofs.Public.{answer_copies}
 use Rattle.raft_voter_outline.specs.Outlines.{EntriesAreThere}
 use Rattle.raft_voter_outline.specs.Rules.{entries_between, reply}
 use Rattle.raft_voter_outline.specs.State.{State}

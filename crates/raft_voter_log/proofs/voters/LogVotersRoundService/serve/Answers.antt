@@ -2,7 +2,7 @@ use Rattle.std.proofs.Common.{◌≡◌, [], ap, refl}
 use Rattle.raft_voter.specs.Service.{TakesNothing}
 use Rattle.raft_voter.specs.declared.service.RoundFault.{RoundFault}
 use Rattle.raft_voter_log.proofs.Standing.{of_refusals}
-use Rattle.raft_voter_store.proofs.Serving.{answers_in, cuts_in, of_answer}
+use Rattle.raft_voter_store.proofs.Public.{answers_in, cuts_in, of_answer}
 use Rattle.raft_voter_log.proofs.voters.LogVotersRoundService.serve.Goals as goal
 
 pub returns-clause-ok : goal.returns-clause-ok

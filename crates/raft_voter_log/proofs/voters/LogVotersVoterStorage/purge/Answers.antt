@@ -6,7 +6,7 @@ use Rattle.raft_voter_log.proofs.voters.LogVotersVoterStorage.purge.Goals as goa
 
 pub returns-in-Ok-clause-keeps : goal.returns-in-Ok-clause-keeps
 returns-in-Ok-clause-keeps g c =
-    purged_keeps _ _ _ c.args.self.now (record c.args.self.now { store = c.maintain.new.self }) refl (ap outlines_in c.maintain.ensures.outlines) c.in-Ok.ensures.lived c.in-Ok.ensures.ok
+    purged_keeps _ _ _ c.args.self.now (record c.args.self.now { store = c.maintain.new.self }) refl (ap outlines_in c.maintain.ensures.others.0) c.in-Ok.ensures.lived c.in-Ok.ensures.ok
 
 pub returns-in-Ok-clause-purges : goal.returns-in-Ok-clause-purges
 returns-in-Ok-clause-purges g c =
@@ -14,24 +14,24 @@ returns-in-Ok-clause-purges g c =
 
 pub returns-in-Expired-clause-keeps : goal.returns-in-Expired-clause-keeps
 returns-in-Expired-clause-keeps g c =
-    refused_keeps _ _ _ c.args.self.now (record c.args.self.now { store = c.maintain.new.self }) refl (ap outlines_in c.maintain.ensures.outlines) c.in-Err.error c.in-Err.ensures.why c.in-Err.ensures.err
+    refused_keeps _ _ _ c.args.self.now (record c.args.self.now { store = c.maintain.new.self }) refl (ap outlines_in c.maintain.ensures.others.0) c.in-Err.error c.in-Err.ensures.why c.in-Err.ensures.err
 
 pub returns-in-Ok-must_rewrite_append_queue-clause-keeps : goal.returns-in-Ok-must_rewrite_append_queue-clause-keeps
 returns-in-Ok-must_rewrite_append_queue-clause-keeps g c =
-    purged_keeps _ _ _ c.args.self.now (record c.args.self.now { store = c.must_rewrite_append_queue.new.self }) refl (ap outlines_in c.must_rewrite_append_queue.ensures.outlines)
+    purged_keeps _ _ _ c.args.self.now (record c.args.self.now { store = c.must_rewrite_append_queue.new.self }) refl (ap outlines_in c.must_rewrite_append_queue.ensures.others.0)
     c.in-Ok-must_rewrite_append_queue.ensures.lived c.in-Ok-must_rewrite_append_queue.ensures.ok
 
 pub returns-in-RewriteAppend-clause-keeps : goal.returns-in-RewriteAppend-clause-keeps
 returns-in-RewriteAppend-clause-keeps g c =
-    refused_keeps _ _ _ c.args.self.now (record c.args.self.now { store = c.must_rewrite_append_queue.new.self }) refl (ap outlines_in c.must_rewrite_append_queue.ensures.outlines)
+    refused_keeps _ _ _ c.args.self.now (record c.args.self.now { store = c.must_rewrite_append_queue.new.self }) refl (ap outlines_in c.must_rewrite_append_queue.ensures.others.0)
     c.in-Err-must_rewrite_append_queue.error c.in-Err-must_rewrite_append_queue.ensures.why c.in-Err-must_rewrite_append_queue.ensures.err
 
 pub returns-in-Ok-must_rewrite_rewrite_queue-clause-keeps : goal.returns-in-Ok-must_rewrite_rewrite_queue-clause-keeps
 returns-in-Ok-must_rewrite_rewrite_queue-clause-keeps g c =
-    purged_keeps _ _ _ c.args.self.now (record c.args.self.now { store = c.must_rewrite_rewrite_queue.new.self }) refl (ap outlines_in c.must_rewrite_rewrite_queue.ensures.outlines)
+    purged_keeps _ _ _ c.args.self.now (record c.args.self.now { store = c.must_rewrite_rewrite_queue.new.self }) refl (ap outlines_in c.must_rewrite_rewrite_queue.ensures.others.0)
     c.in-Ok-must_rewrite_rewrite_queue.ensures.lived c.in-Ok-must_rewrite_rewrite_queue.ensures.ok
 
 pub returns-clause-keeps : goal.returns-clause-keeps
 returns-clause-keeps g c =
-    refused_keeps _ _ _ c.args.self.now (record c.args.self.now { store = c.must_rewrite_rewrite_queue.new.self }) refl (ap outlines_in c.must_rewrite_rewrite_queue.ensures.outlines)
+    refused_keeps _ _ _ c.args.self.now (record c.args.self.now { store = c.must_rewrite_rewrite_queue.new.self }) refl (ap outlines_in c.must_rewrite_rewrite_queue.ensures.others.0)
     c.in-Err-must_rewrite_rewrite_queue.error c.in-Err-must_rewrite_rewrite_queue.ensures.why c.in-Err-must_rewrite_rewrite_queue.ensures.err

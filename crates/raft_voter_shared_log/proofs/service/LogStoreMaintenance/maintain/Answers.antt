@@ -1,15 +1,12 @@
 use Rattle.std.proofs.Common.{ap, refl}
 use Rattle.raft_voter_outline.specs.Kept.{outlines_in}
-use Rattle.raft_voter_log.proofs.Purging.{purged_keeps, refused_keeps}
-use Rattle.raft_voter_shared_log.proofs.Keeping.{purged_fails, refused_fails, served_as}
+use Rattle.raft_voter_shared_log.proofs.Keeping.{purged_serves, refused_serves}
 use Rattle.raft_voter_shared_log.proofs.service.LogStoreMaintenance.maintain.Goals as goal
 
 pub returns-in-Ok-clause-keeps : goal.returns-in-Ok-clause-keeps
 returns-in-Ok-clause-keeps g c =
-    served_as _ _ _ (purged_keeps _ _ _ c.args.self.now (record c.args.self.now { store = c.maintain.new.self }) refl (ap outlines_in c.maintain.ensures.outlines) c.in-Ok.ensures.lived c.in-Ok.ensures.ok)
-    (purged_fails _ _ _ c.args.self.now (record c.args.self.now { store = c.maintain.new.self }) c.in-Ok.ensures.ok)
+    purged_serves _ _ _ c.args.self.now (record c.args.self.now { store = c.maintain.new.self }) refl (ap outlines_in c.maintain.ensures.others.0) c.in-Ok.ensures.lived c.in-Ok.ensures.ok
 
 pub returns-in-Err-clause-keeps : goal.returns-in-Err-clause-keeps
 returns-in-Err-clause-keeps g c =
-    served_as _ _ _ (refused_keeps _ _ _ c.args.self.now (record c.args.self.now { store = c.maintain.new.self }) refl (ap outlines_in c.maintain.ensures.outlines) c.in-Err.error c.in-Err.ensures.why c.in-Err.ensures.err)
-    (refused_fails _ _ _ c.args.self.now (record c.args.self.now { store = c.maintain.new.self }) c.in-Err.error c.in-Err.ensures.why)
+    refused_serves _ _ _ c.args.self.now (record c.args.self.now { store = c.maintain.new.self }) refl (ap outlines_in c.maintain.ensures.others.0) c.in-Err.error c.in-Err.ensures.why c.in-Err.ensures.err

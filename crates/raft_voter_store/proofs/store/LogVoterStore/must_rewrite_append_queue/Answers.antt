@@ -1,10 +1,9 @@
-use Rattle.std.proofs.lemmas.Result.{IfErr-weaker, on_ok_weaker}
-use Rattle.raft_voter_durability_laws.specs.raft_log_engine_laws.proofs.Settling.{settled_held}
+use Rattle.raft_voter_durability_laws.specs.raft_log_engine_laws.proofs.Public.{settled_held}
 use Rattle.raft_voter_store.proofs.Upkeep.{map_kept, rewrite_stopped}
 use Rattle.raft_voter_store.proofs.store.LogVoterStore.must_rewrite_append_queue.Goals as goal
 
-pub returns-clause-ok : goal.returns-clause-ok
-returns-clause-ok g c = on_ok_weaker c.must_rewrite_append_queue.result (λ done. map_kept _ _ (λ home log pending holds. settled_held home _ _ (done.settles home log pending holds))) c.must_rewrite_append_queue.ensures.ok
+pub returns-in-Ok-clause-ok : goal.returns-in-Ok-clause-ok
+returns-in-Ok-clause-ok g c = map_kept _ _ (λ home log pending holds. settled_held home _ _ (c.in-Ok.ensures.ok.settles home log pending holds))
 
-pub returns-clause-err : goal.returns-clause-err
-returns-clause-err g c = IfErr-weaker c.must_rewrite_append_queue.result _ _ (λ error stops. rewrite_stopped error _ _ stops) c.must_rewrite_append_queue.ensures.err
+pub returns-in-Err-clause-err : goal.returns-in-Err-clause-err
+returns-in-Err-clause-err g c = rewrite_stopped c.in-Err.error _ _ c.in-Err.ensures.err

@@ -1,6 +1,6 @@
 use Rattle.raft_voter_outline.specs.Kept.{outlines_in}
 use Rattle.raft_log_engine.specs.raft_log_engine_core.specs.Reads.{shows_of}
-use Rattle.raft_voter_durability_laws.proofs.Fetching.{engines_are_counted}
+use Rattle.raft_voter_durability_laws.proofs.Public.{engines_are_counted}
 use Rattle.raft_voter_store.proofs.Taking.{read_done, read_failed, read_refused}
 use Rattle.raft_voter_store.proofs.store.LogVoterStore.read.Goals as goal
 

@@ -1,7 +1,12 @@
-use Rattle.std.proofs.Common.{refl, ap, length, ◌∙◌}
+use Rattle.std.proofs.Common.{◌≡◌, Bool, true, refl, sym, ap, length, ◌∙◌}
 use Rattle.raft_log_engine.specs.raft_log_engine_core.specs.Reads.{shows_of}
+use Rattle.raft_log_engine.specs.raft_log_engine_laws.specs.EngineState.{has_failed}
 use Rattle.raft_voter.specs.Service.{refused_from}
 use Rattle.raft_voter_outline.specs.Kept.{outlines_in}
+use Rattle.raft_voter_store.specs.Counting.{with_round}
+use Rattle.raft_voter_store.specs.declared.counters.WorkCounters.{WorkCounters}
+use Rattle.raft_voter_store.specs.declared.store.LogVoterStore.{LogVoterStore}
+use Rattle.raft_voter_store.proofs.Counting.{counts_round, ends_synced, ends_unwritten}
 use Rattle.raft_voter_store.proofs.Rounds.{answered_synced, answered_unwritten, cut_at, cut_unsynced, excused_synced}
 use Rattle.raft_voter_store.proofs.Silence.{never}
 use Rattle.raft_voter_store.proofs.store.LogVoterStore.serve.Goals.{then-wrote+in-Ok-sync, else-wrote}
@@ -49,8 +54,15 @@ returns-clause-all g c = ap (λ told. length told) c.from_vec.ensures ∙ c.in-S
 pub returns-in_default-sync-clause-quiet : goal.returns-in_default-sync-clause-quiet
 returns-in_default-sync-clause-quiet g c = λ V are all. never c.in-Some.wrote c.if-wrote.true (c.in-Some.ensures.unwritten V are all)
 
-pub returns-in_default-sync-clause-idle : goal.returns-in_default-sync-clause-idle
-returns-in_default-sync-clause-idle g c = λ none V are all. never c.in-Some.wrote c.if-wrote.true (c.in-Some.ensures.unwritten V are all)
+pub returns-in_default-take_all-clause-unmoved : goal.returns-in_default-take_all-clause-unmoved
+returns-in_default-take_all-clause-unmoved g c = λ none V are all.
+    let shown = g.P.PipeLog.shown in
+    let same = c.take_all.ensures.idle none V are all in
+    let failed : has_failed (shows_of shown c.take_all.new.self.engine) ≡ true = (c.in_default-take_all.ensures.broke refl).broke.failed in
+    never _ failed (ap (λ store. has_failed (shows_of shown store.engine)) same ∙ sym c.is_failed.ensures ∙ c.if-is_failed.false)
+
+pub returns-in_default-sync-clause-unmoved : goal.returns-in_default-sync-clause-unmoved
+returns-in_default-sync-clause-unmoved g c = λ none V are all. never c.in-Some.wrote c.if-wrote.true (c.in-Some.ensures.unwritten V are all)
 
 pub returns-clause-quiet : goal.returns-clause-quiet
 returns-clause-quiet g c = λ V are all. elim c.if-wrote.branch [
@@ -61,5 +73,27 @@ returns-clause-quiet g c = λ V are all. elim c.if-wrote.branch [
 pub returns-clause-idle : goal.returns-clause-idle
 returns-clause-idle g c = λ none V are all. elim c.if-wrote.branch [
   | then-wrote+in-Ok-sync w ↦ never c.in-Some.wrote w.if-wrote.true (c.in-Some.ensures.unwritten V are all)
-  | else-wrote w ↦ rw (w.self-is) (c.take_all.ensures.idle none V are all)
+  | else-wrote w ↦
+      let same = c.take_all.ensures.idle none V are all in
+      let silent = c.in-Some.ensures.unwritten V are all in
+      ap (λ (store : LogVoterStore _). record store { work = c.with_round-self-2.result }) (w.self-is ∙ same)
+      ∙ ap (λ (work : WorkCounters). record c.args.self.now { work = work }) (c.with_round-self-2.ensures ∙ ap (λ (b : Bool). with_round c.args.self.now.work (length c.args.requests.now) b) silent)
 ]
+
+pub returns-clause-counted : goal.returns-clause-counted
+returns-clause-counted g c =
+    let shown = g.P.PipeLog.shown in
+    let s = shows_of shown c.args.self.now.engine in
+    let t = shows_of shown c.take_all.new.self.engine in
+    let os = outlines_in c.args.self.now.outlines in
+    let us = outlines_in c.take_all.new.self.outlines in
+    let qs = c.args.requests.now in
+    let told = c.take_all.new.replies.items in
+    let wrote = c.in-Some.wrote in
+    let old = c.args.self.now.work in
+    elim c.if-wrote.branch [
+      | then-wrote+in-Ok-sync w ↦ rw (c.from_vec.ensures, w.self-is)
+          (counts_round qs told wrote s t (shows_of shown w.sync.new.self) os us old c.with_round-self-2.result c.in-Some.ensures.went (ends_synced wrote t _ w.if-wrote.true w.in-Ok-sync.ensures.ok) c.with_round-self-2.ensures)
+      | else-wrote w ↦ rw (c.from_vec.ensures, w.self-is)
+          (counts_round qs told wrote s t t os us old c.with_round-self-2.result c.in-Some.ensures.went (ends_unwritten wrote t w.if-wrote.false) c.with_round-self-2.ensures)
+    ]

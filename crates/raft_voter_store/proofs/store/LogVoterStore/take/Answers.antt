@@ -5,7 +5,7 @@ use Rattle.raft_voter_outline.specs.declared.outline.decision.Answer.{Answer}
 use Rattle.raft_voter_outline.specs.declared.outline.decision.Change.{Change}
 use Rattle.raft_voter_outline.specs.Outlines.{ChangesEach, IsReplyOfEach, LeavesEach}
 use Rattle.raft_voter_outline.specs.Kept.{outlines_in}
-use Rattle.raft_voter_durability_laws.proofs.Serving.{told_requests_are_served}
+use Rattle.raft_voter_durability_laws.proofs.Public.{told_requests_are_served}
 use Rattle.raft_voter_store.proofs.Silence.{reads_none}
 use Rattle.raft_voter_store.proofs.store.LogVoterStore.take.Goals as goal
 

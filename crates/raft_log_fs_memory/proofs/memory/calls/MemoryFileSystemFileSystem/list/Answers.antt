@@ -1,7 +1,7 @@
 use Rattle.std.proofs.Common.{refl, map}
 use Rattle.std.specs.String.{string_bytes}
 use Rattle.raft_log_fs_memory.specs.Memory.{disk_of}
-use Rattle.raft_log_fs_state.proofs.Listings.{listing}
+use Rattle.raft_log_fs_state.proofs.Public.{listing}
 use Rattle.raft_log_fs_memory.proofs.memory.calls.MemoryFileSystemFileSystem.list.Goals as goal
 
 pub returns-in-Ok-clause-ok : goal.returns-in-Ok-clause-ok

@@ -10,7 +10,7 @@ use Rattle.raft_log_fs_state.specs.declared.storage.Storage.{Storage}
 use Rattle.raft_log_fs_state.specs.Storage.{contents_of, unsynced_of, node_at, file_named, is_directory}
 use Rattle.raft_log_fs_memory.specs.Memory.{disk_of, unsynced, kept, with_moved}
 use Rattle.raft_log_fs_memory.specs.Answers.{order_without_replaced}
-use Rattle.raft_log_fs_state.proofs.Exits.{ok_then, err_then}
+use Rattle.raft_log_fs_state.proofs.Public.{err_then, ok_then}
 use Rattle.raft_log_fs_memory.proofs.Turns.{over, fallen, fell, call_turn, call_order, call_cause}
 use Rattle.raft_log_fs_memory.proofs.Calls.{refused_whole, call_ok, call_err, done_or_not, right_rename}
 use Rattle.raft_log_fs_memory.proofs.memory.calls.MemoryFileSystemFileSystem.rename.Goals as goal

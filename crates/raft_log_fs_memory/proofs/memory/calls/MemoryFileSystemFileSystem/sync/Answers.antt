@@ -9,7 +9,7 @@ use Rattle.raft_log_fs_state.specs.declared.storage.Storage.{Storage}
 use Rattle.raft_log_fs_state.specs.Storage.{contents_of, unsynced_of}
 use Rattle.raft_log_fs_memory.specs.Memory.{disk_of, kept}
 use Rattle.raft_log_fs_memory.specs.Answers.{SyncsAll, order_without}
-use Rattle.raft_log_fs_state.proofs.Exits.{ok_then, err_then}
+use Rattle.raft_log_fs_state.proofs.Public.{err_then, ok_then}
 use Rattle.raft_log_fs_memory.proofs.Turns.{over, fallen, fell, call_turn, call_order, call_cause}
 use Rattle.raft_log_fs_memory.proofs.Calls.{refused_whole, call_ok, call_err, changed_or_not, right_handle}
 use Rattle.raft_log_fs_memory.proofs.memory.calls.MemoryFileSystemFileSystem.sync.Goals as goal

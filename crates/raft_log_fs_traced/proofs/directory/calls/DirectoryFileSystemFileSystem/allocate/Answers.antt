@@ -3,7 +3,7 @@ use Rattle.raft_log_fs.specs.Disk.{GrewTo}
 use Rattle.raft_log_fs.specs.Calls.{Changes, SomeOf, none, after_change}
 use Rattle.raft_log_fs.specs.Arguments.{WrongWriter}
 use Rattle.raft_log_fs_state.specs.Storage.{contents_of}
-use Rattle.raft_log_fs_memory.proofs.Calls.{right_writer}
+use Rattle.raft_log_fs_memory.proofs.Public.{right_writer}
 use Rattle.raft_log_fs_traced.specs.Directory.{disk_of, with_failures}
 use Rattle.raft_log_fs_traced.proofs.Made.{failed_once}
 use Rattle.raft_log_fs_traced.proofs.directory.calls.DirectoryFileSystemFileSystem.allocate.Goals as goal

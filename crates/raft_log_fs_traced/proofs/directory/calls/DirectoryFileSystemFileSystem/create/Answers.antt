@@ -4,7 +4,7 @@ use Rattle.raft_log_fs.specs.Disk.{HasDirectory}
 use Rattle.raft_log_fs.specs.Calls.{Nothing, Creates}
 use Rattle.raft_log_fs.specs.Arguments.{WrongCreate}
 use Rattle.raft_log_fs_state.specs.Storage.{contents_of, node_at, file_named, is_directory}
-use Rattle.raft_log_fs_memory.proofs.Calls.{right_create}
+use Rattle.raft_log_fs_memory.proofs.Public.{right_create}
 use Rattle.raft_log_fs_traced.specs.Device.{Created}
 use Rattle.raft_log_fs_traced.specs.Directory.{disk_of, with_failures}
 use Rattle.raft_log_fs_traced.proofs.Made.{made_of, made_err, told_then, failed_once, later_follows, later_sound, did_create}

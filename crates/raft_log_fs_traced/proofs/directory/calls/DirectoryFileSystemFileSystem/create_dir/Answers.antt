@@ -2,7 +2,7 @@ use Rattle.std.proofs.Common.{rules, refl, ap, ◌≡◌, None}
 use Rattle.raft_log_fs.specs.Calls.{Nothing, MakesDirectory}
 use Rattle.raft_log_fs.specs.Arguments.{WrongDirectory}
 use Rattle.raft_log_fs_state.specs.Storage.{contents_of, node_at, file_named, is_directory}
-use Rattle.raft_log_fs_memory.proofs.Calls.{right_directory}
+use Rattle.raft_log_fs_memory.proofs.Public.{right_directory}
 use Rattle.raft_log_fs_traced.specs.Device.{MadeDirectory}
 use Rattle.raft_log_fs_traced.specs.Directory.{disk_of, with_failures}
 use Rattle.raft_log_fs_traced.proofs.Made.{made_of, made_ok, made_err, told_ok, told_err, failed_once, later_follows, later_sound}

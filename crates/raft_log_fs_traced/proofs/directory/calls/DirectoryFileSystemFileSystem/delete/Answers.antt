@@ -2,7 +2,7 @@ use Rattle.std.proofs.Common.{rules, refl, ap, ◌≡◌, Some}
 use Rattle.raft_log_fs.specs.Calls.{Nothing, Deletes}
 use Rattle.raft_log_fs.specs.Arguments.{WrongName}
 use Rattle.raft_log_fs_state.specs.Storage.{contents_of}
-use Rattle.raft_log_fs_memory.proofs.Calls.{right_name}
+use Rattle.raft_log_fs_memory.proofs.Public.{right_name}
 use Rattle.raft_log_fs_traced.specs.Device.{Deleted}
 use Rattle.raft_log_fs_traced.specs.Directory.{disk_of, with_failures}
 use Rattle.raft_log_fs_traced.proofs.Made.{made_of, made_err, told_err, later_follows, later_sound, did_delete}

@@ -1,7 +1,7 @@
 use Rattle.std.proofs.Common.{ap, ◌∙◌, map}
 use Rattle.std.specs.String.{string_bytes}
 use Rattle.raft_log_fs.specs.Disk.{Disk}
-use Rattle.raft_log_fs_state.proofs.Listings.{listing}
+use Rattle.raft_log_fs_state.proofs.Public.{listing}
 use Rattle.raft_log_fs_traced.specs.Directory.{disk_of}
 use Rattle.raft_log_fs_traced.proofs.directory.calls.DirectoryFileSystemFileSystem.list.Goals as goal
 

@@ -2,7 +2,7 @@ use Rattle.std.proofs.Common.{refl, ap, ◌∙◌, arith}
 use Rattle.std.specs.Option.{option_map}
 use Rattle.raft_log_fs.specs.Disk.{Disk}
 use Rattle.raft_log_fs_state.specs.Held.{held_of, file_of}
-use Rattle.raft_log_fs_memory.proofs.Calls.{held_there}
+use Rattle.raft_log_fs_memory.proofs.Public.{held_there}
 use Rattle.raft_log_fs_traced.proofs.directory.calls.DirectoryFileSystemFileSystem.read_at.Goals as goal
 
 pub returns-clause-within : goal.returns-clause-within

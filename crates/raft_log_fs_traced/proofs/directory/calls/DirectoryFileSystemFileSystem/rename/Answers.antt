@@ -3,7 +3,7 @@ use Rattle.raft_log_fs.specs.Disk.{HasDirectory}
 use Rattle.raft_log_fs.specs.Calls.{Nothing, Renames}
 use Rattle.raft_log_fs.specs.Arguments.{WrongRename}
 use Rattle.raft_log_fs_state.specs.Storage.{contents_of, node_at, is_directory}
-use Rattle.raft_log_fs_memory.proofs.Calls.{right_rename}
+use Rattle.raft_log_fs_memory.proofs.Public.{right_rename}
 use Rattle.raft_log_fs_traced.specs.Device.{Renamed}
 use Rattle.raft_log_fs_traced.specs.Directory.{disk_of, with_failures}
 use Rattle.raft_log_fs_traced.proofs.Made.{made_of, made_ok, made_err, told_ok, told_err, failed_once, later_follows, later_sound, did_rename}

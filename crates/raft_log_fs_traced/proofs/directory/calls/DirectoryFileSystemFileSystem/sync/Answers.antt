@@ -2,7 +2,7 @@ use Rattle.std.proofs.Common.{refl}
 use Rattle.raft_log_fs.specs.Calls.{Nothing, Changes, flushed}
 use Rattle.raft_log_fs.specs.Arguments.{WrongHandle}
 use Rattle.raft_log_fs_state.specs.Storage.{contents_of}
-use Rattle.raft_log_fs_memory.proofs.Calls.{right_handle}
+use Rattle.raft_log_fs_memory.proofs.Public.{right_handle}
 use Rattle.raft_log_fs_traced.specs.Directory.{disk_of, with_failures}
 use Rattle.raft_log_fs_traced.proofs.Made.{made_ok, made_err, told_ok, told_err, failed_once, later_follows, later_sound}
 use Rattle.raft_log_fs_traced.proofs.Files.{makes_sync, sync_made}

@@ -3,7 +3,7 @@ use Rattle.raft_log_fs.specs.Disk.{Wrote}
 use Rattle.raft_log_fs.specs.Calls.{Changes, SomeOf, none, after_change}
 use Rattle.raft_log_fs.specs.Arguments.{WrongWriter}
 use Rattle.raft_log_fs_state.specs.Storage.{contents_of}
-use Rattle.raft_log_fs_memory.proofs.Calls.{right_writer}
+use Rattle.raft_log_fs_memory.proofs.Public.{right_writer}
 use Rattle.raft_log_fs_traced.specs.Directory.{disk_of, with_failures}
 use Rattle.raft_log_fs_traced.proofs.Made.{made_ok, made_err, told_ok, told_err, failed_once, later_follows, later_sound}
 use Rattle.raft_log_fs_traced.proofs.Files.{makes_change, change_made}

@@ -1,0 +1,2 @@
+-- The lemmas that other crates may import. `tools/names` fails on an import of any other module of these proofs.
+pub use Rattle.raft_voter_recovery.proofs.Telling.{stays_at_first, stays_on}

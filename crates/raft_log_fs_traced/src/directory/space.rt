@@ -19,13 +19,14 @@ impl<D: Device> DirectoryFileSystem<D> {
     ghost use Rattle.std.specs.Str.{bytes_eq};
     ghost use Rattle.raft_log_fs_state.specs.Storage.{contents_of};
     ghost use Rattle.raft_log_fs_memory.specs.Space.{size_at, HasUsed, IsFree};
-    ghost use Rattle.raft_log_fs_traced.specs.Directory.{disk_of};
+    ghost use Rattle.raft_log_fs_traced.specs.Directory.{calls_of, disk_of};
     ghost use Rattle.raft_log_fs_traced.specs.Space.{spaces_of, full_of, TellsFree};
 
     /// Sets how many bytes the files of a directory may have in all, replacing an earlier number. `free_space` returns
     /// what is left of it; no call fails because of it. Fails only if memory runs out; then nothing changes.
     pub fn set_space(&mut self, directory: &str, bytes: u64) -> Result<(), AllocError>
         ensures same { disk_of D.Device self.new ≡ disk_of D.Device self.old }
+        ensures calls { calls_of D.Device self.new ≡ calls_of D.Device self.old }
         ensures ok { OnOk result (spaces_of D.Device self.new
             ≡ update bytes_eq (spaces_of D.Device self.old) directory.now (Some bytes)) }
         ensures err { OnErr result (spaces_of D.Device self.new ≡ spaces_of D.Device self.old) }

@@ -13,6 +13,27 @@ use raft_log_record_base::{Error, ReadableSize, Result, Version};
 use std::alloc::{AllocError, Global};
 use toml::{Table, Value};
 
+/// The keys of settings.
+const SETTINGS: [&str; 17] = [
+    "dir",
+    "dir-limit",
+    "spill-dir",
+    "spill-dir-limit",
+    "recovery-mode",
+    "recovery-read-block-size",
+    "recovery-threads",
+    "bytes-per-sync",
+    "format-version",
+    "target-file-size",
+    "purge-threshold",
+    "purge-rewrite-threshold",
+    "purge-rewrite-garbage-ratio",
+    "memory-limit",
+    "enable-log-recycle",
+    "prefill-for-recycle",
+    "prefill-limit",
+];
+
 /// The number in a value.
 fn number_of(value: &Value) -> Option<u64>
     ensures { result ≡ number_of (view value.now) }
@@ -290,14 +311,7 @@ pub fn dropped_in(alloc: Global, table: &Table) -> std::result::Result<Vec<Strin
 fn is_setting(key: &str) -> bool
     ensures { result ≡ is_setting key.now }
 {
-    match key {
-        "dir" | "dir-limit" | "spill-dir" | "spill-dir-limit" => true,
-        "recovery-mode" | "recovery-read-block-size" => true,
-        "recovery-threads" | "bytes-per-sync" | "format-version" | "target-file-size" => true,
-        "purge-threshold" | "purge-rewrite-threshold" | "purge-rewrite-garbage-ratio" => true,
-        "memory-limit" | "enable-log-recycle" | "prefill-for-recycle" | "prefill-limit" => true,
-        _ => false,
-    }
+    SETTINGS.iter().any(|&setting| key == setting)
 }
 
 /// What a table sets for recycling.

@@ -33,7 +33,7 @@ BOXES = [
      ["voter", "voter_outline", "voter_messages", "voter_plain", "voter_group_laws"], "Voter::step, judge, one_vote_per_term,"
      " terms_never_fall, matched_entries_stand, repeat_is_idempotent, group_isolation"),
     (204, 330, 652, 86, "#dbe9fb", "Engine", "write, sync, read, purge, close", "raft_log_",
-     ["engine", "engine_core", "shared"], "LogEngine::write, LogEngine::purge_expired_files"),
+     ["engine", "engine_core", "engine_os", "shared"], "LogEngine::write, LogEngine::purge_expired_files"),
     (204, 424, 276, 103, "#e4f0fd", "Purge", "copies what is live, then deletes files", "raft_log_",
      ["purge", "purge_steps", "purge_policy", "purge_copy"], "PurgesAndCounts"),
     (488, 424, 368, 103, "#e4f0fd", "Open", "recovers files; checks and forks logs", "raft_log_",

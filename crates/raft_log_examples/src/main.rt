@@ -17,10 +17,9 @@ use asking::{Asked, Example, USAGE};
 use keeping::keep_lines;
 use log::Log;
 use playing::live_twice;
-use raft_log_engine::{FileSystem, MemoryFileSystem};
-use raft_log_fs_os::{
-    DirectoryFault, DirectoryFileSystem, FileDevice, make_directory, open_directories,
-};
+use raft_log_engine::{Config, FileSystem, MemoryFileSystem};
+use raft_log_engine_os::open_files;
+use raft_log_fs_os::{DirectoryFault, DirectoryFileSystem, FileDevice};
 use saving::save_and_print;
 use std::fs::File;
 use std::io;
@@ -71,8 +70,9 @@ fn files<R: Files<File = File> + Threads + Eprint + AllocGlobal + Clone + Sync +
     rt: &R,
     directory: &str,
 ) -> Result<DirectoryFileSystem<FileDevice<R>>, DirectoryFault> {
-    make_directory(rt, directory)?;
-    open_directories(rt, directory, None)
+    let mut config = Config::default(rt.alloc());
+    config.dir = String::from_str(rt.alloc(), directory)?;
+    open_files(rt, &config)
 }
 
 /// The exit after an example; prints why it failed.
@@ -94,8 +94,7 @@ fn exit_after(usage: io::Result<()>, status: u8) -> ExitCode {
     }
 }
 
-// An open lends its file system to threads. One over real directories is therefore passed on here, where the runtime
-// isn't a parameter.
+// An open lends its file system to threads. `proofs/main/Answers.antt` proves that one over real directories may be lent.
 fn main(rt: HostRuntime) -> ExitCode {
     let (example, directory) = match Asked::read(&rt) {
         Ok(Asked::InMemory(example)) => return exit(&rt, play_in_memory(&rt, example)),

@@ -13,15 +13,13 @@ mod settings;
 use asking::{Asked, USAGE};
 use log::Log;
 use raft_log_engine::{Config, FileSystem};
-use raft_log_fs_os::{DirectoryFileSystem, FileDevice, make_directory, open_directories};
+use raft_log_engine_os::open_files;
 use raft_voter_node::run;
 use refusal::Refusal;
 use settings::settings;
-use std::fs::File;
 use std::io;
 use std::io::{BufReader, Eprint, Input, Print};
 use std::process::ExitCode;
-use std::rt::Files;
 use std::thread::Threads;
 use std::time::Clock;
 
@@ -30,19 +28,6 @@ const REFUSED: u8 = 1;
 
 /// The status for wrong arguments.
 const WRONG_ARGUMENTS: u8 = 2;
-
-/// The file system over the directories of these settings, which are created if they do not exist.
-fn files<R: Files<File = File> + Threads + Eprint + AllocGlobal + Clone + Sync + Drop>(
-    rt: &R,
-    config: &Config,
-) -> Result<DirectoryFileSystem<FileDevice<R>>, Refusal> {
-    make_directory(rt, config.dir.as_str())?;
-    let Some(spill) = &config.spill_dir else {
-        return Ok(open_directories(rt, config.dir.as_str(), None)?);
-    };
-    make_directory(rt, spill.as_str())?;
-    Ok(open_directories(rt, config.dir.as_str(), Some(spill.as_str()))?)
-}
 
 /// Runs the node over these files.
 fn serve<
@@ -74,8 +59,7 @@ fn refused<R: Eprint>(rt: &R, refusal: &Refusal) -> ExitCode {
     exit_after(eprintln!(rt; "raftnode: {refusal}"), REFUSED)
 }
 
-// An open lends its file system to threads. One over real directories is therefore passed on here, where the runtime
-// isn't a parameter.
+// An open lends its file system to threads. `proofs/main/Answers.antt` proves that one over real directories may be lent.
 fn main(rt: HostRuntime) -> ExitCode {
     let (directory, file) = match Asked::read(&rt) {
         Ok(Asked::Node(directory, file)) => (directory, file),
@@ -87,9 +71,9 @@ fn main(rt: HostRuntime) -> ExitCode {
         Ok(config) => config,
         Err(refusal) => return refused(&rt, &refusal),
     };
-    let files = match files(&rt, &config) {
+    let files = match open_files(&rt, &config) {
         Ok(files) => files,
-        Err(refusal) => return refused(&rt, &refusal),
+        Err(fault) => return refused(&rt, &fault.into()),
     };
     match serve(&rt, config, files) {
         Ok(()) => ExitCode::SUCCESS,

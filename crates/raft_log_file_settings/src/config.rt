@@ -23,8 +23,12 @@ const MAX_PREFILLED_FILES: usize = 65_536;
 pub struct Config {
     /// The main directory of log files; an open makes it if it doesn't exist.
     pub dir: String,
+    /// The most bytes that the files of `dir` may have in all; no limit if it is absent.
+    pub dir_limit: Option<ReadableSize>,
     /// A second directory, for new files if the main one has no space.
     pub spill_dir: Option<String>,
+    /// The most bytes that the files of `spill_dir` may have in all; no limit if it is absent.
+    pub spill_dir_limit: Option<ReadableSize>,
     /// How an open handles damaged files.
     pub recovery_mode: RecoveryMode,
     /// How many bytes of a file an open reads at a time; `sanitize` makes it at least 512.
@@ -67,7 +71,9 @@ impl Config {
     {
         Config {
             dir: String::new(alloc),
+            dir_limit: None,
             spill_dir: None,
+            spill_dir_limit: None,
             recovery_mode: RecoveryMode::TolerateTailCorruption,
             recovery_read_block_size: ReadableSize::kb(16),
             recovery_threads: 4,
@@ -243,6 +249,9 @@ impl Config {
 
     /// Warns of settings without effect.
     fn warn_of_ignored<L: Log>(&self, rt: &L) {
+        if self.spill_dir_limit.is_some() && self.spill_dir.is_none() {
+            warn!(rt; "spill-dir-limit has no effect without spill-dir");
+        }
         if self.bytes_per_sync.is_some() {
             warn!(rt; "bytes-per-sync has no effect");
         }

@@ -18,7 +18,7 @@ use Rattle.raft_log_active_file.specs.Layout.{FilePaths}
 use Rattle.raft_log_active_file.specs.Exits.{AppendMakes}
 use Rattle.raft_log_active_file.specs.declared.last_file.WriteFault.{WriteFault}
 use Rattle.raft_log_active_file.specs.declared.last_file.WriteFault.TheVariants.{CutBack, Failed}
-use Rattle.raft_log_file_pipe.specs.Placing.{IsPlaced, IsFull}
+use Rattle.raft_log_file_pipe.specs.Placing.{IsNextPlace, IsFull}
 use Rattle.raft_log_file_pipe.specs.Exits.{IsTurned, Rotates, RotationLeaves, Adds, FailsToAdd, SameLists}
 use Rattle.raft_log_file_pipe.specs.declared.pipe_files.PipeFiles.{PipeFiles}
 use Rattle.raft_log_file_pipe.specs.declared.new_files.NewFiles.{NewFiles}
@@ -68,7 +68,7 @@ pub data TurnsElsewhere {R : Type 0} (F : Format R) (own : List ℕ → Type 0) 
   nowhere : RotationLeaves F own paths (header_bytes begin.format) before after error old new
       → TurnsElsewhere F own paths begin before after error old new
 
--- The pipe rotated, and `IsPlaced` says in which directory the next file is. `old` and `new` are states of the file
+-- The pipe rotated, and `IsNextPlace` says in which directory the next file is. `old` and `new` are states of the file
 -- system. `disk` gives the disk of a state. `tells` gives the free space that a state reports, which is no part of the
 -- disk.
 pub record GoesInto {R F : Type 0} (disk : F → Disk) (tells : F → List ℕ → ℕ → Type 0)
@@ -76,8 +76,8 @@ pub record GoesInto {R F : Type 0} (disk : F → Disk) (tells : F → List ℕ �
     (before after : PipeFiles) (old new : F) : Type 0 where
   pub rotates : Rotates format own paths (header_bytes begin.format) before after (disk old) (disk new)
   pub turned : IsTurned begin.format before after
-  pub placed : IsPlaced (tells old) (disk old) begin.target_size paths.directories
-      before.recycled.items after.active.path_id
+  pub placed : IsNextPlace (tells old) (disk old) begin.target_size paths.directories before
+      after.active.path_id
 
 -- A record's write failed for lack of space, and what was written of the record was truncated away. The pipe may have
 -- rotated before the write. After the truncation it rotated as `GoesInto` says.

@@ -8,7 +8,7 @@ ghost use Rattle.raft_log_record_base.specs.declared.errors.Error.TheVariants as
 ghost use Rattle.raft_log_file_format.specs.Header.{header_bytes};
 ghost use Rattle.raft_log_file_pipe.specs.Appending.{AppendFails, AppendsAt, GoesElsewhere, GoesInto, GoesOnBy, SaysTryAgain, StaysFull, Tells, TurnsElsewhere, TurnsFirst};
 ghost use Rattle.raft_log_file_pipe.specs.Exits.{RotationLeaves};
-ghost use Rattle.raft_log_file_pipe.specs.Placing.{IsFull, IsPlaced};
+ghost use Rattle.raft_log_file_pipe.specs.Placing.{IsFull, IsNextPlace};
 ghost use Rattle.raft_log_file_pipe.specs.Doing.{AppendsBy, FailsToAppendBy, FailsToTurnBy, TellsBy, TurnsElsewhereBy, TurnsFirstBy};
 
 use crate::new_files::{NewFiles, is_full};
@@ -34,9 +34,9 @@ fn rotate_if_full<G: PipeFormat, F: FileSystem, L: Log>(
 ) -> Result<()>
     ensures ok { OnOk result (TurnsFirst (G.format layout.now) (G.own layout.now) (G.file_paths layout.now)
         new_files.now files.old files.new (F.disk file_system.old) (F.disk file_system.new)) }
-    ensures placed { new_files.now.target_size ≤ files.old.writer.written → OnOk result (IsPlaced
+    ensures placed { new_files.now.target_size ≤ files.old.writer.written → OnOk result (IsNextPlace
         (F.tells_space file_system.old) (F.disk file_system.old) new_files.now.target_size
-        (G.file_paths layout.now).directories files.old.recycled.items files.new.active.path_id) }
+        (G.file_paths layout.now).directories files.old files.new.active.path_id) }
     ensures long { OnErr result (new_files.now.target_size ≤ files.old.writer.written) }
     ensures err { IfErr result (λ error. RotationLeaves (G.format layout.now) (G.own layout.now)
         (G.file_paths layout.now) (header_bytes new_files.now.format) files.old files.new error
@@ -147,9 +147,9 @@ pub fn append<G: PipeFormat, F: FileSystem, L: Log, B: ReactiveBytes>(
         (G.file_paths layout.now) new_files.now queue (B.signed bytes.old) files.old files.new block
         (F.disk file_system.old) (F.disk file_system.new)) }
     ensures place { IfOk result (λ block. block.offset < 2 ^ 63) }
-    ensures placed { new_files.now.target_size ≤ files.old.writer.written → OnOk result (IsPlaced
+    ensures placed { new_files.now.target_size ≤ files.old.writer.written → OnOk result (IsNextPlace
         (F.tells_space file_system.old) (F.disk file_system.old) new_files.now.target_size
-        (G.file_paths layout.now).directories files.old.recycled.items files.new.active.path_id) }
+        (G.file_paths layout.now).directories files.old files.new.active.path_id) }
     ensures err { IfErr result (λ error. AppendFails (G.format layout.now) (G.own layout.now)
         (G.file_paths layout.now) new_files.now queue (B.signed bytes.old) files.old files.new error
         (F.disk file_system.old) (F.disk file_system.new)) }

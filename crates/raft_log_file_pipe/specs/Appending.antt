@@ -2,7 +2,7 @@
 -- before and after the append. `old` and `new` are the disk, or the file system. `begin` are the settings for new
 -- files. `signed` gives the record's bytes, signed for a given file. `paths` gives the path of each file of the queue.
 -- `own` says which paths are the queue's.
-use Rattle.std.specs.Prelude.{◌≡◌, ◌⊎◌, ℕ, ◌+◌, ◌<◌, ◌≤◌, List, length}
+use Rattle.std.specs.Prelude.{◌≡◌, ◌⊎◌, ℕ, ◌+◌, ◌<◌, ◌≤◌, List, [], length}
 use Rattle.std.specs.declared.io.ErrorKind.TheVariants.{StorageFull}
 use Rattle.raft_log_fs.specs.Disk.{Disk}
 use Rattle.raft_log_fs.specs.Causes.{IsLater}
@@ -95,7 +95,8 @@ pub record GoesElsewhere {R F : Type 0} (disk : F → Disk) (tells : F → List 
   pub goes : GoesInto disk tells format own paths begin cut after short new
 
 -- A record's write failed for lack of space, and what was written of the record was truncated away. The pipe may have
--- rotated before the write. It didn't rotate after the write, as no directory reports free space (`IsFull`).
+-- rotated before the write. It didn't rotate after the write, as no file is kept for recycling and no directory reports
+-- free space (`IsFull`).
 pub record StaysFull {R F : Type 0} (disk : F → Disk) (tells : F → List ℕ → ℕ → Type 0)
     (format : Format R) (own : List ℕ → Type 0) (paths : FilePaths) (begin : NewFiles) (queue : LogQueue)
     (signed : LogFileContext → List ℕ) (before after : PipeFiles) (old new : F) : Type 0 where
@@ -105,6 +106,7 @@ pub record StaysFull {R F : Type 0} (disk : F → Disk) (tells : F → List ℕ 
   pub fails : FailsToAdd format own paths (signed (context_of queue middle)) (CutBack StorageFull)
       middle after between (disk new)
   pub lists : SameLists middle after
+  pub none : after.recycled.items ≡ []
   pub full : IsFull (tells new) (disk new) paths
 
 -- the number of the active file is the one from before, or at most `count` higher

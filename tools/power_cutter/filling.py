@@ -19,9 +19,9 @@ SIZES = 50
 MOST_PAGES = 2048
 # the reply to a purge whose log failed
 LOG_FAILED = b"purge failed: Failed\n"
-# the group that takes long entries, which the plans don't ask at first, and how long these are
+# the group that takes long entries, which the plans don't ask at first, and how long those of one append are
 LONG_GROUP = 9
-LONG = [20000, 60000, 150000]
+LONG = [[20000], [60000], [50000, 50000, 50000]]
 
 
 class Filler:
@@ -237,13 +237,13 @@ def pages(place):
 
 
 def long_rounds(random, left):
-    """Rounds that each append a long entry to a group of their own, with more bytes in all than are left."""
-    rounds, taken = [], 0
+    """Rounds that each append long entries to a group of their own, with more bytes in all than are left."""
+    rounds, taken, last = [], 0, 0
     while taken <= left:
-        size, last = random.choice(LONG), len(rounds)
-        request = f"append {LONG_GROUP} 1 {last} {min(last, 1)} {last} 1:{random.randbytes(size).hex()}"
-        rounds.append(("round", [request.split(" ")]))
-        taken += size
+        sizes = random.choice(LONG)
+        entries = [f"1:{random.randbytes(size).hex()}" for size in sizes]
+        rounds.append(("round", [["append", str(LONG_GROUP), "1", str(last), str(min(last, 1)), str(last), *entries]]))
+        taken, last = taken + sum(sizes), last + len(sizes)
     return rounds
 
 

@@ -106,8 +106,8 @@ class Filler:
     def fill(self, root, before, left):
         """A run that finds no space, and half of whose events come after there is space again: what may stand after it."""
         subject = self.room.subject
-        running = self.start(root)
         could_fail = not is_reserve_whole(root)
+        running = self.start(root)
         try:
             state, shown = subject.opens(running)
         except Ended as ended:
@@ -128,7 +128,7 @@ class Filler:
             running.close_input()
             self.note_failure(root, running, running.hear_all())
             return heard.candidates(len(running.told))
-        self.counts["runs that met no full disk"] += b"no space left in" not in running.complaint().encode()
+        self.counts["runs that met no full disk"] += b"no space left in" not in warned(running)
         return self.go_on(root, running, heard, shown + first, state)
 
     def events(self, state, left):
@@ -245,6 +245,11 @@ def long_rounds(random, left):
         rounds.append(("round", [["append", str(LONG_GROUP), "1", str(last), str(min(last, 1)), str(last), *entries]]))
         taken, last = taken + sum(sizes), last + len(sizes)
     return rounds
+
+
+def warned(running):
+    """What a program that still runs wrote to its standard error; its place there doesn't move."""
+    return os.pread(running.complaints.fileno(), 1 << 20, 0)
 
 
 def is_reserve_whole(root):

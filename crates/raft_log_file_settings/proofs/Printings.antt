@@ -29,7 +29,7 @@ use Rattle.raft_log_file_settings.specs.declared.printing.Entry.{Entry}
 use Rattle.raft_log_file_settings.specs.declared.printing.Entry.TheVariants as entries
 use Rattle.raft_log_file_settings.specs.Printing.{SizeFits, SizesFit, Row, word_of, size_data, row_of, rows_of, with_row, with_rows, HasRows, PutsRow, is_unsaid, first_unsaid, IsUnprintable, SaysTooLarge}
 use Rattle.raft_log_file_settings.specs.Settings.{Settings, default_settings}
-use Rattle.raft_log_file_settings.specs.Reading.{at, at_value, ok_or, maybe, size_of, number_of, ratio_of, version_of, mode_of, recovery_in, files_in, purging_in, recycling_in, settings_in}
+use Rattle.raft_log_file_settings.specs.Reading.{at, at_value, ok_or, maybe, size_of, number_of, ratio_of, version_of, mode_of, directories_in, recovery_in, files_in, purging_in, recycling_in, settings_in}
 use Rattle.raft_log_file_settings.proofs.Readings.{all_read}
 
 abbrev pub Pairs : Type 0
@@ -138,21 +138,27 @@ pub sizes : (o : Option ReadableSize) → option_map (λ size. size_data size.0)
 sizes None = refl
 sizes (Some size) = refl
 
-pub these_rows : (s : Settings) (dir spill mode block per_sync version target threshold rewrite memory prefill : Option Data)
-    → dir ≡ Some (string s.dir) → spill ≡ option_map (λ d. string d) s.spill_dir → mode ≡ Some (string (word_of s.recovery_mode))
+pub these_rows : (s : Settings)
+    (dir dir_limit spill spill_limit mode block per_sync version target threshold rewrite memory prefill : Option Data)
+    → dir ≡ Some (string s.dir) → dir_limit ≡ option_map size_data s.dir_limit
+    → spill ≡ option_map (λ d. string d) s.spill_dir → spill_limit ≡ option_map size_data s.spill_dir_limit
+    → mode ≡ Some (string (word_of s.recovery_mode))
     → block ≡ Some (size_data s.recovery_read_block_size) → per_sync ≡ option_map size_data s.bytes_per_sync
     → version ≡ Some (integer (pos (version_number s.format_version))) → target ≡ Some (size_data s.target_file_size)
     → threshold ≡ Some (size_data s.purge_threshold) → rewrite ≡ option_map size_data s.purge_rewrite_threshold
     → memory ≡ option_map size_data s.memory_limit → prefill ≡ option_map size_data s.prefill_limit
-    → ((codes "dir", dir) ∷ (codes "spill-dir", spill) ∷ (codes "recovery-mode", mode) ∷ (codes "recovery-read-block-size", block)
+    → ((codes "dir", dir) ∷ (codes "dir-limit", dir_limit) ∷ (codes "spill-dir", spill)
+    ∷ (codes "spill-dir-limit", spill_limit)
+    ∷ (codes "recovery-mode", mode) ∷ (codes "recovery-read-block-size", block)
     ∷ (codes "recovery-threads", Some (integer (pos s.recovery_threads))) ∷ (codes "bytes-per-sync", per_sync)
     ∷ (codes "format-version", version) ∷ (codes "target-file-size", target) ∷ (codes "purge-threshold", threshold)
     ∷ (codes "purge-rewrite-threshold", rewrite)
     ∷ (codes "purge-rewrite-garbage-ratio", Some (integer (pos s.purge_rewrite_garbage_ratio))) ∷ (codes "memory-limit", memory)
     ∷ (codes "enable-log-recycle", Some (boolean s.enable_log_recycle))
     ∷ (codes "prefill-for-recycle", Some (boolean s.prefill_for_recycle)) ∷ (codes "prefill-limit", prefill) ∷ []) ≡ rows_of s
-these_rows s dir spill mode block per_sync version target threshold rewrite memory prefill e1 e2 e3 e4 e5 e6 e7 e8 e9 e10 e11 =
-    rw (e1, e2, e3, e4, e5, e6, e7, e8, e9, e10, e11) refl
+these_rows s dir dir_limit spill spill_limit mode block per_sync version target threshold rewrite memory prefill
+    e1 e2 e3 e4 e5 e6 e7 e8 e9 e10 e11 e12 e13 =
+    rw (e1, e2, e3, e4, e5, e6, e7, e8, e9, e10, e11, e12, e13) refl
 
 -- a size is a number or a text
 
@@ -237,12 +243,24 @@ module _ (s : Settings) (t : Members) (printed : HasRows (rows_of s) t) (fit : S
       = ap (at_value (codes "prefill-limit") (maybe size_of) None) (printed.at (codes "prefill-limit")) ∙ maybe_size_reads (codes "prefill-limit") s.prefill_limit fit.prefill in
       rw (enable, prefill, limit) refl
 
-  pub printed_reads : settings_in t ≡ Ok s
-  printed_reads =
+  directories_read : directories_in default_settings t ≡ Ok (s.dir, s.dir_limit, s.spill_dir, s.spill_dir_limit)
+  unfolding directories_in
+  directories_read =
       let dir : at (codes "dir") as_str [] t ≡ Ok s.dir
       = ap (at_value (codes "dir") as_str []) (printed.at (codes "dir")) in
+      let dir_limit : at (codes "dir-limit") (maybe size_of) None t ≡ Ok s.dir_limit
+      = ap (at_value (codes "dir-limit") (maybe size_of) None) (printed.at (codes "dir-limit"))
+      ∙ maybe_size_reads (codes "dir-limit") s.dir_limit fit.dir in
       let spill : at (codes "spill-dir") (maybe as_str) None t ≡ Ok s.spill_dir
       = ap (at_value (codes "spill-dir") (maybe as_str) None) (printed.at (codes "spill-dir")) ∙ maybe_text_reads (codes "spill-dir") s.spill_dir in
+      let spill_limit : at (codes "spill-dir-limit") (maybe size_of) None t ≡ Ok s.spill_dir_limit
+      = ap (at_value (codes "spill-dir-limit") (maybe size_of) None) (printed.at (codes "spill-dir-limit"))
+      ∙ maybe_size_reads (codes "spill-dir-limit") s.spill_dir_limit fit.spill in
+      rw (dir, dir_limit, spill, spill_limit) refl
+
+  pub printed_reads : settings_in t ≡ Ok s
+  printed_reads =
       let memory : at (codes "memory-limit") (maybe size_of) None t ≡ Ok s.memory_limit
       = ap (at_value (codes "memory-limit") (maybe size_of) None) (printed.at (codes "memory-limit")) ∙ maybe_size_reads (codes "memory-limit") s.memory_limit fit.memory in
-      all_read default_settings t s.dir s.spill_dir _ _ _ s.memory_limit _ dir spill recovery_reads files_reads purging_reads memory recycling_reads
+      all_read default_settings t _ _ _ _ s.memory_limit _ directories_read recovery_reads files_reads purging_reads memory
+      recycling_reads

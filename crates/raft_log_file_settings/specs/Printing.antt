@@ -36,6 +36,8 @@ SizeFits (Some n) = n < 2 ^ 64
 
 -- each size in the settings is below 2^64
 pub record SizesFit (s : Settings) : Type 0 where
+  pub dir : SizeFits s.dir_limit
+  pub spill : SizeFits s.spill_dir_limit
   pub block : SizeFits (Some s.recovery_read_block_size)
   pub per_sync : SizeFits s.bytes_per_sync
   pub target : SizeFits (Some s.target_file_size)
@@ -65,7 +67,9 @@ row_of row = (row.0.now, option_map data_of row.1)
 abbrev pub rows_of : Settings → List Row
 rows_of s =
     (codes "dir", Some (string s.dir))
+    ∷ (codes "dir-limit", option_map size_data s.dir_limit)
     ∷ (codes "spill-dir", option_map (λ dir. string dir) s.spill_dir)
+    ∷ (codes "spill-dir-limit", option_map size_data s.spill_dir_limit)
     ∷ (codes "recovery-mode", Some (string (word_of s.recovery_mode)))
     ∷ (codes "recovery-read-block-size", Some (size_data s.recovery_read_block_size))
     ∷ (codes "recovery-threads", Some (integer (pos s.recovery_threads)))

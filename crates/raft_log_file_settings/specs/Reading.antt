@@ -135,20 +135,32 @@ files_in usual t = do
   target_file_size ← at (codes "target-file-size") size_of usual.target_file_size t
   Ok (bytes_per_sync, format_version, target_file_size)
 
+-- What a table sets for the directories: the main one, its limit, the spill directory, and its limit. A key that the
+-- table leaves out keeps its value of `usual`.
+unfoldable pub directories_in : Settings → Members
+    → Result (List ℕ × Option ℕ × Option (List ℕ) × Option ℕ) (List ℕ)
+directories_in usual t = do
+  dir ← at (codes "dir") as_str usual.dir t
+  dir_limit ← at (codes "dir-limit") (maybe size_of) usual.dir_limit t
+  spill_dir ← at (codes "spill-dir") (maybe as_str) usual.spill_dir t
+  spill_dir_limit ← at (codes "spill-dir-limit") (maybe size_of) usual.spill_dir_limit t
+  Ok (dir, dir_limit, spill_dir, spill_dir_limit)
+
 -- The settings `usual`, except for the keys that a table sets. If values are wrong, the error is the key of the first
 -- wrong one, in the order of the reads below. Unknown keys are ignored.
 unfoldable pub settings_over : Settings → Members → Result Settings (List ℕ)
 settings_over usual t = do
-  dir ← at (codes "dir") as_str usual.dir t
-  spill_dir ← at (codes "spill-dir") (maybe as_str) usual.spill_dir t
+  directories ← directories_in usual t
   recovery ← recovery_in usual t
   files ← files_in usual t
   purging ← purging_in usual t
   memory_limit ← at (codes "memory-limit") (maybe size_of) usual.memory_limit t
   recycling ← recycling_in usual t
   Ok (record {
-    dir = dir;
-    spill_dir = spill_dir;
+    dir = directories.0;
+    dir_limit = directories.1;
+    spill_dir = directories.2;
+    spill_dir_limit = directories.3;
     recovery_mode = recovery.0;
     recovery_read_block_size = recovery.1;
     recovery_threads = recovery.2;
@@ -235,6 +247,15 @@ GivesTextIfAny (Ok x) key reading = reading ≡ Ok (option_map (λ text. text.no
 GivesTextIfAny (Err errors.Memory) key reading = Unit {0}
 GivesTextIfAny (Err e) key reading = (reading ≡ Err key) × NamesKey e key
 
+-- The code's result for the directories and their limits, the directories as borrowed texts, is the values in
+-- `reading`. If `reading` is a key instead, the code's error says that this key's value is wrong. Memory may run out in
+-- either case.
+abbrev pub GivesDirectories : Result (Bor (List ℕ) × Option ℕ × Option (Bor (List ℕ)) × Option ℕ) Error
+    → Result (List ℕ × Option ℕ × Option (List ℕ) × Option ℕ) (List ℕ) → Type 0
+GivesDirectories (Ok x) reading = reading ≡ Ok (x.0.now, x.1, option_map (λ text. text.now) x.2, x.3)
+GivesDirectories (Err errors.Memory) reading = Unit {0}
+GivesDirectories (Err e) reading = (key : List ℕ) × (reading ≡ Err key) × NamesKey e key
+
 -- The code's result for a table is the settings in `reading`. If `reading` is a key instead, the code's error says that
 -- this key's value is wrong. Memory may run out in either case.
 abbrev pub GivesSettings : Result Config Error → Result Settings (List ℕ) → Type 0
@@ -265,8 +286,9 @@ GivesSettingsOf (Ok config) text = SaysSettings text (settings_of config)
 -- the keys of settings
 abbrev pub setting_keys : List (List ℕ)
 setting_keys =
-    codes "dir" ∷ codes "spill-dir" ∷ codes "recovery-mode" ∷ codes "recovery-read-block-size"
-    ∷ codes "recovery-threads" ∷ codes "bytes-per-sync" ∷ codes "format-version" ∷ codes "target-file-size"
+    codes "dir" ∷ codes "dir-limit" ∷ codes "spill-dir" ∷ codes "spill-dir-limit"
+    ∷ codes "recovery-mode" ∷ codes "recovery-read-block-size" ∷ codes "recovery-threads"
+    ∷ codes "bytes-per-sync" ∷ codes "format-version" ∷ codes "target-file-size"
     ∷ codes "purge-threshold" ∷ codes "purge-rewrite-threshold" ∷ codes "purge-rewrite-garbage-ratio"
     ∷ codes "memory-limit" ∷ codes "enable-log-recycle" ∷ codes "prefill-for-recycle" ∷ codes "prefill-limit" ∷ []
 

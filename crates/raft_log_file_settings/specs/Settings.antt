@@ -11,7 +11,9 @@ use Rattle.raft_log_file_settings.specs.declared.config.Config.{Config}
 -- The settings of a log. Sizes are in bytes, and the garbage ratio is in thousandths.
 pub record Settings : Type 0 where
   pub dir : List ℕ
+  pub dir_limit : Option ℕ
   pub spill_dir : Option (List ℕ)
+  pub spill_dir_limit : Option ℕ
   pub recovery_mode : RecoveryMode
   pub recovery_read_block_size : ℕ
   pub recovery_threads : ℕ
@@ -30,7 +32,9 @@ pub record Settings : Type 0 where
 abbrev pub settings_of : Config → Settings
 settings_of c = record {
   dir = string_bytes c.dir;
+  dir_limit = option_map (λ size. size.0) c.dir_limit;
   spill_dir = option_map string_bytes c.spill_dir;
+  spill_dir_limit = option_map (λ size. size.0) c.spill_dir_limit;
   recovery_mode = c.recovery_mode;
   recovery_read_block_size = c.recovery_read_block_size.0;
   recovery_threads = c.recovery_threads;
@@ -50,7 +54,9 @@ settings_of c = record {
 abbrev pub default_settings : Settings
 default_settings = record {
   dir = [];
+  dir_limit = None;
   spill_dir = None;
+  spill_dir_limit = None;
   recovery_mode = TolerateTailCorruption;
   recovery_read_block_size = 16 * 2 ^ 10;
   recovery_threads = 4;

@@ -23,8 +23,13 @@ const MAX_PREFILLED_FILES: usize = 65_536;
 pub struct Config {
     /// The main directory of log files; an open makes it if it doesn't exist.
     pub dir: String,
+    /// How many bytes the files of `dir` may have in all, new ones included, before new files go to `spill_dir`. No
+    /// limit if it is absent.
+    pub dir_limit: Option<ReadableSize>,
     /// A second directory, for new files if the main one has no space.
     pub spill_dir: Option<String>,
+    /// The same for `spill_dir`. If both directories reach their limit, new files go to `dir`.
+    pub spill_dir_limit: Option<ReadableSize>,
     /// How an open handles damaged files.
     pub recovery_mode: RecoveryMode,
     /// How many bytes of a file an open reads at a time; `sanitize` makes it at least 512.
@@ -67,7 +72,9 @@ impl Config {
     {
         Config {
             dir: String::new(alloc),
+            dir_limit: None,
             spill_dir: None,
+            spill_dir_limit: None,
             recovery_mode: RecoveryMode::TolerateTailCorruption,
             recovery_read_block_size: ReadableSize::kb(16),
             recovery_threads: 4,
@@ -243,6 +250,9 @@ impl Config {
 
     /// Warns of settings without effect.
     fn warn_of_ignored<L: Log>(&self, rt: &L) {
+        if self.spill_dir_limit.is_some() && self.spill_dir.is_none() {
+            warn!(rt; "spill-dir-limit has no effect without spill-dir");
+        }
         if self.bytes_per_sync.is_some() {
             warn!(rt; "bytes-per-sync has no effect");
         }

@@ -33,7 +33,9 @@ pub fn to_table(alloc: Global, config: &Config) -> Result<Table>
 {
     let rows = [
         ("dir", Some(Entry::Text(config.dir.as_str()))),
+        ("dir-limit", size_entry(config.dir_limit)),
         ("spill-dir", text_entry(text_of(&config.spill_dir))),
+        ("spill-dir-limit", size_entry(config.spill_dir_limit)),
         (
             "recovery-mode",
             Some(Entry::Text(word_of(config.recovery_mode))),

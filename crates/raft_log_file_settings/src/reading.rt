@@ -5,13 +5,34 @@ ghost use Rattle.std.specs.String.{string_bytes};
 ghost use Rattle.toml.specs.Data.{get_member, as_str, as_bool};
 ghost use Rattle.toml.specs.View.{view, table_view};
 ghost use Rattle.raft_log_file_settings.specs.Settings.{settings_of};
-ghost use Rattle.raft_log_file_settings.specs.Reading.{at, ok_or, maybe, size_of, number_of, ratio_of, thousandths_up_to, version_of, mode_of, mode_word, GivesAt, GivesText, GivesTextIfAny, GivesKeys, GivesSettings, settings_in, settings_over, recycling_in, purging_in, recovery_in, files_in, NamesKey, SaysWrongValue, IsNote, SaysNoToml, is_setting, dropped_keys, texts_of};
+ghost use Rattle.raft_log_file_settings.specs.Reading.{at, ok_or, maybe, size_of, number_of, ratio_of, thousandths_up_to, version_of, mode_of, mode_word, GivesAt, GivesText, GivesTextIfAny, GivesKeys, GivesSettings, settings_in, settings_over, recycling_in, purging_in, recovery_in, files_in, directories_in, GivesDirectories, NamesKey, SaysWrongValue, IsNote, SaysNoToml, is_setting, dropped_keys, texts_of};
 
 use super::config::Config;
 use super::recovery_mode::RecoveryMode;
 use raft_log_record_base::{Error, ReadableSize, Result, Version};
 use std::alloc::{AllocError, Global};
 use toml::{Table, Value};
+
+/// The keys of settings.
+const SETTINGS: [&str; 17] = [
+    "dir",
+    "dir-limit",
+    "spill-dir",
+    "spill-dir-limit",
+    "recovery-mode",
+    "recovery-read-block-size",
+    "recovery-threads",
+    "bytes-per-sync",
+    "format-version",
+    "target-file-size",
+    "purge-threshold",
+    "purge-rewrite-threshold",
+    "purge-rewrite-garbage-ratio",
+    "memory-limit",
+    "enable-log-recycle",
+    "prefill-for-recycle",
+    "prefill-limit",
+];
 
 /// The number in a value.
 fn number_of(value: &Value) -> Option<u64>
@@ -290,13 +311,7 @@ pub fn dropped_in(alloc: Global, table: &Table) -> std::result::Result<Vec<Strin
 fn is_setting(key: &str) -> bool
     ensures { result ≡ is_setting key.now }
 {
-    match key {
-        "dir" | "spill-dir" | "recovery-mode" | "recovery-read-block-size" => true,
-        "recovery-threads" | "bytes-per-sync" | "format-version" | "target-file-size" => true,
-        "purge-threshold" | "purge-rewrite-threshold" | "purge-rewrite-garbage-ratio" => true,
-        "memory-limit" | "enable-log-recycle" | "prefill-for-recycle" | "prefill-limit" => true,
-        _ => false,
-    }
+    SETTINGS.iter().any(|&setting| key == setting)
 }
 
 /// What a table sets for recycling.
@@ -361,6 +376,23 @@ fn files_in(alloc: Global, table: &Table, usual: &Config) -> Result<(Option<u64>
     Ok((per_sync, format_version, target))
 }
 
+/// What a table sets for the directories.
+#[tactic(auto, unfolding(crate::specs::Reading::directories_in))]
+fn directories_in<'a>(
+    alloc: Global,
+    table: &'a Table,
+    usual: &'a Config,
+) -> Result<(&'a str, Option<u64>, Option<&'a str>, Option<u64>)>
+    ensures { GivesDirectories result (directories_in (settings_of usual.now) (table_view table.now)) }
+{
+    let dir = text_at(alloc, table, "dir", usual.dir.as_str())?;
+    let dir_limit = maybe_size_at(alloc, table, "dir-limit", bytes_of(usual.dir_limit))?;
+    let spill_dir = maybe_text_at(alloc, table, "spill-dir", text_of(&usual.spill_dir))?;
+    let usual_limit = bytes_of(usual.spill_dir_limit);
+    let spill_limit = maybe_size_at(alloc, table, "spill-dir-limit", usual_limit)?;
+    Ok((dir, dir_limit, spill_dir, spill_limit))
+}
+
 /// The settings that a table states; keys that it leaves out have their usual values.
 pub fn from_table(alloc: Global, table: &Table) -> Result<Config>
     ensures { GivesSettings result (settings_in (table_view table.now)) }
@@ -373,8 +405,7 @@ pub fn from_table(alloc: Global, table: &Table) -> Result<Config>
 fn settings_over(alloc: Global, table: &Table, usual: &Config) -> Result<Config>
     ensures { GivesSettings result (settings_over (settings_of usual.now) (table_view table.now)) }
 {
-    let dir = text_at(alloc, table, "dir", usual.dir.as_str())?;
-    let spill_dir = maybe_text_at(alloc, table, "spill-dir", text_of(&usual.spill_dir))?;
+    let (dir, dir_limit, spill_dir, spill_limit) = directories_in(alloc, table, usual)?;
     let (recovery_mode, block, threads) = recovery_in(alloc, table, usual)?;
     let (per_sync, format_version, target) = files_in(alloc, table, usual)?;
     let (threshold, rewrite_threshold, garbage_ratio) = purging_in(alloc, table, usual)?;
@@ -382,7 +413,9 @@ fn settings_over(alloc: Global, table: &Table, usual: &Config) -> Result<Config>
     let (enable_log_recycle, prefill_for_recycle, limit) = recycling_in(alloc, table, usual)?;
     Ok(Config {
         dir: String::from_str(alloc, dir)?,
+        dir_limit: sized(dir_limit),
         spill_dir: copied(alloc, spill_dir)?,
+        spill_dir_limit: sized(spill_limit),
         recovery_mode,
         recovery_read_block_size: ReadableSize(block),
         recovery_threads: threads as usize,

@@ -125,7 +125,9 @@ fn copy_of(alloc: Global, config: &Config) -> Result<Config>
     let spill_dir = copy_of_spill_dir(alloc, config)?;
     Ok(Config {
         dir,
+        dir_limit: config.dir_limit,
         spill_dir,
+        spill_dir_limit: config.spill_dir_limit,
         recovery_mode: config.recovery_mode,
         recovery_read_block_size: config.recovery_read_block_size,
         recovery_threads: config.recovery_threads,

@@ -44,8 +44,12 @@ pub enum RecoveryMode {
 pub struct Config {
     /// The main directory of log files. It is made if it isn't there; its parent must exist.
     pub dir: String,
+    /// Without effect: an open here doesn't limit the bytes of a directory.
+    pub dir_limit: Option<ReadableSize>,
     /// A second directory, for new files if the main one has no space.
     pub spill_dir: Option<String>,
+    /// Without effect: an open here doesn't limit the bytes of a directory.
+    pub spill_dir_limit: Option<ReadableSize>,
     /// What an open does with damaged files.
     pub recovery_mode: RecoveryMode,
     /// How many bytes of a file an open reads at a time.
@@ -74,7 +78,9 @@ impl Default for Config {
     fn default() -> Config {
         Config {
             dir: String::new(),
+            dir_limit: None,
             spill_dir: None,
+            spill_dir_limit: None,
             recovery_mode: RecoveryMode::TolerateTailCorruption,
             recovery_read_block_size: ReadableSize::kb(16),
             recovery_threads: 4,
@@ -95,9 +101,11 @@ impl Config {
     pub(crate) fn to_toml(&self) -> String {
         let mut out = String::new();
         text(&mut out, "dir", &self.dir);
+        size(&mut out, "dir-limit", self.dir_limit);
         if let Some(spill) = &self.spill_dir {
             text(&mut out, "spill-dir", spill);
         }
+        size(&mut out, "spill-dir-limit", self.spill_dir_limit);
         let mode = match self.recovery_mode {
             RecoveryMode::AbsoluteConsistency => "absolute-consistency",
             RecoveryMode::TolerateTailCorruption => "tolerate-tail-corruption",
@@ -142,7 +150,7 @@ fn size(out: &mut String, key: &str, value: Option<ReadableSize>) {
 
 #[cfg(test)]
 mod tests {
-    use super::Config;
+    use super::{Config, ReadableSize};
 
     #[test]
     fn a_path_is_quoted() {
@@ -155,5 +163,19 @@ mod tests {
         assert!(toml.contains("\npurge-rewrite-garbage-ratio = 600\n"), "{toml}");
         assert!(toml.contains("\ntarget-file-size = \"134217728\"\n"), "{toml}");
         assert!(!toml.contains("spill-dir"), "{toml}");
+        assert!(!toml.contains("limit"), "{toml}");
+    }
+
+    #[test]
+    fn each_directory_has_its_limit() {
+        let config = Config {
+            dir: "d".into(),
+            dir_limit: Some(ReadableSize(1)),
+            spill_dir: Some("s".into()),
+            spill_dir_limit: Some(ReadableSize(2)),
+            ..Config::default()
+        };
+        let lines = "dir = \"d\"\ndir-limit = \"1\"\nspill-dir = \"s\"\nspill-dir-limit = \"2\"\n";
+        assert!(config.to_toml().starts_with(lines), "{}", config.to_toml());
     }
 }

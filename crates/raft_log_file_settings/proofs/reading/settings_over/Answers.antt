@@ -4,8 +4,16 @@ use Rattle.raft_log_file_settings.proofs.reading.settings_over.Goals as goal
 
 pub returns : goal.returns
 returns c =
-    let dir = rw c.as_str.ensures.value at c.in_ok-dir.ensures in
-    let spill = rw c.text_of.ensures at c.in_ok-spill_dir.ensures in
     let memory = rw c.bytes_of.ensures at c.in_ok-memory_limit.ensures in
-    all_read _ _ _ _ _ _ _ _ _ dir spill c.in_ok-recovery_mode.ensures c.in_ok-per_sync.ensures c.in_ok-threshold.ensures memory c.in_ok-enable_log_recycle.ensures
-    ∙ rw (c.in_ok-from_str.ensures.ok, c.in_ok-copied.ensures, c.sized.ensures, c.sized-2.ensures, c.sized-3.ensures, c.sized-4.ensures) refl
+    all_read _ _ _ _ _ _ _ _ c.in_ok-dir.ensures c.in_ok-recovery_mode.ensures c.in_ok-per_sync.ensures
+    c.in_ok-threshold.ensures memory c.in_ok-enable_log_recycle.ensures
+    ∙ rw (
+      c.in_ok-from_str.ensures.ok,
+      c.in_ok-copied.ensures,
+      c.sized.ensures,
+      c.sized-2.ensures,
+      c.sized-3.ensures,
+      c.sized-4.ensures,
+      c.sized-5.ensures,
+      c.sized-6.ensures,
+    ) refl

@@ -31,7 +31,7 @@ use Rattle.raft_log_purge.specs.declared.expired_files.PurgeCounts.{PurgeCounts}
 use Rattle.raft_log_purge.specs.Append.{FailsToRewriteAppend}
 use Rattle.raft_log_purge.specs.Expired.{DeletesFirst, FailsToPurgeAppend, PurgesIfPast}
 use Rattle.raft_log_purge.specs.Counting.{CountsIf}
-use Rattle.raft_log_purge.specs.ExpiredFiles.{FreesFirst, FreesSpace, PurgesExpired, RewritesIfPast, SyncsAndFrees, SyncsAndRewrites, TakesBoth}
+use Rattle.raft_log_purge.specs.ExpiredFiles.{FreesFirst, PurgesExpired, RewritesIfPast, SyncsAndFrees, SyncsAndRewrites, TakesBoth}
 use Rattle.raft_log_purge.proofs.Picked.{failed_after_deleting}
 use Rattle.raft_log_purge.proofs.Whole.{held_behind, on_the_map}
 
@@ -74,13 +74,16 @@ module _ (hold_back : LogPipes → Option ℕ → Type 0) (thresholds : Threshol
 -- so it is if other pipes pin what these pin
 frees_as : (some others : LogPipes → Option ℕ → Type 0) → ((v : LogPipes) (held : Option ℕ) → some v held → others v held) → (thresholds : Thresholds) (stats : GlobalStats) (m : MemTables) (s t : EngineState)
     → FreesFirst some thresholds stats m s t → FreesFirst others thresholds stats m s t
-frees_as some others as_told thresholds stats m s t (inl (takes, frees)) = inl (takes, record {
-  held = frees.held;
-  told = as_told s.pipes frees.held frees.told;
-  marks = frees.marks;
-  owed = frees.owed;
-  deletes = frees.deletes;
-})
+frees_as some others as_told thresholds stats m s t (inl (takes, frees)) = inl (
+  takes,
+  record {
+    held = frees.held;
+    told = as_told s.pipes frees.held frees.told;
+    marks = frees.marks;
+    owed = frees.owed;
+    deletes = frees.deletes;
+  },
+)
 frees_as some others as_told thresholds stats m s t (inr leaves) = inr leaves
 
 rewritten_well : (thresholds : Thresholds) (old new : GlobalStats) (before after : MemTables) (restated : Bool) (s t : EngineState) → RewritesIfPast thresholds old new before after restated s t → GoesWell s t

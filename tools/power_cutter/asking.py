@@ -6,9 +6,15 @@ import subprocess
 import tempfile
 from collections import Counter
 
-LOW = {"low.toml": b'purge-threshold = "1MB"\n', "torn.toml": b"purge-threshold = \n"}
+SETTINGS = {
+    "low.toml": b'purge-threshold = "1MB"\n',
+    "torn.toml": b"purge-threshold = \n",
+    "odd.toml": b'purge-treshold = "1MB"\ncompression-level = 1\n',
+}
 USAGE = "usage: "
-VOTE = b"round\nvote 1 5 2 0 0\nend\n"
+# A vote, an entry that is too long for a small disk, and what stands then.
+REQUESTS = [b"vote 1 5 2 0 0", b"append 1 5 0 0 0 5:" + b"ab" * 60000, b"status 1"]
+REPLIES = ["0 1 Granted 5", "0 1 Refused", "0 1 Status 5 2 0 0 0 0 0"]
 FIRST = "0000000000000001.raftlog"
 SECOND = "0000000000000002.raftlog"
 OF_GROUP_2 = "append 1: group 2: put 0x00ff, 1 bytes\nappend 1: group 2: delete 0x00ff\n"
@@ -17,7 +23,8 @@ before: rewrite: no files
 after: append: files 1 to 1: 1 files, 183 bytes
 after: rewrite: files 1 to 1: 1 files, 69 bytes
 """
-FULL = "log/0000000000000001.raftlog: can't grow it: No space left on device"
+FULL = "no space left in log: log/0000000000000001.raftlog keeps its length\n"
+DROPPED = ["settings odd.toml: key compression-level is not used", "settings odd.toml: key purge-treshold is not used"]
 
 # The program, its arguments, its status, the stream that has the text, and the text with which it begins, or which is
 # part of it.
@@ -56,15 +63,13 @@ class Asker:
         self.wrong = []
 
     def ask(self, program, arguments, status, stream, text):
-        """Calls a program in a new directory with two files of settings."""
+        """Calls a program in a new directory with files of settings."""
         path = os.path.realpath(f"{self.crates}/{program}/out/{program}")
         if not os.path.isfile(path):
             self.counts[f"calls of {program}, which isn't built"] += 1
             return
         with tempfile.TemporaryDirectory() as root:
-            for name, content in LOW.items():
-                with open(f"{root}/{name}", "wb") as file:
-                    file.write(content)
+            write_settings(root)
             ran = subprocess.run([path, *arguments], cwd=root, stdin=subprocess.DEVNULL, capture_output=True, timeout=60)
         self.counts["calls"] += 1
         streams = {"stdout": ran.stdout.decode(), "stderr": ran.stderr.decode()}
@@ -74,22 +79,36 @@ class Asker:
         if ran.returncode != status or not is_there or silent:
             self.wrong.append(f"{program} {arguments}: status {ran.returncode}, {said!r}, and on the other stream {silent!r}")
 
+    def ask_of_dropped_keys(self):
+        """Runs the node with settings of which two keys are none: it warns of each, and serves."""
+        path = os.path.realpath(f"{self.crates}/raftnode/out/raftnode")
+        if not os.path.isfile(path):
+            return
+        with tempfile.TemporaryDirectory() as root:
+            write_settings(root)
+            ran = subprocess.run([path, "log", "odd.toml"], cwd=root, stdin=subprocess.DEVNULL, capture_output=True, timeout=60)
+        self.counts["calls"] += 1
+        said = ran.stderr.decode()
+        if ran.returncode or ran.stdout != b"ready\n" or any(said.count(text) != 1 for text in DROPPED):
+            self.wrong.append(f"raftnode with keys that are not used: {ran}")
+
     def ask_on_full_disk(self):
-        """Runs the node on a file system that is too small: the call that fails is printed with its path. It needs root."""
+        """Runs the node on a file system that is too small for one request. It is refused, the next one is answered. It needs root."""
         path = os.path.realpath(f"{self.crates}/raftnode/out/raftnode")
         if not os.path.isfile(path) or os.geteuid():
             self.counts["runs on a full disk that could not be made"] += 1
             return
+        asked = b"".join(b"round\n" + request + b"\nend\n" for request in REQUESTS)
         with tempfile.TemporaryDirectory() as root:
             subprocess.run(["mount", "-t", "tmpfs", "-o", "size=300k", "tmpfs", root], check=True)
             try:
-                ran = subprocess.run([path, "log"], cwd=root, input=VOTE, capture_output=True, timeout=60)
+                ran = subprocess.run([path, "log"], cwd=root, input=asked, capture_output=True, timeout=60)
             finally:
                 subprocess.run(["umount", root], check=True)
         self.counts["calls"] += 1
-        said = ran.stderr.decode()
-        if ran.returncode != 1 or FULL not in said:
-            self.wrong.append(f"raftnode on a full disk: status {ran.returncode}, {said!r}")
+        told = "ready\n" + "".join(f"round {number} answered\n{reply}\n" for number, reply in enumerate(REPLIES))
+        if ran.returncode or ran.stdout.decode() != told or FULL not in ran.stderr.decode():
+            self.wrong.append(f"raftnode on a full disk: status {ran.returncode}, {ran.stdout!r}, {ran.stderr!r}")
 
     def operator_on_one_file(self, root):
         """Copies the first file of the stored log into a root. Returns the path of the operator's program, or None if it isn't built."""
@@ -147,3 +166,10 @@ class Asker:
             self.counts["calls"] += 1
             if ran.returncode != status or ran.stderr:
                 self.wrong.append(f"raft_log_ctl {task} into a closed pipe: {ran}")
+
+
+def write_settings(root):
+    """Writes the files of settings into a directory."""
+    for name, content in SETTINGS.items():
+        with open(f"{root}/{name}", "wb") as file:
+            file.write(content)

@@ -1,7 +1,7 @@
 """Fills the file system below a program's directory, and asks what was answered, what stands, and whether it goes on.
 
 The directory is a tmpfs of a fixed size, of which a ballast leaves only some bytes. So a disk becomes full at any moment of a
-run. The ballast goes while the program still runs, or after it ended.
+run. The ballast goes while the program still runs, or after it ended. In some runs a second directory has a tmpfs of its own.
 """
 import os
 import subprocess
@@ -14,38 +14,59 @@ SIZE = 64 << 20
 STEP = 4096
 # the size of a directory's reserve
 RESERVE = 256 << 10
+# how many sizes there are, half of them below that of a reserve; the greatest has so many pages
+SIZES = 50
+MOST_PAGES = 2048
 # the reply to a purge whose log failed
 LOG_FAILED = b"purge failed: Failed\n"
+# the group that takes long entries, which the plans don't ask at first, and how long those of one append are
+LONG_GROUP = 9
+LONG = [[20000], [60000], [50000, 50000, 50000]]
 
 
 class Filler:
     """Runs a program with little space left, again and again."""
 
-    def __init__(self, room, random, settings, count):
-        self.room, self.random, self.settings, self.count = room, random, settings, count
+    def __init__(self, room, random, settings, count, operator):
+        self.room, self.random, self.settings, self.count, self.operator = room, random, settings, count, operator
         self.counts = Counter()
         self.wrong = []
         self.started = []
-        self.has_reserve = False
+        self.has_reserve = self.spills = False
 
     def size(self, number):
-        """Tries one size: a run that fills the disk, one on the full disk, and one with space again."""
-        left = STEP * (1 + number % 25)
+        """Tries one size: a run that fills the disk, a purge and opens on the full disk, and a run with space again."""
+        left = STEP * pages(number % SIZES)
         usual = self.random.random() < 0.5
-        self.room.use_settings("" if usual else self.settings(self.random))
+        self.spills = number % 5 == 4
+        self.room.use_settings(self.settings_text(usual))
         root = self.room.root("full", {})
-        self.has_reserve = self.random.random() < 0.5
-        subprocess.run(["mount", "-t", "tmpfs", "-o", f"size={SIZE}", "tmpfs", root], check=True)
+        mounts = [root, f"{root}/spill"] if self.spills else [root]
+        makes_reserve = self.spills or self.random.random() < 0.5
         try:
-            if self.has_reserve:
+            for path in mounts:
+                os.makedirs(path, exist_ok=True)
+                subprocess.run(["mount", "-t", "tmpfs", "-o", f"size={SIZE}", "tmpfs", path], check=True)
+            if makes_reserve:
                 self.make_reserve(root)
             self.life(root, left)
         except Fault as wrong:
-            self.wrong.append(f"size {number}, {left} bytes left{' with the usual settings' if usual else ''}: {wrong}")
+            with_what = f"{', the usual settings' if usual else ''}{', a second directory' if self.spills else ''}"
+            self.wrong.append(f"size {number}, {left} bytes left{with_what}: {wrong}")
         finally:
             self.end()
-            subprocess.run(["umount", root], check=True)
+            for path in reversed(mounts):
+                if os.path.ismount(path):
+                    subprocess.run(["umount", path], check=True)
         self.counts["sizes"] += 1
+
+    def settings_text(self, usual):
+        """The settings of a run. With a second directory nothing is filled ahead, as such files would take the records."""
+        text = "" if usual else self.settings(self.random)
+        if not self.spills:
+            return text
+        lines = [line for line in text.splitlines() if not line.startswith(("spill-dir", "prefill"))]
+        return "".join(line + "\n" for line in lines + ['spill-dir = "spill"'])
 
     def start(self, root):
         """Starts the program in a root."""
@@ -65,17 +86,16 @@ class Filler:
         running = self.start(root)
         running.close_input()
         status = running.hear_all()
-        reserve = f"{root}/log/RESERVE"
-        if status != 0 or not os.path.isfile(reserve) or os.path.getsize(reserve) != RESERVE:
+        if status != 0 or not is_reserve_whole(root):
             raise Fault(f"no reserve was made: status {status}: {running.complaint()[-300:]!r}")
-        self.counts["logs with a reserve"] += 1
+        self.counts["logs closed with a reserve, before the disk was full"] += 1
 
     def life(self, root, left):
-        """Three runs over one directory."""
+        """Three runs over one directory, and a purge by the operator's program."""
         ballast(root, left)
-        before = self.fill(root, [self.room.subject.fresh()])
-        failed = not self.opens(root, before)
-        self.counts[f"opens {'with' if self.has_reserve else 'without'} a reserve on a full disk that failed"] += failed
+        before = self.fill(root, [self.room.subject.fresh()], left)
+        self.open_full(root, before)
+        self.purge_full(root, before)
         os.remove(f"{root}/ballast")
         before = [self.room.found_state(root, before)]
         ran = self.start(root)
@@ -83,18 +103,21 @@ class Filler:
         self.room.demand_all(heard, status, "none")
         self.room.found(root, heard.candidates(len(ran.told)))
 
-    def fill(self, root, before):
+    def fill(self, root, before, left):
         """A run that finds no space, and half of whose events come after there is space again: what may stand after it."""
         subject = self.room.subject
+        could_fail = not is_reserve_whole(root)
         running = self.start(root)
         try:
             state, shown = subject.opens(running)
         except Ended as ended:
-            self.counts["first opens that failed"] += 1
-            if ended.status != 1:
+            if ended.status != 1 or not could_fail:
                 raise
+            self.counts["first opens without a reserve that failed"] += 1
             return before
-        first = subject.plan(self.random, state, self.count)
+        self.has_reserve = is_reserve_whole(root)
+        self.counts["runs with a reserve"] += self.has_reserve
+        first = self.events(state, left)
         running.feed(subject.text(first))
         wanted = sum(subject.answer_lines(event) for event in first)
         running.hear_until(lambda told: told.count(b"\n") >= self.lines_before(running, shown) + wanted or b" cut\n" in told)
@@ -102,12 +125,30 @@ class Filler:
         self.counts["refused requests"] += heard.refused_places
         self.counts["refused purges"] += heard.refused_purges
         if heard.is_cut or heard.answered() < len(shown) + len(first) or running.told.endswith(LOG_FAILED):
-            self.counts[f"runs {'with' if self.has_reserve else 'without'} a reserve whose log failed"] += 1
             running.close_input()
-            running.hear_all()
+            self.note_failure(root, running, running.hear_all())
             return heard.candidates(len(running.told))
-        self.counts["runs that met no full disk"] += not heard.refused_places
+        self.counts["runs that met no full disk"] += b"no space left in" not in warned(running)
         return self.go_on(root, running, heard, shown + first, state)
+
+    def events(self, state, left):
+        """The events that fill the disk. Rounds with long entries are among them in half of the runs, and if much is left."""
+        plan = self.room.subject.plan(self.random, state, self.count)
+        longs = []
+        if left >= RESERVE or self.spills or self.random.random() < 0.5:
+            longs = long_rounds(self.random, left)
+        events = []
+        while plan or longs:
+            several = self.random.random() * (len(plan) + len(longs)) < len(plan)
+            events.append((plan if several else longs).pop(0))
+        return events
+
+    def note_failure(self, root, running, status):
+        """The log failed. That is wrong if its directory has a reserve, as only a used-up reserve leaves no room for a header."""
+        if status != 1 or self.spills or is_reserve_whole(root):
+            what = "a second directory" if self.spills else "a reserve"
+            raise Fault(f"the log failed, with {what}: status {status}: {running.complaint()[-600:]!r}")
+        self.counts[f"runs whose log failed, its reserve {'used up' if self.has_reserve else 'missing at the open'}"] += 1
 
     def lines_before(self, running, shown):
         """How many lines came before the answers of the plan."""
@@ -129,9 +170,52 @@ class Filler:
             if status != 0 or both.is_cut or both.refused_places > heard.refused_places or both.refused_purges > heard.refused_purges:
                 raise Fault(f"with space again it doesn't serve: status {status}: {running.complaint()[-300:]!r}")
             ballast(root, STEP)
-        elif status == 0 and both.answered() < len(events + more):
+        elif status != 0:
+            self.note_failure(root, running, status)
+        elif both.answered() < len(events + more):
             raise Fault(f"{both.answered()} of {len(events + more)} events are answered")
+        if self.spills:
+            self.demand_spilled(root, running, both)
         return both.candidates(len(running.told))
+
+    def demand_spilled(self, root, running, heard):
+        """A log with room in its second directory refused no request, and has files there."""
+        if heard.refused_places:
+            raise Fault(f"{heard.refused_places} requests are refused: {running.complaint()[-600:]!r}")
+        files = log_files(f"{root}/spill")
+        if not files:
+            raise Fault(f"no file is in the second directory: {running.complaint()[-600:]!r}")
+        self.counts["runs with room in a second directory"] += 1
+        self.counts["purges refused with room in a second directory"] += heard.refused_purges
+
+    def open_full(self, root, before):
+        """Opens the log on the full disk. That may fail if its directory has no reserve."""
+        had_reserve = is_reserve_whole(root)
+        if self.opens(root, before):
+            self.counts["opens on a full disk"] += 1
+        elif had_reserve:
+            raise Fault("with a reserve it doesn't open on the full disk")
+        else:
+            self.counts["opens on a full disk without a reserve that failed"] += 1
+
+    def purge_full(self, root, before):
+        """Purges the log on the full disk by the operator's program. It may fail for lack of space; else the log opens."""
+        if not log_files(f"{root}/log"):
+            return
+        free = free_bytes(root)
+        spill = ["--spill-dir", f"{root}/spill"] if self.spills else []
+        ran = subprocess.run([*self.operator, "purge", f"{root}/log", *spill], capture_output=True, timeout=60)
+        said = ran.stderr.decode()
+        freed = free_bytes(root) - free
+        if ran.returncode not in (0, 3) or ran.returncode == 3 and "o space left" not in said:
+            raise Fault(f"the purge ends with status {ran.returncode}: {said[-600:]!r}")
+        self.counts[f"purges of a closed log on a full disk that ended with status {ran.returncode}"] += 1
+        self.counts["purges of a closed log that freed bytes"] += freed > 0
+        self.counts["bytes freed by purges of a closed log"] += freed
+        if self.opens(root, before):
+            self.counts["opens on a full disk, after a purge"] += 1
+        elif ran.returncode == 0 or is_reserve_whole(root):
+            raise Fault("after a purge it doesn't open on the full disk")
 
     def opens(self, root, before):
         """Whether the program opens on the full disk; if so it shows what may stand."""
@@ -144,9 +228,51 @@ class Filler:
             return False
 
 
+def pages(place):
+    """How many pages are left in a size: from one on, below a reserve in one half of the sizes, up to the greatest in the other."""
+    half, reserve = SIZES // 2, RESERVE // STEP
+    if place < half:
+        return 1 + place * (reserve - 1) // half
+    return reserve + (place - half) * (MOST_PAGES - reserve) // (SIZES - half - 1)
+
+
+def long_rounds(random, left):
+    """Rounds that each append long entries to a group of their own, with more bytes in all than are left."""
+    rounds, taken, last = [], 0, 0
+    while taken <= left:
+        sizes = random.choice(LONG)
+        entries = [f"1:{random.randbytes(size).hex()}" for size in sizes]
+        rounds.append(("round", [["append", str(LONG_GROUP), "1", str(last), str(min(last, 1)), str(last), *entries]]))
+        taken, last = taken + sum(sizes), last + len(sizes)
+    return rounds
+
+
+def warned(running):
+    """What a program that still runs wrote to its standard error; its place there doesn't move."""
+    return os.pread(running.complaints.fileno(), 1 << 20, 0)
+
+
+def is_reserve_whole(root):
+    """Whether the log's directory has its reserve."""
+    path = f"{root}/log/RESERVE"
+    return os.path.isfile(path) and os.path.getsize(path) == RESERVE
+
+
+def log_files(directory):
+    """The files of both queues in a directory."""
+    if not os.path.isdir(directory):
+        return []
+    return [name for name in os.listdir(directory) if name.endswith((".raftlog", ".rewrite"))]
+
+
+def free_bytes(root):
+    """How many bytes are free below a root."""
+    found = os.statvfs(root)
+    return found.f_bavail * found.f_frsize
+
+
 def ballast(root, left):
     """Takes all space below a root but so many bytes."""
-    found = os.statvfs(root)
-    taken = max(found.f_bavail * found.f_frsize - left, 0)
+    taken = max(free_bytes(root) - left, 0)
     with open(f"{root}/ballast", "wb") as file:
         os.posix_fallocate(file.fileno(), 0, max(taken, 1))

@@ -15,6 +15,7 @@ KINDS = [
     f"part {{}} {errno.ENOSPC}",
     f"made {{}} {errno.EIO}",
     f"gone {{}} {errno.EIO}",
+    f"gone {{}} {errno.ENOSPC}",
     "short {} 0",
 ]
 

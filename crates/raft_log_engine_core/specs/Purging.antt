@@ -1,10 +1,11 @@
 -- Purging an engine's log (garbage collection).
-use Rattle.std.specs.Prelude.{◌≡◌, ◌⊎◌, ℕ}
+use Rattle.std.specs.Prelude.{◌≡◌, ◌⊎◌, ℕ, Option}
 use Rattle.raft_log_record_base.specs.declared.errors.Error.{Error}
 use Rattle.raft_log_record_base.specs.declared.pipe_log.LogQueue.TheVariants.{Rewrite}
 use Rattle.raft_log_fs.specs.Disk.{Disk}
 use Rattle.raft_log_open.specs.Reading.{BringsInRewrite}
 use Rattle.raft_log_memtables.specs.declared.mem_tables.MemTables.{MemTables}
+use Rattle.raft_log_dual_pipes.specs.Pipes.{LogPipes}
 use Rattle.raft_log_file_settings.specs.Sanitized.{sanitized}
 use Rattle.raft_log_file_settings.specs.Settings.{settings_of}
 use Rattle.raft_log_file_settings.specs.declared.config.Config.{Config}
@@ -52,9 +53,12 @@ pub record CountsBrought (config : Config) (d : Disk) (counts : PurgeCounts) : T
   pub stats : counts.stats ≡ added Rewrite written no_entries
 
 -- A purge of expired files failed. The counts are unchanged, or as `CountsIfPast` says: they are updated first if a
--- queue is past its threshold, and then depend on the failed step. `m` are the memtables before.
-abbrev pub StopsCountingIfPast : Thresholds → MemTables → PurgeCounts → PurgeCounts → EngineState → EngineState → Type 0
-StopsCountingIfPast thresholds m old new s t = (new ≡ old) ⊎ CountsIfPast thresholds m old new s t
+-- queue is past its threshold, and then depend on the failed step. `m` are the memtables before. `hold_back` says which
+-- files are pinned.
+abbrev pub StopsCountingIfPast : (LogPipes → Option ℕ → Type 0) → Thresholds → MemTables → PurgeCounts → PurgeCounts
+    → EngineState → EngineState → Type 0
+StopsCountingIfPast hold_back thresholds m old new s t =
+    (new ≡ old) ⊎ CountsIfPast hold_back thresholds m old new s t
 
 -- A compaction of Rewrite failed. The counts are unchanged; or they were updated before the compaction, and the step
 -- that failed decides which are kept. `m` are the memtables before.

@@ -2,7 +2,7 @@
 -- before and after the append. `old` and `new` are the disk, or the file system. `begin` are the settings for new
 -- files. `signed` gives the record's bytes, signed for a given file. `paths` gives the path of each file of the queue.
 -- `own` says which paths are the queue's.
-use Rattle.std.specs.Prelude.{◌≡◌, ◌⊎◌, ℕ, ◌+◌, ◌<◌, ◌≤◌, List, length}
+use Rattle.std.specs.Prelude.{◌≡◌, ◌⊎◌, ℕ, ◌+◌, ◌<◌, ◌≤◌, List, [], length}
 use Rattle.std.specs.declared.io.ErrorKind.TheVariants.{StorageFull}
 use Rattle.raft_log_fs.specs.Disk.{Disk}
 use Rattle.raft_log_fs.specs.Causes.{IsLater}
@@ -18,7 +18,7 @@ use Rattle.raft_log_active_file.specs.Layout.{FilePaths}
 use Rattle.raft_log_active_file.specs.Exits.{AppendMakes}
 use Rattle.raft_log_active_file.specs.declared.last_file.WriteFault.{WriteFault}
 use Rattle.raft_log_active_file.specs.declared.last_file.WriteFault.TheVariants.{CutBack, Failed}
-use Rattle.raft_log_file_pipe.specs.Placing.{IsPlaced, IsFull}
+use Rattle.raft_log_file_pipe.specs.Placing.{IsNextPlace, IsFull}
 use Rattle.raft_log_file_pipe.specs.Exits.{IsTurned, Rotates, RotationLeaves, Adds, FailsToAdd, SameLists}
 use Rattle.raft_log_file_pipe.specs.declared.pipe_files.PipeFiles.{PipeFiles}
 use Rattle.raft_log_file_pipe.specs.declared.new_files.NewFiles.{NewFiles}
@@ -68,7 +68,7 @@ pub data TurnsElsewhere {R : Type 0} (F : Format R) (own : List ℕ → Type 0) 
   nowhere : RotationLeaves F own paths (header_bytes begin.format) before after error old new
       → TurnsElsewhere F own paths begin before after error old new
 
--- The pipe rotated, and `IsPlaced` says in which directory the next file is. `old` and `new` are states of the file
+-- The pipe rotated, and `IsNextPlace` says in which directory the next file is. `old` and `new` are states of the file
 -- system. `disk` gives the disk of a state. `tells` gives the free space that a state reports, which is no part of the
 -- disk.
 pub record GoesInto {R F : Type 0} (disk : F → Disk) (tells : F → List ℕ → ℕ → Type 0)
@@ -76,8 +76,8 @@ pub record GoesInto {R F : Type 0} (disk : F → Disk) (tells : F → List ℕ �
     (before after : PipeFiles) (old new : F) : Type 0 where
   pub rotates : Rotates format own paths (header_bytes begin.format) before after (disk old) (disk new)
   pub turned : IsTurned begin.format before after
-  pub placed : IsPlaced (tells old) (disk old) begin.target_size paths.directories
-      before.recycled.items after.active.path_id
+  pub placed : IsNextPlace (tells old) (disk old) begin.target_size paths.directories before
+      after.active.path_id
 
 -- A record's write failed for lack of space, and what was written of the record was truncated away. The pipe may have
 -- rotated before the write. After the truncation it rotated as `GoesInto` says.
@@ -95,7 +95,8 @@ pub record GoesElsewhere {R F : Type 0} (disk : F → Disk) (tells : F → List 
   pub goes : GoesInto disk tells format own paths begin cut after short new
 
 -- A record's write failed for lack of space, and what was written of the record was truncated away. The pipe may have
--- rotated before the write. It didn't rotate after the write, as no directory reports free space (`IsFull`).
+-- rotated before the write. It didn't rotate after the write, as no file is kept for recycling and no directory reports
+-- free space (`IsFull`).
 pub record StaysFull {R F : Type 0} (disk : F → Disk) (tells : F → List ℕ → ℕ → Type 0)
     (format : Format R) (own : List ℕ → Type 0) (paths : FilePaths) (begin : NewFiles) (queue : LogQueue)
     (signed : LogFileContext → List ℕ) (before after : PipeFiles) (old new : F) : Type 0 where
@@ -105,6 +106,7 @@ pub record StaysFull {R F : Type 0} (disk : F → Disk) (tells : F → List ℕ 
   pub fails : FailsToAdd format own paths (signed (context_of queue middle)) (CutBack StorageFull)
       middle after between (disk new)
   pub lists : SameLists middle after
+  pub none : after.recycled.items ≡ []
   pub full : IsFull (tells new) (disk new) paths
 
 -- the number of the active file is the one from before, or at most `count` higher

@@ -1,6 +1,6 @@
 //! Appending to a pipe: rotates if the active file has reached the target size, and truncates after a failed write.
 
-ghost use Rattle.std.specs.Prelude.{◌≡◌, ◌<◌, ◌≤◌, ◌^◌, IfErr, IfOk, OnErr, OnOk};
+ghost use Rattle.std.specs.Prelude.{◌≡◌, ◌<◌, ◌≤◌, ◌^◌, [], false, IfErr, IfOk, OnErr, OnOk};
 ghost use Rattle.raft_log_fs.specs.Causes.{IsLater};
 ghost use Rattle.raft_log_active_file.specs.declared.last_file.WriteFault.TheVariants.{CutBack};
 ghost use Rattle.std.specs.declared.io.ErrorKind.TheVariants.{StorageFull};
@@ -8,7 +8,7 @@ ghost use Rattle.raft_log_record_base.specs.declared.errors.Error.TheVariants as
 ghost use Rattle.raft_log_file_format.specs.Header.{header_bytes};
 ghost use Rattle.raft_log_file_pipe.specs.Appending.{AppendFails, AppendsAt, GoesElsewhere, GoesInto, GoesOnBy, SaysTryAgain, StaysFull, Tells, TurnsElsewhere, TurnsFirst};
 ghost use Rattle.raft_log_file_pipe.specs.Exits.{RotationLeaves};
-ghost use Rattle.raft_log_file_pipe.specs.Placing.{IsFull, IsPlaced};
+ghost use Rattle.raft_log_file_pipe.specs.Placing.{IsFull, IsNextPlace};
 ghost use Rattle.raft_log_file_pipe.specs.Doing.{AppendsBy, FailsToAppendBy, FailsToTurnBy, TellsBy, TurnsElsewhereBy, TurnsFirstBy};
 
 use crate::new_files::{NewFiles, is_full};
@@ -34,9 +34,9 @@ fn rotate_if_full<G: PipeFormat, F: FileSystem, L: Log>(
 ) -> Result<()>
     ensures ok { OnOk result (TurnsFirst (G.format layout.now) (G.own layout.now) (G.file_paths layout.now)
         new_files.now files.old files.new (F.disk file_system.old) (F.disk file_system.new)) }
-    ensures placed { new_files.now.target_size ≤ files.old.writer.written → OnOk result (IsPlaced
+    ensures placed { new_files.now.target_size ≤ files.old.writer.written → OnOk result (IsNextPlace
         (F.tells_space file_system.old) (F.disk file_system.old) new_files.now.target_size
-        (G.file_paths layout.now).directories files.old.recycled.items files.new.active.path_id) }
+        (G.file_paths layout.now).directories files.old files.new.active.path_id) }
     ensures long { OnErr result (new_files.now.target_size ≤ files.old.writer.written) }
     ensures err { IfErr result (λ error. RotationLeaves (G.format layout.now) (G.own layout.now)
         (G.file_paths layout.now) (header_bytes new_files.now.format) files.old files.new error
@@ -85,8 +85,21 @@ fn rotate_for_space<G: PipeFormat, F: FileSystem, L: Log>(
     }
 }
 
+/// Whether there is a file kept for recycling, or a directory that may have space left.
+fn has_place<G: PipeFormat, F: FileSystem>(layout: &G, file_system: &F, files: &PipeFiles) -> bool
+    ensures none { result ≡ false → files.now.recycled.items ≡ [] }
+    ensures full { result ≡ false
+        → IsFull (F.tells_space file_system.now) (F.disk file_system.now) (G.file_paths layout.now) }
+{
+    if files.recycled.is_empty() {
+        return !is_full(layout, file_system);
+    }
+    true
+}
+
 /// Returns the error to report for a failed write. If the write failed for lack of space and was truncated away, the
-/// pipe rotates, unless no directory has any space left.
+/// pipe rotates: into a file that is kept for recycling, which needs no space, or else into a new one. If no file is
+/// kept and no directory has any space left, it doesn't rotate.
 fn report_write_fault<G: PipeFormat, F: FileSystem, L: Log>(
     alloc: Global,
     layout: &G,
@@ -103,7 +116,7 @@ fn report_write_fault<G: PipeFormat, F: FileSystem, L: Log>(
         new_files.now files.old files.new file_system.old file_system.new }
     ensures full { result ≡ errors.Io StorageFull → (fault ≡ CutBack StorageFull)
         × IsFull (F.tells_space file_system.new) (F.disk file_system.new) (G.file_paths layout.now)
-        × (files.new ≡ files.old) × (file_system.new ≡ file_system.old) }
+        × (files.new.recycled.items ≡ []) × (files.new ≡ files.old) × (file_system.new ≡ file_system.old) }
     ensures calls { TellsBy (G.file_paths layout.now) new_files.now.format fault files.old files.new result
         (F.disk file_system.old) (F.disk file_system.new) }
     ensures near { GoesOnBy 1 files.old files.new }
@@ -112,7 +125,7 @@ fn report_write_fault<G: PipeFormat, F: FileSystem, L: Log>(
 {
     match fault {
         WriteFault::CutBack(kind) => {
-            if kind == ErrorKind::StorageFull && !is_full(layout, file_system) {
+            if kind == ErrorKind::StorageFull && has_place(layout, file_system, files) {
                 return rotate_for_space(alloc, layout, rt, file_system, files, new_files);
             }
             Error::Io(kind)
@@ -127,7 +140,7 @@ fn report_write_fault<G: PipeFormat, F: FileSystem, L: Log>(
 /// Appends a record, and returns its location. The pipe rotates first if the active file has reached the target size.
 ///
 /// - `Io`: the write failed; its bytes were truncated away, and everything before them is durable. The kind is
-///   `StorageFull` only if the file system reports no free space in any directory.
+///   `StorageFull` only if no file is kept for recycling, and the file system reports no free space in any directory.
 /// - `TryAgain`: the same for lack of space, and the pipe rotated after it.
 /// - `Memory`, `NumberRange`: the pipe couldn't rotate. The record isn't in the log, and no other one is lost.
 /// - `Failed`: the pipe can't be used any more. The record may be on the disk.
@@ -147,9 +160,9 @@ pub fn append<G: PipeFormat, F: FileSystem, L: Log, B: ReactiveBytes>(
         (G.file_paths layout.now) new_files.now queue (B.signed bytes.old) files.old files.new block
         (F.disk file_system.old) (F.disk file_system.new)) }
     ensures place { IfOk result (λ block. block.offset < 2 ^ 63) }
-    ensures placed { new_files.now.target_size ≤ files.old.writer.written → OnOk result (IsPlaced
+    ensures placed { new_files.now.target_size ≤ files.old.writer.written → OnOk result (IsNextPlace
         (F.tells_space file_system.old) (F.disk file_system.old) new_files.now.target_size
-        (G.file_paths layout.now).directories files.old.recycled.items files.new.active.path_id) }
+        (G.file_paths layout.now).directories files.old files.new.active.path_id) }
     ensures err { IfErr result (λ error. AppendFails (G.format layout.now) (G.own layout.now)
         (G.file_paths layout.now) new_files.now queue (B.signed bytes.old) files.old files.new error
         (F.disk file_system.old) (F.disk file_system.new)) }

@@ -1,7 +1,8 @@
 //! How a pipe begins its files.
 
-ghost use Rattle.std.specs.Prelude.{◌≡◌, false, IfOk, IfErr, IsTrue};
-ghost use Rattle.raft_log_file_pipe.specs.Placing.{IsChosen, IsFull, TellsRoom};
+ghost use Rattle.std.specs.Prelude.{◌≡◌, ◌-◌, cond, false, IfOk, IfErr, IsTrue};
+ghost use Rattle.std.specs.Str.{bytes_eq};
+ghost use Rattle.raft_log_file_pipe.specs.Placing.{IsChosen, IsFull, TellsFreed, TellsRoom};
 ghost use Rattle.raft_log_record_base.specs.declared.errors.Error.TheVariants.{Memory};
 ghost use Rattle.raft_log_file_format.specs.Header.{header_bytes};
 ghost use Rattle.raft_log_file_pipe.specs.Headers.{IsAlignmentRefusal};
@@ -64,6 +65,27 @@ fn has_room<F: FileSystem>(file_system: &F, directory: &str, size: usize) -> Res
     }
 }
 
+/// Bytes in a directory that count as free, beside the free space that is reported for it.
+#[derive(Clone, Copy)]
+pub struct FreedSpace<'a> {
+    /// The path of the directory.
+    pub directory: &'a str,
+    /// How many bytes.
+    pub bytes: usize,
+}
+
+impl<'a> FreedSpace<'a> {
+    /// How many of `size` bytes need reported free space in a directory.
+    fn rest(&self, directory: &str, size: usize) -> usize
+        ensures { result ≡ size - cond (bytes_eq directory.now self.now.directory.now) self.now.bytes 0 }
+    {
+        if directory == self.directory {
+            return size.saturating_sub(self.bytes);
+        }
+        size
+    }
+}
+
 /// The directory for a new file: if there are several, the first that has room for `size` bytes, or the main one if
 /// none has. Fails only with `Memory`.
 pub fn choose_directory<G: PipeFormat, F: FileSystem>(
@@ -75,10 +97,30 @@ pub fn choose_directory<G: PipeFormat, F: FileSystem>(
         (G.file_paths layout.now).directories place) }
     ensures err { IfErr result (λ error. (error ≡ Memory) × ((F.disk file_system.now).stopped ≡ false)) }
 {
+    let none = FreedSpace {
+        directory: "",
+        bytes: 0,
+    };
+    choose_directory_with(layout, file_system, size, &none)
+}
+
+/// The directory for a new file, as `choose_directory` chooses it, but with the freed bytes counted as free. Fails only
+/// with `Memory`.
+pub fn choose_directory_with<G: PipeFormat, F: FileSystem>(
+    layout: &G,
+    file_system: &F,
+    size: usize,
+    freed: &FreedSpace,
+) -> Result<PathId>
+    ensures ok { IfOk result (λ place. IsChosen
+        (TellsFreed (F.tells_space file_system.now) freed.now.directory.now freed.now.bytes)
+        (F.disk file_system.now) size (G.file_paths layout.now).directories place) }
+    ensures err { IfErr result (λ error. (error ≡ Memory) × ((F.disk file_system.now).stopped ≡ false)) }
+{
     let paths = layout.paths();
     if paths.len() > 1 {
         for (path_id, path) in paths.iter().enumerate() {
-            if has_room(file_system, path, size)? {
+            if has_room(file_system, path, freed.rest(path, size))? {
                 return Ok(path_id);
             }
         }

@@ -7,11 +7,11 @@ ghost use Rattle.raft_log_fs.specs.Reading.{IsOpened};
 ghost use Rattle.raft_log_fs.specs.declared.handle.Permission.TheVariants as permissions;
 ghost use Rattle.raft_log_file_format.specs.Header.{header_bytes};
 ghost use Rattle.raft_log_active_file.specs.Layout.{plain_place};
-ghost use Rattle.raft_log_file_pipe.specs.Placing.{IsChosen, IsPlaced};
+ghost use Rattle.raft_log_file_pipe.specs.Placing.{IsChosen, IsNextPlace, TellsAfterCut, directory_at, freed_by_cut};
 ghost use Rattle.raft_log_file_pipe.specs.Exits.{IsTurned, Rotates, RotationLeaves, SameLists, StaysClosed};
 ghost use Rattle.raft_log_file_pipe.specs.Doing.{FailsToTurnBy, TurnsPipeBy};
 
-use crate::new_files::{NewFiles, choose_directory};
+use crate::new_files::{FreedSpace, NewFiles, choose_directory_with};
 use crate::pipe_files::PipeFiles;
 use log::{Log, error};
 use raft_log_active_file::{File, PathId, PipeFormat, plain_place, rotate_over, rotate_to_new};
@@ -101,6 +101,36 @@ fn rotate_into_recycled<G: PipeFormat, F: FileSystem, L: Log>(
     Ok(())
 }
 
+/// How many bytes the active file has after the writer's offset; 0 if its size can't be read.
+fn bytes_after_offset<F: FileSystem>(file_system: &F, files: &PipeFiles) -> usize
+    ensures { result ≡ freed_by_cut files.now (F.disk file_system.now) }
+{
+    match file_system.file_size(files.active.handle) {
+        Ok(size) => size.saturating_sub(files.writer.offset()),
+        Err(_) => 0,
+    }
+}
+
+/// What a rotation frees when it truncates the active file at the writer's offset.
+fn freed_by_cut<'a, G: PipeFormat, F: FileSystem>(
+    layout: &'a G,
+    file_system: &F,
+    files: &PipeFiles,
+) -> FreedSpace<'a>
+    ensures directory { result.directory.now
+        ≡ directory_at (G.file_paths layout.now).directories files.now.active.path_id }
+    ensures bytes { result.bytes ≡ freed_by_cut files.now (F.disk file_system.now) }
+{
+    let directory = match layout.paths().get(place_beside(layout, &files.active)) {
+        Some(path) => path.as_str(),
+        None => "",
+    };
+    FreedSpace {
+        directory,
+        bytes: bytes_after_offset(file_system, files),
+    }
+}
+
 /// Rotates into a new file with the next number.
 fn rotate_into_new<G: PipeFormat, F: FileSystem, L: Log>(
     alloc: Global,
@@ -118,7 +148,8 @@ fn rotate_into_new<G: PipeFormat, F: FileSystem, L: Log>(
         (header_bytes new_files.now.format) files.old files.new
         (F.disk file_system.old) (F.disk file_system.new)) }
     ensures turned { OnOk result (IsTurned new_files.now.format files.old files.new) }
-    ensures placed { OnOk result (IsChosen (F.tells_space file_system.old) (F.disk file_system.old)
+    ensures placed { OnOk result (IsChosen (TellsAfterCut (F.tells_space file_system.old)
+        (F.disk file_system.old) (G.file_paths layout.now).directories files.old) (F.disk file_system.old)
         new_files.now.target_size (G.file_paths layout.now).directories files.new.active.path_id) }
     ensures err { IfErr result (λ error. RotationLeaves (G.format layout.now) (G.own layout.now)
         (G.file_paths layout.now) (header_bytes new_files.now.format) files.old files.new error
@@ -132,7 +163,8 @@ fn rotate_into_new<G: PipeFormat, F: FileSystem, L: Log>(
     ensures later { IsLater (F.disk file_system.old) (F.disk file_system.new) }
 {
     let header = new_files.header();
-    let path_id = choose_directory(layout, file_system, new_files.target_size)?;
+    let freed = freed_by_cut(layout, file_system, files);
+    let path_id = choose_directory_with(layout, file_system, new_files.target_size, &freed)?;
     let place = File {
         seq,
         handle: files.active.handle,
@@ -169,8 +201,8 @@ pub fn rotate<G: PipeFormat, F: FileSystem, L: Log>(
         (header_bytes new_files.now.format) files.old files.new
         (F.disk file_system.old) (F.disk file_system.new)) }
     ensures turned { OnOk result (IsTurned new_files.now.format files.old files.new) }
-    ensures placed { OnOk result (IsPlaced (F.tells_space file_system.old) (F.disk file_system.old)
-        new_files.now.target_size (G.file_paths layout.now).directories files.old.recycled.items
+    ensures placed { OnOk result (IsNextPlace (F.tells_space file_system.old) (F.disk file_system.old)
+        new_files.now.target_size (G.file_paths layout.now).directories files.old
         files.new.active.path_id) }
     ensures err { IfErr result (λ error. RotationLeaves (G.format layout.now) (G.own layout.now)
         (G.file_paths layout.now) (header_bytes new_files.now.format) files.old files.new error

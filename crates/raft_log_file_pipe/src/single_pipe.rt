@@ -49,7 +49,7 @@ impl<G: PipeFormat> SinglePipe<G> {
     ghost use Rattle.raft_log_file_format.specs.Header.{header_bytes};
     ghost use Rattle.raft_log_file_pipe.specs.Appending.{AppendFails, AppendsAt, GoesElsewhere, GoesOnBy, SaysTryAgain, StaysFull};
     ghost use Rattle.raft_log_file_pipe.specs.Purging.{IsInSpan, IsRaised, PurgeLeaves, Purges, paths_going};
-    ghost use Rattle.raft_log_file_pipe.specs.Placing.{IsPlaced};
+    ghost use Rattle.raft_log_file_pipe.specs.Placing.{IsNextPlace};
     ghost use Rattle.raft_log_fs.specs.Exits.{Syncs};
     ghost use Rattle.raft_log_file_pipe.specs.Calls.{DropsBy};
     ghost use Rattle.raft_log_file_pipe.specs.Doing.{AppendsBy, FailsToAppendBy, FailsToPurgeBy, FailsToSyncBy, FailsToTurnBy, TurnsPipeBy};
@@ -147,9 +147,9 @@ impl<G: PipeFormat> SinglePipe<G> {
             (F.disk file_system.old) (F.disk file_system.new)) }
         ensures place { IfOk result (λ block. block.offset < 2 ^ 63) }
         ensures placed { self.old.settings.new_files.target_size ≤ self.old.files.writer.written
-            → OnOk result (IsPlaced (F.tells_space file_system.old) (F.disk file_system.old)
+            → OnOk result (IsNextPlace (F.tells_space file_system.old) (F.disk file_system.old)
             self.old.settings.new_files.target_size (G.file_paths self.old.layout).directories
-            self.old.files.recycled.items self.new.files.active.path_id) }
+            self.old.files self.new.files.active.path_id) }
         ensures err { self.old.failed ≡ false → IfErr result (λ error.
             AppendFails (G.format self.old.layout) (G.own self.old.layout) (G.file_paths self.old.layout)
             self.old.settings.new_files self.old.settings.queue (B.signed bytes.old)
@@ -241,9 +241,9 @@ impl<G: PipeFormat> SinglePipe<G> {
             self.old.files self.new.files (F.disk file_system.old) (F.disk file_system.new)) }
         ensures turned { OnOk result
             (IsTurned self.old.settings.new_files.format self.old.files self.new.files) }
-        ensures placed { OnOk result (IsPlaced (F.tells_space file_system.old) (F.disk file_system.old)
+        ensures placed { OnOk result (IsNextPlace (F.tells_space file_system.old) (F.disk file_system.old)
             self.old.settings.new_files.target_size (G.file_paths self.old.layout).directories
-            self.old.files.recycled.items self.new.files.active.path_id) }
+            self.old.files self.new.files.active.path_id) }
         ensures err { self.old.failed ≡ false → IfErr result (λ error.
             RotationLeaves (G.format self.old.layout) (G.own self.old.layout) (G.file_paths self.old.layout)
             (header_bytes self.old.settings.new_files.format) self.old.files self.new.files error

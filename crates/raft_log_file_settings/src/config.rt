@@ -23,11 +23,12 @@ const MAX_PREFILLED_FILES: usize = 65_536;
 pub struct Config {
     /// The main directory of log files; an open makes it if it doesn't exist.
     pub dir: String,
-    /// The most bytes that the files of `dir` may have in all; no limit if it is absent.
+    /// How many bytes the files of `dir` may have in all, new ones included, before new files go to `spill_dir`. No
+    /// limit if it is absent.
     pub dir_limit: Option<ReadableSize>,
     /// A second directory, for new files if the main one has no space.
     pub spill_dir: Option<String>,
-    /// The most bytes that the files of `spill_dir` may have in all; no limit if it is absent.
+    /// The same for `spill_dir`. If both directories reach their limit, new files go to `dir`.
     pub spill_dir_limit: Option<ReadableSize>,
     /// How an open handles damaged files.
     pub recovery_mode: RecoveryMode,

@@ -50,8 +50,9 @@ pub(crate) const PIECE: usize = 1 << 16;
 /// - A method makes one change on the device; a write and a growth make it piece by piece. It then notes the call; only
 ///   clauses read the notes.
 /// - A growth is also synced, and so is a write that makes the file longer by more than a piece.
-/// - If a file that becomes longer finds no space, it is truncated to its old length. The first time, and the first
-///   time after there was space again, that is printed to standard error, with the directory and the path.
+/// - If a file that becomes longer finds no space, it is truncated to its old length. That is printed to standard error,
+///   with the directory and the path: for each of the log's directories the first time, and the first time after a file
+///   in it could be made longer.
 /// - A header and a record of Rewrite that find no space are tried once more, in the space that the directory keeps in
 ///   reserve. So is the making of a file. A deletion in the directory fills the reserve again.
 /// - A system call that fails is printed to standard error, with the path.
@@ -63,8 +64,6 @@ pub struct FileDevice<R> {
     files: BTreeMap<usize, OpenFile>,
     directories: Vec<LockedDirectory>,
     zeros: Vec<u8>,
-    // Whether the last attempt to make a file longer found no space.
-    is_full: bool,
     // Whether directories may be made.
     makes_directories: bool,
     found: Snapshot<Storage>,
@@ -91,7 +90,6 @@ impl<R: Files<File = File> + Eprint + AllocGlobal + Drop> FileDevice<R> {
             files,
             directories,
             zeros,
-            is_full: false,
             makes_directories: access == Access::ReadOnly,
             found: Snapshot::of(storage),
             record: Record::new(),
@@ -173,10 +171,10 @@ impl<R: Files<File = File> + Eprint + AllocGlobal + Drop> Device for FileDevice<
         let path = opened.path.as_str();
         let tried = extend_from_reserve(&self.rt, &mut self.directories, opened, offset, bytes);
         let attempt = reported(&self.rt, path, "write", tried)?;
-        warn_of_space(&self.rt, path, &attempt, &mut self.is_full);
+        warn_of_space(&self.rt, &mut self.directories, path, attempt);
         let kind = match attempt {
             Attempt::Made => WRITTEN,
-            Attempt::Undone(_) => UNDONE_WRITE,
+            Attempt::Undone => UNDONE_WRITE,
         };
         self.record.note(&[kind, file as u64, offset as u64], bytes);
         Ok(attempt)
@@ -200,10 +198,10 @@ impl<R: Files<File = File> + Eprint + AllocGlobal + Drop> Device for FileDevice<
         let path = opened.path.as_str();
         let grown = grow(&opened.file, &self.zeros, size);
         let attempt = reported(&self.rt, path, "grow it", grown)?;
-        warn_of_space(&self.rt, path, &attempt, &mut self.is_full);
+        warn_of_space(&self.rt, &mut self.directories, path, attempt);
         let kind = match attempt {
             Attempt::Made => GROWN,
-            Attempt::Undone(_) => UNDONE_GROWTH,
+            Attempt::Undone => UNDONE_GROWTH,
         };
         self.record.note(&[kind, file as u64, size as u64], &[]);
         Ok(attempt)
@@ -242,10 +240,7 @@ fn sync_named<R: Files<File = File>>(
     directories: &[LockedDirectory],
     path: &str,
 ) -> io::Result<()> {
-    match directories
-        .iter()
-        .find(|locked| locked.path.as_str() == path)
-    {
+    match directories.iter().find(|locked| locked.is_at(path)) {
         Some(locked) => locked.sync(),
         None => File::open(rt, path)?.sync_all(),
     }

@@ -34,7 +34,7 @@ pub(crate) fn extend(opened: &File, offset: usize, bytes: &[u8]) -> io::Result<A
     let written = write_tail(opened, offset.wrapping_add(inside), tail);
     match keep_growth(opened, length, written)? {
         Attempt::Made => write_pieces(opened, offset, front)?,
-        Attempt::Undone(kind) => return Ok(Attempt::Undone(kind)),
+        Attempt::Undone => return Ok(Attempt::Undone),
     }
     Ok(Attempt::Made)
 }
@@ -77,9 +77,7 @@ fn keep_growth(opened: &File, length: u64, grown: io::Result<()>) -> io::Result<
     };
     let cut = opened.set_len(length);
     match error.kind() {
-        ErrorKind::StorageFull | ErrorKind::QuotaExceeded if cut.is_ok() => {
-            Ok(Attempt::Undone(ErrorKind::StorageFull))
-        }
+        ErrorKind::StorageFull | ErrorKind::QuotaExceeded if cut.is_ok() => { Ok(Attempt::Undone) }
         _ => Err(error),
     }
 }

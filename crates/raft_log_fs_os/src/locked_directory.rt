@@ -1,21 +1,25 @@
 //! A directory of a log, locked while it is open.
 use super::load::Access;
 use super::reserve::Reserve;
+use raft_log_fs_traced::Attempt;
 use std::alloc::Global;
 use std::fs::{File, OpenOptions};
 use std::io;
 use std::io::ErrorKind;
+use std::path::Path;
 use std::rt::Files;
 
 /// A directory of a log. It is locked until this is dropped, and so is the file `LOCK` in it, by which programs built
 /// on raft-engine keep each other out. A writer has both locks alone; readers share them.
 #[derive(Drop)]
 pub(crate) struct LockedDirectory {
-    /// The path by which it was opened.
-    pub path: String,
     /// The space that it keeps for a full disk.
     pub reserve: Reserve,
+    // The path by which it was opened.
+    path: String,
     directory: File,
+    // Whether the last attempt to make a file in it longer found no space.
+    is_full: bool,
     // The file `LOCK`. A reader has none if the file isn't there, as it makes no file.
     lock: Option<File>,
 }
@@ -31,9 +35,10 @@ impl LockedDirectory {
     ) -> io::Result<LockedDirectory> {
         take(&directory, access)?;
         Ok(LockedDirectory {
-            path: String::from_str(alloc, path)?,
             reserve: Reserve::new(format!(in alloc; "{path}/RESERVE")?),
+            path: String::from_str(alloc, path)?,
             directory,
+            is_full: false,
             lock: None,
         })
     }
@@ -63,6 +68,11 @@ impl LockedDirectory {
         }
     }
 
+    /// Whether a path is the one by which it was opened. A slash at the end of either makes no difference.
+    pub fn is_at(&self, path: &str) -> bool {
+        Path::new(self.path.as_str()) == Path::new(path)
+    }
+
     /// Syncs the directory.
     pub fn sync(&self) -> io::Result<()> {
         self.directory.sync_all()
@@ -76,4 +86,31 @@ fn take(file: &File, access: Access) -> io::Result<()> {
         Access::ReadOnly => file.try_lock_shared()?,
     }
     Ok(())
+}
+
+/// Notes for a file's directory whether an attempt to make the file longer found no space. Returns whether it did and
+/// the last attempt in that directory didn't. If the directory isn't one of these, nothing is known of the last one.
+pub(crate) fn begins_to_lack(
+    directories: &mut [LockedDirectory],
+    path: &str,
+    attempt: Attempt,
+) -> bool {
+    let is_full = matches!(attempt, Attempt::Undone);
+    let home = directory_of(path);
+    for directory in directories.iter_mut() {
+        if directory.is_at(home) {
+            let was_full = directory.is_full;
+            directory.is_full = is_full;
+            return is_full && !was_full;
+        }
+    }
+    is_full
+}
+
+/// The directory that a file is in; `.` if the path names none.
+pub(crate) fn directory_of(path: &str) -> &str {
+    match Path::new(path).parent() {
+        Some(parent) if !parent.as_str().is_empty() => parent.as_str(),
+        _ => ".",
+    }
 }

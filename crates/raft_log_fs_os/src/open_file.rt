@@ -1,9 +1,9 @@
 //! An open file, and the messages for a call on it that failed or found no space.
+use super::locked_directory::{LockedDirectory, begins_to_lack, directory_of};
 use raft_log_fs_traced::Attempt;
 use std::fs::File;
 use std::io;
 use std::io::ErrorKind;
-use std::path::Path;
 
 /// An open file with its path.
 #[derive(Drop)]
@@ -41,16 +41,17 @@ pub(crate) fn unopened<R: Eprint>(rt: &R, path: &str) -> ErrorKind {
     ErrorKind::NotFound
 }
 
-/// Notes whether an attempt to make a file longer found no space. Prints a warning with the directory and the path to
-/// standard error if it did and the attempt before it didn't.
-pub(crate) fn warn_of_space<R: Eprint>(rt: &R, path: &str, attempt: &Attempt, is_full: &mut bool) {
-    let was_full = *is_full;
-    *is_full = matches!(attempt, Attempt::Undone(_));
-    if *is_full && !was_full {
-        let directory = match Path::new(path).parent() {
-            Some(parent) => parent.as_str(),
-            None => ".",
-        };
+/// Notes for a file's directory whether an attempt to make the file longer found no space. Prints a warning with the
+/// directory and the path to standard error if it did and the last attempt in that directory didn't. The directory of a
+/// copy isn't one of these: a lack of space there is printed each time.
+pub(crate) fn warn_of_space<R: Eprint>(
+    rt: &R,
+    directories: &mut [LockedDirectory],
+    path: &str,
+    attempt: Attempt,
+) {
+    if begins_to_lack(directories, path, attempt) {
+        let directory = directory_of(path);
         let _printed = eprintln!(rt;
             "no space left in {directory}: {path} keeps its length"
         ).is_ok();

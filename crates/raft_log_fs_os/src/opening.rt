@@ -23,8 +23,8 @@ use std::{fs, io};
 ///
 /// - Both directories must exist. Each is locked until the file system is dropped, and so is the file `LOCK` in it.
 /// - The file `LOCK` is made if it isn't there. It keeps out programs built on raft-engine.
-/// - Each directory gets a file `RESERVE` of 256 KiB, if there is room. On a full disk its space is used for a new file
-///   with its header, and for records of Rewrite.
+/// - Each directory gets a file `RESERVE` of 256 KiB, if there is room. On a full disk its space is given whole for a new
+///   file with its header, or for a record of Rewrite. Later records can take what is left of it.
 /// - Each file with a log file's name is synced and read, several in parallel. If such an entry is no regular file, the
 ///   open fails with `Irregular`. Entries with other names are ignored.
 /// - The last file of either queue is written back with the same bytes and synced; then the directories are synced.

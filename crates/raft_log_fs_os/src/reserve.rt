@@ -4,16 +4,16 @@
 //!
 //! Two kinds of writes may use that space. A queue that begins a file has to write the file's header, and can't go back
 //! to the file before it. A purge has to write what is live into Rewrite before it deletes files, and only that makes
-//! space. Records of users may not use it: they fail, and the log runs on.
+//! space. No record of a user makes the reserve be given: it fails, and the log runs on. But the reserve is given
+//! whole, so later records of users can take what the header or the record of Rewrite leaves of it.
 use super::file_device::PIECE;
 use super::growing::{extend, grow};
-use super::locked_directory::LockedDirectory;
+use super::locked_directory::{LockedDirectory, directory_of};
 use super::open_file::OpenFile;
 use raft_log_fs_traced::Attempt;
 use std::fs::{File, OpenOptions};
 use std::io;
 use std::io::ErrorKind;
-use std::path::Path;
 use std::rt::Files;
 
 /// How many bytes a directory keeps in reserve.
@@ -81,7 +81,7 @@ pub(crate) fn extend_from_reserve<R: Files<File = File>>(
 ) -> io::Result<Attempt> {
     let path = opened.path.as_str();
     match extend(&opened.file, offset, bytes)? {
-        Attempt::Undone(_) if may_use(path, offset) && give(rt, directories, path) => {
+        Attempt::Undone if may_use(path, offset) && give(rt, directories, path) => {
             extend(&opened.file, offset, bytes)
         }
         attempt => Ok(attempt),
@@ -132,7 +132,7 @@ pub(crate) fn fill_beside<R: Files<File = File>>(
 ) {
     let home = directory_of(path);
     for directory in directories.iter_mut() {
-        if directory.path.as_str() == home {
+        if directory.is_at(home) {
             directory.reserve.fill(rt, zeros);
         }
     }
@@ -142,7 +142,7 @@ pub(crate) fn fill_beside<R: Files<File = File>>(
 fn give<R: Files<File = File>>(rt: &R, directories: &mut [LockedDirectory], path: &str) -> bool {
     let home = directory_of(path);
     for directory in directories.iter_mut() {
-        if directory.path.as_str() == home {
+        if directory.is_at(home) {
             return directory.reserve.give(rt);
         }
     }
@@ -152,12 +152,4 @@ fn give<R: Files<File = File>>(rt: &R, directories: &mut [LockedDirectory], path
 /// Whether a write past the end of a file may use the reserve: a header, or a record of Rewrite.
 fn may_use(path: &str, offset: usize) -> bool {
     offset == 0 || path.ends_with(REWRITE)
-}
-
-/// The directory that a file is in.
-fn directory_of(path: &str) -> &str {
-    match Path::new(path).parent() {
-        Some(parent) => parent.as_str(),
-        None => "",
-    }
 }

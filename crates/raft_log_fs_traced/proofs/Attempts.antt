@@ -44,11 +44,11 @@ module _ (file : ℕ) (change : Change) (base : Storage) (state : File) (is : (c
     -- the device after an attempt that ended
     pub after_attempt : (tried : Attempt) → later ≡ noted (attempted file change tried) trace → held_by later ≡ settled (changed_by (attempted file change tried) d)
     after_attempt attempt.Made noted_it = ap held_by noted_it ∙ ap (with_bytes (Changed file change)) at
-    after_attempt (attempt.Undone kind) noted_it = ap held_by noted_it ∙ ap (with_bytes (Undone file change)) at
+    after_attempt attempt.Undone noted_it = ap held_by noted_it ∙ ap (with_bytes (Undone file change)) at
 
     pub reached_ok : (tried : Attempt) → later ≡ noted (attempted file change tried) trace → Reached (held_by later).kept
     reached_ok attempt.Made noted_it = inr (inl (ap (λ (h : Held). h.kept) (after_attempt attempt.Made noted_it) ∙ as_made))
-    reached_ok (attempt.Undone kind) noted_it = inr (inr (ap (λ (h : Held). h.kept) (after_attempt (attempt.Undone kind) noted_it) ∙ as_undone))
+    reached_ok attempt.Undone noted_it = inr (inr (ap (λ (h : Held). h.kept) (after_attempt attempt.Undone noted_it) ∙ as_undone))
 
     pub reached_err : MayBeMade (Changed file change) trace later → Reached (held_by later).kept
     reached_err (inl same) = inl (ap (λ (t : Trace). (held_by t).kept) same ∙ ap (λ (h : Held). h.kept) at)
@@ -99,7 +99,7 @@ never_follows stopped model later halted = λ runs. absurd (false≢true (sym ru
 -- how an attempt changes the file
 abbrev pub stepped : Change → Attempt → File → File
 stepped change attempt.Made = after_change change
-stepped change (attempt.Undone kind) = undone_change change
+stepped change attempt.Undone = undone_change change
 
 -- the model made the change
 pub made_whole : (file : ℕ) (change : Change) (mid new : Storage) (r : Result (Unit {0}) ErrorKind) → OnOk r (Makes file change [] mid new)
@@ -107,14 +107,14 @@ pub made_whole : (file : ℕ) (change : Change) (mid new : Storage) (r : Result 
 made_whole file change mid new r = ok_then r (λ makes state is. makes.contents state is ∙ ap (λ (f : File). with_file file (Some f) (contents_of mid)) (after_whole change state))
 
 -- the model noted a write that was undone
-pub made_front : (file at : ℕ) (bytes : List ℕ) (kind : ErrorKind) (mid new : Storage) (r : Result (Unit {0}) ErrorKind) → OnOk r (Makes file (Wrote at (take 0 bytes)) (drop 0 bytes) mid new)
-    → OnOk r ((state : File) → (contents_of mid).files file ≡ Some state → contents_of new ≡ with_file file (Some (stepped (Wrote at bytes) (attempt.Undone kind) state)) (contents_of mid))
-made_front file at bytes kind mid new r = ok_then r (λ makes state is. makes.contents state is ∙ ap (λ (f : File). with_file file (Some f) (contents_of mid)) (front_change at bytes 0 state))
+pub made_front : (file at : ℕ) (bytes : List ℕ) (mid new : Storage) (r : Result (Unit {0}) ErrorKind) → OnOk r (Makes file (Wrote at (take 0 bytes)) (drop 0 bytes) mid new)
+    → OnOk r ((state : File) → (contents_of mid).files file ≡ Some state → contents_of new ≡ with_file file (Some (stepped (Wrote at bytes) attempt.Undone state)) (contents_of mid))
+made_front file at bytes mid new r = ok_then r (λ makes state is. makes.contents state is ∙ ap (λ (f : File). with_file file (Some f) (contents_of mid)) (front_change at bytes 0 state))
 
 -- the model noted a growth that was undone
-pub noted_growth_of : (file size : ℕ) (kind : ErrorKind) (mid new : Storage) (r : Result (Unit {0}) ErrorKind) → OnOk r (NotesGrowth file size mid new)
-    → OnOk r ((state : File) → (contents_of mid).files file ≡ Some state → contents_of new ≡ with_file file (Some (stepped (GrewTo size) (attempt.Undone kind) state)) (contents_of mid))
-noted_growth_of file size kind mid new r = ok_then r (λ notes state is. notes.contents state is)
+pub noted_growth_of : (file size : ℕ) (mid new : Storage) (r : Result (Unit {0}) ErrorKind) → OnOk r (NotesGrowth file size mid new)
+    → OnOk r ((state : File) → (contents_of mid).files file ≡ Some state → contents_of new ≡ with_file file (Some (stepped (GrewTo size) attempt.Undone state)) (contents_of mid))
+noted_growth_of file size mid new r = ok_then r (λ notes state is. notes.contents state is)
 
 -- An attempt that failed on the device.
 module _ (file : ℕ) (change : Change) (base : Storage) (there : (contents_of base).files file ≡ None → ⊥) (trace later : Trace) (at : held_by trace ≡ settled (contents_of base))
@@ -149,7 +149,7 @@ module _ (file : ℕ) (change : Change) (base mid new : Storage) (same : content
     where
       as_stepped : (tried : Attempt) → changed_by (attempted file change tried) (contents_of base) ≡ with_file file (Some (stepped change tried state)) (contents_of base)
       as_stepped attempt.Made = as_made file change base state is
-      as_stepped (attempt.Undone kind) = as_undone file change base state is
+      as_stepped attempt.Undone = as_undone file change base state is
 
   followed : Did → held_by later ≡ settled (contents_of new)
   followed did =

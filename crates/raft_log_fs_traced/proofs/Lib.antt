@@ -1,5 +1,6 @@
 mod Made
 mod Files
 mod Attempts
+mod Lacking
 mod UndoneLaws
 pub mod Pieces

@@ -80,13 +80,13 @@ pub failed_once : {kind : ErrorKind} (part does : Disk → Disk → Type 0) (wro
     → IsRight (wrong (with_failures failures kinds contents)) → ((k : Disk) → part k k) → FailsOnce kind error d new → Refused (part d) (does d) (wrong d) error d new
 failed_once part does wrong error failures kinds contents d new same runs right none (inl (same_kind, is)) =
     failed (ap (λ (k : Disk). k.stopped) same ∙ runs) (subst (λ (k : Disk). IsRight (wrong k)) (sym same) right) d (none d) is
-failed_once part does wrong error failures kinds contents d new same runs right none (inr (told, is)) = stops (ap (λ (k : Disk). k.stopped) same ∙ runs) told.stops d (inl refl) is
+failed_once part does wrong error failures kinds contents d new same runs right none (inr (told, full, is)) = stops (ap (λ (k : Disk). k.stopped) same ∙ runs) told.stops d (inl refl) is
 
 -- the same, after some of the call was done
 pub failed_after : {kind : ErrorKind} (part does : Disk → Type 0) (wrong : ErrorKind → Type 0) (error : ErrorKind) (d mid new : Disk) → d.stopped ≡ false → IsRight wrong → part mid
     → FailsOnce kind error mid new → Refused part does wrong error d new
 failed_after {kind = kind} part does wrong error d mid new runs right some (inl (same_kind, is)) = failed runs right mid some is
-failed_after part does wrong error d mid new runs right some (inr (told, is)) = stops runs told.stops mid (inr (right, inl some)) is
+failed_after part does wrong error d mid new runs right some (inr (told, full, is)) = stops runs told.stops mid (inr (right, inl some)) is
 
 -- Each call, as the model does it.
 

@@ -138,7 +138,7 @@ HasBytes file at bytes d = (state : File) → d.files file ≡ Some state
 -- the call that the trace notes for an attempt to change a file: the change, or the change undone
 abbrev pub attempted : ℕ → Change → Attempt → DeviceCall
 attempted file change attempt.Made = Changed file change
-attempted file change (attempt.Undone kind) = Undone file change
+attempted file change attempt.Undone = Undone file change
 
 -- `call` failed. The device made the call nevertheless, or made none. `old` and `new` are the traces before and after.
 abbrev pub MayBeMade : DeviceCall → Trace → Trace → Type 0

@@ -17,11 +17,15 @@ use Rattle.raft_log_fs_traced.specs.declared.directory.DirectoryFileSystem.{Dire
 abbrev pub with_failures : ℕ → List ErrorKind → Disk → Disk
 with_failures failures kinds d = record d { failures = failures; kinds = kinds }
 
--- A failure of this kind was counted, and `error` is its kind. Or the file system stopped in a device call that failed
--- with this kind, and `error` is the one for such a stop. Nothing else changed.
+-- the count of failures has no room for one more: it is 2^64 - 1
+abbrev pub CountIsFull : Disk → Type 0
+CountIsFull d = d.failures ≡ 18446744073709551615
+
+-- A failure of this kind was counted, and `error` is its kind. Or the count of failures had no room for it: then the
+-- file system stopped, and `error` is the one for a stop at this kind. Nothing else changed.
 abbrev pub FailsOnce : ErrorKind → ErrorKind → Disk → Disk → Type 0
-FailsOnce kind error old new =
-    ((error ≡ kind) × (new ≡ counted error old)) ⊎ (IsToldAtStop kind error × (new ≡ at_stop old))
+FailsOnce kind error old new = ((error ≡ kind) × (new ≡ counted error old))
+    ⊎ (IsToldAtStop kind error × CountIsFull old × (new ≡ at_stop old))
 
 -- `result` is what a call returns after the device call `made`: the same value if that succeeded, otherwise the error
 -- of a stop

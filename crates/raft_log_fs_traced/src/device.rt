@@ -10,8 +10,8 @@ use std::io::ErrorKind;
 pub enum Attempt {
     /// The file is longer.
     Made,
-    /// There was no room for it: the file has the bytes that it had. The kind is that of the system's error.
-    Undone(ErrorKind),
+    /// There was no space for it: the file has the bytes that it had.
+    Undone,
 }
 
 /// What keeps files and directories, as an operating system does. Each method except `close` is one call in the trace.

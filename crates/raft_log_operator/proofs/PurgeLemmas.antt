@@ -13,6 +13,7 @@ use Rattle.raft_log_purge_policy.specs.Thresholds.{thresholds_of}
 use Rattle.raft_log_purge_policy.specs.declared.thresholds.Thresholds.{Thresholds}
 use Rattle.raft_log_purge.specs.Counted.{PurgesAndCounts}
 use Rattle.raft_log_purge.specs.declared.expired_files.PurgeCounts.{PurgeCounts}
+use Rattle.raft_log_purge.proofs.Public.{expired_as}
 use Rattle.raft_log_open.specs.Opening.{OpensDirectory}
 use Rattle.raft_log_world.specs.Model.{ModelLog}
 use Rattle.raft_log_engine.specs.raft_log_model_laws.specs.Groups.{taken}
@@ -156,21 +157,7 @@ module _ (pins : LogPipes → Option ℕ → Type 0) (nothing : NothingIsHeldBac
     counted = p.counted;
     first = p.first;
     purged = p.purged;
-    purges = record {
-      synced = p.purges.synced;
-      syncs = p.purges.syncs;
-      restated = p.purges.restated;
-      between = p.purges.between;
-      pipes = p.purges.pipes;
-      cache = p.purges.cache;
-      rewrites = p.purges.rewrites;
-      held = p.purges.held;
-      told = nothing p.purges.pipes p.purges.held p.purges.told;
-      purges = p.purges.purges;
-      alive = p.purges.alive;
-      later = p.purges.later;
-      holds = p.purges.holds;
-    };
+    purges = expired_as pins PinsNothing nothing thresholds before after p.counted p.purged groups s t p.purges;
     second = p.second;
   }
 

@@ -25,13 +25,13 @@ pub record PurgesAndCounts (hold_back : LogPipes → Option ℕ → Type 0) (thr
 
 -- The counts after a purge of expired files failed. If a queue was past its threshold, they were updated before the
 -- purge. Which counts are left after that depends on the step that failed (`KeepsCounts`).
-pub record CountsIfPast (thresholds : Thresholds) (before : MemTables) (old new : PurgeCounts) (s t : EngineState)
-    : Type 0 where
+pub record CountsIfPast (hold_back : LogPipes → Option ℕ → Type 0) (thresholds : Thresholds) (before : MemTables)
+    (old new : PurgeCounts) (s t : EngineState) : Type 0 where
   pub past : Bool
   pub tells : IsTrue past ↔ IsAnyPast thresholds s.pipes
   pub counted : PurgeCounts
   pub first : CountsIf past before old counted
-  pub kept : KeepsCounts thresholds before counted new s t
+  pub kept : KeepsCounts hold_back thresholds before counted new s t
 
 -- Rewrite was compacted. Before that, the counts were updated with what was live there; after it, they were reset
 -- (`reset_counts`).

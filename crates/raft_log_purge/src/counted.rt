@@ -45,7 +45,8 @@ pub fn purge_and_count<P: PipeLog, L: Log>(
         (shows (P.shown pipes.old) tables.old cache.old) (shows (P.shown pipes.new) tables.new cache.new)) }
     ensures err { IfErr result (λ error. FailsToPurgeExpired error
         (shows (P.shown pipes.old) tables.old cache.old) (shows (P.shown pipes.new) tables.new cache.new)) }
-    ensures kept { OnErr result (CountsIfPast thresholds.now tables.old counts.old counts.new
+    ensures kept { OnErr result (CountsIfPast (PipesHoldBack P.shown P.holds_back Append)
+        thresholds.now tables.old counts.old counts.new
         (shows (P.shown pipes.old) tables.old cache.old) (shows (P.shown pipes.new) tables.new cache.new)) }
     ensures rests { IsAtRest tables.old → IsAtRest tables.new }
     ensures owes { AddsNoMarks tables.old tables.new }

@@ -8,11 +8,13 @@ ghost use Rattle.raft_log_memtables.specs.Tables.{IsAtRest};
 ghost use Rattle.raft_log_purge_copy.specs.Owed.{AddsNoMarks};
 ghost use Rattle.raft_log_purge_policy.specs.Picking.{count_of};
 ghost use Rattle.raft_log_purge_policy.specs.Surveying.{SurveysIfTold};
+ghost use Rattle.raft_log_purge.specs.Expired.{FailsToPurgeAppend};
 ghost use Rattle.raft_log_purge.specs.Garbage.{CountsRefused};
 ghost use Rattle.raft_log_purge.specs.RewriteQueue.{FailsToRewriteRewrite, reset_counts};
 ghost use Rattle.raft_log_purge.specs.Standing.{StandIfTold};
 ghost use Rattle.raft_log_purge.specs.ExpiredFiles.{
   FailsToPurgeExpired,
+  FreesFirst,
   KeepsCounts,
   PurgesExpired,
   RewritesIfPast,
@@ -20,14 +22,14 @@ ghost use Rattle.raft_log_purge.specs.ExpiredFiles.{
   SyncsAndRewrites,
 };
 
-use crate::expired::{Purged, purge_append, survey_if_past};
+use crate::expired::{Purged, delete_before_writing, purge_append, survey_if_past};
 use crate::rewrite_queue::rewrite_rewrite_queue;
 use log::Log;
 use raft_log_dual_pipes::PipeLog;
 use raft_log_memtable::GlobalStats;
 use raft_log_memtables::MemTables;
 use raft_log_purge_copy::raft_log_block_cache::BlockCache;
-use raft_log_purge_policy::{Rounds, Survey, Thresholds, takes_rewrite};
+use raft_log_purge_policy::{Rounds, Survey, Thresholds, takes_append, takes_rewrite};
 use raft_log_record_base::{LogQueue, Result};
 use std::alloc::Global;
 
@@ -137,9 +139,11 @@ impl PurgeCounts {
 
 /// Purges both queues if they are past their thresholds. Afterwards the map is the same, and nothing is pending.
 /// - Syncs Append.
+/// - If both queues are to be purged, takes files that no listener pins out of Append's live range, before it writes
+///   anything. So it frees space on a full disk. Does nothing here if a tombstone is owed.
 /// - Compacts Rewrite if it is past its threshold and enough of it is garbage.
-/// - Purges Append if it is past its threshold. Writes the owed tombstones, rewrites the groups that the rules pick,
-///   and takes files that no listener pins out of its live range.
+/// - Purges Append if it is past its threshold then. First deletes files if no tombstone is owed. Writes the owed
+///   tombstones, rewrites the groups that the rules pick, and takes files that no listener pins out of its live range.
 ///
 /// If Append was purged, returns the groups that the caller is asked to compact, and how much is live in Rewrite now.
 /// If Rewrite was compacted, also returns the groups that have many entries there. The groups are in rising order.
@@ -167,13 +171,15 @@ pub fn purge_expired_files<P: PipeLog, L: Log>(
     ensures err { IfErr result (λ error. FailsToPurgeExpired error
         (shows (P.shown pipes.old) tables.old cache.old) (shows (P.shown pipes.new) tables.new cache.new)) }
     ensures standing { IfOk result (λ purged. StandIfTold purged.standing tables.new) }
-    ensures kept { OnErr result (KeepsCounts thresholds.now tables.old counts.old counts.new
+    ensures kept { OnErr result (KeepsCounts (PipesHoldBack P.shown P.holds_back Append)
+        thresholds.now tables.old counts.old counts.new
         (shows (P.shown pipes.old) tables.old cache.old) (shows (P.shown pipes.new) tables.new cache.new)) }
     ensures rests { IsAtRest tables.old → IsAtRest tables.new }
     ensures owes { AddsNoMarks tables.old tables.new }
     ensures numbered { counts.old.number ≤ counts.new.number }
 {
     pipes.sync(rt, LogQueue::Append)?;
+    free_before_compaction(alloc, rt, thresholds, pipes, tables, cache, &counts.stats)?;
     let PurgeCounts { stats, number, .. } = &mut *counts;
     let restated = purge_rewrite(alloc, rt, thresholds, pipes, tables, cache, stats, number)?;
     let held = pipes.first_file_not_ready_for_purge(LogQueue::Append);
@@ -181,6 +187,34 @@ pub fn purge_expired_files<P: PipeLog, L: Log>(
     purge_append(
         alloc, rt, thresholds, pipes, tables, cache, rounds, held, restated, known,
     )
+}
+
+/// If both queues are to be purged, deletes files of Append before the compaction of Rewrite writes anything, as
+/// `delete_before_writing` does. Else does nothing.
+///
+/// Fails with `Memory` before anything is done, or as `delete_before_writing` does. If it fails, the map is kept if
+/// nothing of Append was pending; after `Failed`, the files keep it.
+pub fn free_before_compaction<P: PipeLog, L: Log>(
+    alloc: Global,
+    rt: &L,
+    thresholds: &Thresholds,
+    pipes: &mut P,
+    tables: &MemTables,
+    cache: &mut BlockCache,
+    stats: &GlobalStats,
+) -> Result<()>
+    ensures ok { OnOk result (FreesFirst (PipesHoldBack P.shown P.holds_back Append)
+        thresholds.now stats.now tables.now
+        (shows (P.shown pipes.old) tables.now cache.old) (shows (P.shown pipes.new) tables.now cache.new)) }
+    ensures err { IfErr result (λ error. FailsToPurgeAppend error
+        (shows (P.shown pipes.old) tables.now cache.old) (shows (P.shown pipes.new) tables.now cache.new)) }
+{
+    if !takes_append(thresholds, pipes) || !takes_rewrite(thresholds, stats, pipes) {
+        return Ok(());
+    }
+    let pinned = pipes.first_file_not_ready_for_purge(LogQueue::Append);
+    let marks = tables.pending_tombstones()?;
+    delete_before_writing(alloc, rt, pipes, tables, cache, marks.as_slice(), pinned)
 }
 
 /// Compacts Rewrite if that is past its threshold and enough of it is garbage. Returns whether Rewrite was compacted.

@@ -6,14 +6,15 @@ use Rattle.raft_log_model_laws.specs.Groups.{taken}
 use Rattle.raft_log_fs.specs.Causes.{IsLater}
 use Rattle.raft_log_record_base.specs.declared.errors.Error.{Error}
 use Rattle.raft_log_machine_laws.specs.Calls.Which.{InAppend, InRewrite}
+use Rattle.raft_log_memtable.specs.declared.global_stats.GlobalStats.{GlobalStats}
 use Rattle.raft_log_memtables.specs.declared.mem_tables.MemTables.{MemTables}
 use Rattle.raft_log_dual_pipes.specs.Pipes.{LogPipes, is_failed}
 use Rattle.raft_log_dual_pipes.specs.Calls.{FailsToRotateQueue, SyncsQueue, TellsFailure}
 use Rattle.raft_log_dual_pipes.specs.Numbers.{EndsNumbers}
-use Rattle.raft_log_purge_copy.specs.raft_log_engine_laws.specs.EngineState.{LogDirectories, LogMap, EngineState, has_failed}
+use Rattle.raft_log_purge_copy.specs.raft_log_engine_laws.specs.EngineState.{EngineState}
 use Rattle.raft_log_purge_copy.specs.raft_log_engine_laws.specs.Holding.{Represents}
 use Rattle.raft_log_purge_copy.specs.raft_log_engine_laws.proofs.Public.{settled_held}
-use Rattle.raft_log_purge_copy.proofs.Public.{later_on, purge_reason_after, same_later}
+use Rattle.raft_log_purge_copy.proofs.Public.{later_on}
 use Rattle.raft_log_purge_policy.specs.declared.rounds.Rounds.{Rounds}
 use Rattle.raft_log_purge_policy.specs.declared.thresholds.Thresholds.{Thresholds}
 use Rattle.raft_log_purge_policy.specs.Watermarks.{TakesAppend, TakesRewrite}
@@ -21,7 +22,8 @@ use Rattle.raft_log_purge.specs.Append.{FailsToRewriteAppend}
 use Rattle.raft_log_purge.specs.Expired.{FailsToPurgeAppend}
 use Rattle.raft_log_purge.specs.RewriteQueue.{FailsToRewriteRewrite}
 use Rattle.raft_log_purge.specs.declared.expired_files.PurgeCounts.{PurgeCounts}
-use Rattle.raft_log_purge.proofs.Public.{held_behind, held_turned, not_restated, not_turned, on_the_map}
+use Rattle.raft_log_purge.specs.ExpiredFiles.{FreesFirst}
+use Rattle.raft_log_purge.proofs.Public.{failed_after_freeing, freed_well, goes_nowhere, goes_on, held_behind, held_turned, not_freed, not_restated, not_turned, GoesWell}
 use Rattle.raft_log_purge_steps.specs.declared.step.PurgeStep.{PurgeStep}
 use Rattle.raft_log_purge_steps.specs.Compacting.{BeginsCompaction, GoesOnCompacting, StopsCompacting}
 use Rattle.raft_log_purge_steps.specs.Laws.{IsPurged, LastStepEndsAPurge}
@@ -30,14 +32,6 @@ use Rattle.raft_log_purge_steps.specs.Steps.{BeginsIfDue, CountsIfDue, PurgesIfD
 use Rattle.raft_log_purge_steps.proofs.Parting.{last_part}
 
 -- Each part, if it succeeds, keeps the log with nothing pending.
-
-record GoesWell (s t : EngineState) : Type 0 where
-  pub alive : has_failed s ≡ false → has_failed t ≡ false
-  pub later : IsLater s.pipes.disk t.pipes.disk
-  pub holds : (home : LogDirectories) (log : LogMap) → Represents home s log [] → Represents home t log []
-
-goes_nowhere : (s : EngineState) → GoesWell s s
-goes_nowhere s = record { alive = λ lived. lived; later = same_later s.pipes.disk; holds = λ home log h. h }
 
 continued_well : (file budget : ℕ) (from to : Option ℕ) (before after : MemTables) (old new : PurgeCounts) (step : PurgeStep) (s t : EngineState) → GoesOnCompacting file budget from to before after old new step s t → GoesWell s t
 continued_well file budget from to before after old new step s t (inl goes) = record {
@@ -51,13 +45,14 @@ continued_well file budget from to before after old new step s t (inr none) = re
   holds = λ home log h. settled_held home t log (none.ends.deletes.settles home log h);
 }
 
-began_well : (thresholds : Thresholds) (to : Option ℕ) (before after : MemTables) (old new : PurgeCounts) (step : PurgeStep) (s t : EngineState) → BeginsIfDue thresholds to before after old new step s t → GoesWell s t
-began_well thresholds to before after old new step s t due =
-    let b = due.begins in record {
+began_well : (hold_back : LogPipes → Option ℕ → Type 0) (thresholds : Thresholds) (to : Option ℕ) (before after : MemTables) (old new : PurgeCounts) (step : PurgeStep) (s t : EngineState) → BeginsIfDue hold_back thresholds to before after old new step s t → GoesWell s t
+began_well hold_back thresholds to before after old new step s t due =
+    let b = due.begins in
+    goes_on s due.freed t (freed_well hold_back thresholds old.stats before s due.freed due.frees) (record {
       alive = λ lived. b.alive;
       later = b.later;
-      holds = λ home log h. subst (λ (e : EngineState). Represents home e log []) (sym due.same) (held_turned s t.pipes b.turns b.later b.alive home log h);
-    }
+      holds = λ home log h. subst (λ (e : EngineState). Represents home e log []) (sym due.same) (held_turned due.freed t.pipes b.turns b.later b.alive home log h);
+    })
 
 part_well : (held : Option ℕ) (budget : ℕ) (before after : MemTables) (old new : Rounds) (step : PurgeStep) (s t : EngineState) → PurgesPart held budget before after old new step s t → GoesWell s t
 part_well held budget before after old new step s t p = record {
@@ -68,8 +63,8 @@ part_well held budget before after old new step s t p = record {
 
 module _ (hold_back : LogPipes → Option ℕ → Type 0) (thresholds : Thresholds) (budget : ℕ) where
   anew_well : (from to : Option ℕ) (before after : MemTables) (old new : PurgeCounts) (step : PurgeStep) (s t : EngineState)
-      → BeginsIfDue thresholds to before after old new step s t ⊎ (PurgesIfDue hold_back thresholds budget from to before after old new step s t ⊎ RestsIfDone thresholds from to before after old new step s t) → GoesWell s t
-  anew_well from to before after old new step s t (inl begins) = began_well thresholds to before after old new step s t begins
+      → BeginsIfDue hold_back thresholds to before after old new step s t ⊎ (PurgesIfDue hold_back thresholds budget from to before after old new step s t ⊎ RestsIfDone thresholds from to before after old new step s t) → GoesWell s t
+  anew_well from to before after old new step s t (inl begins) = began_well hold_back thresholds to before after old new step s t begins
   anew_well from to before after old new step s t (inr (inl part)) = part_well part.held budget before after old.rounds new.rounds step s t part.purges
   anew_well from to before after old new step s t (inr (inr rests)) = subst (GoesWell s) (sym rests.same) (goes_nowhere s)
 
@@ -122,17 +117,9 @@ module _ (s : EngineState) (synced : LogPipes) (syncs : SyncsQueue InAppend s.pi
   whole_unrestated t (Ok x) fails = tt
   whole_unrestated t (Err e) fails = not_restated s synced syncs later lives e t fails
 
-  part_unpurged : (error : Error) (t : EngineState) → FailsToPurgeAppend error behind t → FailsToRewriteAppend error s t
-  part_unpurged error t fails = record {
-    tells = λ lived. fails.tells lives;
-    later = later_on s.pipes.disk synced.disk t.pipes.disk later fails.later;
-    remains = λ home log pending h. on_the_map home log pending t error (fails.remains home (taken log pending) (held_behind s synced syncs later lives home log pending h));
-    cause = λ home log pending h. purge_reason_after home (taken log pending) error s behind t later (λ long. long) (fails.cause home (taken log pending) (held_behind s synced syncs later lives home log pending h));
-  }
-
   pub whole_unpurged : (t : EngineState) (q : Result PurgeStep Error) → IfErr q (λ error. FailsToPurgeAppend error behind t) → IfErr q (λ error. FailsToRewriteAppend error s t)
   whole_unpurged t (Ok x) fails = tt
-  whole_unpurged t (Err e) fails = part_unpurged e t fails
+  whole_unpurged t (Err e) fails = not_freed s synced syncs later lives e t fails
 
 -- a compaction hasn't begun
 pub not_begun : (error : Error) (s t : EngineState) → FailsToRewriteRewrite error s t → FailsToPurgeAppend error s t
@@ -145,16 +132,18 @@ not_begun error s t fails = record {
 
 -- The parts of a step that finds no compaction under way.
 
-pub whole_not_begun : (s : EngineState) (w : LogPipes) (q : Result PurgeStep Error) → IsLater s.pipes.disk w.disk → OnErr q (TellsFailure q w) → IfErr q (λ error. FailsToRotateQueue InRewrite error s.pipes w)
-    → IfErr q (λ error. EndsNumbers InRewrite error s.pipes) → IfErr q (λ error. FailsToPurgeAppend error s (record s { pipes = w }))
-whole_not_begun s w (Ok step) later tells call ends = tt
-whole_not_begun s w (Err e) later tells call ends = not_begun e s (record s { pipes = w }) (not_turned {A = PurgeStep} e s w tells later call ends)
+pub whole_not_begun : (hold_back : LogPipes → Option ℕ → Type 0) (thresholds : Thresholds) (stats : GlobalStats) (m : MemTables) (s freed : EngineState) → FreesFirst hold_back thresholds stats m s freed → (w : LogPipes) (q : Result PurgeStep Error) → IsLater freed.pipes.disk w.disk → OnErr q (TellsFailure q w)
+    → IfErr q (λ error. FailsToRotateQueue InRewrite error freed.pipes w) → IfErr q (λ error. EndsNumbers InRewrite error freed.pipes) → IfErr q (λ error. FailsToPurgeAppend error s (record freed { pipes = w }))
+whole_not_begun hold_back thresholds stats m s freed frees w (Ok step) later tells call ends = tt
+whole_not_begun hold_back thresholds stats m s freed frees w (Err e) later tells call ends =
+    let turned = record freed { pipes = w } in
+    failed_after_freeing hold_back thresholds stats m s freed frees e turned (not_begun e freed turned (not_turned {A = PurgeStep} e freed w tells later call ends))
 
 module _ (hold_back : LogPipes → Option ℕ → Type 0) (thresholds : Thresholds) (budget : ℕ) (from : Option ℕ) (before : MemTables) (old counted : PurgeCounts) (s : EngineState) (counts : CountsIfDue thresholds before old counted s.pipes) where
-  pub whole_begun : (to : Option ℕ) (w : LogPipes) (q : Result PurgeStep Error) → TakesRewrite thresholds counted.stats s.pipes → IfOk q (λ step. BeginsCompaction to step s.pipes w)
-      → IfOk q (λ step. StepsAnew hold_back thresholds budget from to before before old counted step s (record s { pipes = w }))
-  whole_begun to w (Ok step) due begins = record { counted = counted; counts = counts; does = inl (record { due = due; begins = begins; same = refl; tables = refl; counts = refl }) }
-  whole_begun to w (Err e) due begins = tt
+  pub whole_begun : (freed : EngineState) → FreesFirst hold_back thresholds counted.stats before s freed → (to : Option ℕ) (w : LogPipes) (q : Result PurgeStep Error) → TakesRewrite thresholds counted.stats s.pipes → IfOk q (λ step. BeginsCompaction to step freed.pipes w)
+      → IfOk q (λ step. StepsAnew hold_back thresholds budget from to before before old counted step s (record freed { pipes = w }))
+  whole_begun freed frees to w (Ok step) due begins = record { counted = counted; counts = counts; does = inl (record { due = due; freed = freed; frees = frees; begins = begins; same = refl; tables = refl; counts = refl }) }
+  whole_begun freed frees to w (Err e) due begins = tt
 
   pub rests : (step : PurgeStep) → (TakesRewrite thresholds counted.stats s.pipes → ⊥) → (TakesAppend thresholds s.pipes → ⊥) → step.answered.items ≡ [] → step.more ≡ false
       → StepsAnew hold_back thresholds budget from from before before old counted step s s
@@ -191,7 +180,7 @@ module _ (hold_back : LogPipes → Option ℕ → Type 0) (thresholds : Threshol
   there = record s { pipes = v }
 
   last_anew : (from to : Option ℕ) (before after : MemTables) (counted new : PurgeCounts) (step : PurgeStep) → step.more ≡ false
-      → BeginsIfDue thresholds to before after counted new step there t ⊎ (PurgesIfDue hold_back thresholds budget from to before after counted new step there t ⊎ RestsIfDone thresholds from to before after counted new step there t)
+      → BeginsIfDue hold_back thresholds to before after counted new step there t ⊎ (PurgesIfDue hold_back thresholds budget from to before after counted new step there t ⊎ RestsIfDone thresholds from to before after counted new step there t)
       → (to ≡ from) × IsPurged hold_back thresholds before after counted new step v s t
   last_anew from to before after counted new step done (inl begins) = both step.more begins.begins.more done
   last_anew from to before after counted new step done (inr (inl part)) =

@@ -15,6 +15,7 @@ use Rattle.raft_log_purge_copy.specs.raft_log_engine_laws.specs.Holding.{Represe
 use Rattle.raft_log_purge_policy.specs.declared.thresholds.Thresholds.{Thresholds}
 use Rattle.raft_log_purge_policy.specs.Watermarks.{IsAnyPast, TakesAppend, TakesRewrite}
 use Rattle.raft_log_purge.specs.Counting.{CountsIf}
+use Rattle.raft_log_purge.specs.ExpiredFiles.{FreesFirst}
 use Rattle.raft_log_purge.specs.declared.expired_files.PurgeCounts.{PurgeCounts}
 use Rattle.raft_log_purge_steps.specs.declared.step.PurgeStep.{PurgeStep}
 use Rattle.raft_log_purge_steps.specs.Compacting.{BeginsCompaction, GoesOnCompacting, StopsCompacting}
@@ -22,12 +23,15 @@ use Rattle.raft_log_purge_steps.specs.Part.{PurgesPart}
 
 -- A step that finds no compaction under way.
 
--- a compaction of Rewrite was due, and has begun
-pub record BeginsIfDue (thresholds : Thresholds) (to : Option ℕ) (before after : MemTables) (old new : PurgeCounts)
-    (step : PurgeStep) (s t : EngineState) : Type 0 where
+-- A compaction of Rewrite was due, and has begun. Before that, space was freed if Append was past its threshold too
+-- (`FreesFirst`).
+pub record BeginsIfDue (hold_back : LogPipes → Option ℕ → Type 0) (thresholds : Thresholds) (to : Option ℕ)
+    (before after : MemTables) (old new : PurgeCounts) (step : PurgeStep) (s t : EngineState) : Type 0 where
   pub due : TakesRewrite thresholds old.stats s.pipes
-  pub begins : BeginsCompaction to step s.pipes t.pipes
-  pub same : t ≡ record s { pipes = t.pipes }
+  pub freed : EngineState
+  pub frees : FreesFirst hold_back thresholds old.stats before s freed
+  pub begins : BeginsCompaction to step freed.pipes t.pipes
+  pub same : t ≡ record freed { pipes = t.pipes }
   pub tables : after ≡ before
   pub counts : new ≡ old
 
@@ -71,7 +75,7 @@ pub record StepsAnew (hold_back : LogPipes → Option ℕ → Type 0) (threshold
     : Type 0 where
   pub counted : PurgeCounts
   pub counts : CountsIfDue thresholds before old counted s.pipes
-  pub does : BeginsIfDue thresholds to before after counted new step s t
+  pub does : BeginsIfDue hold_back thresholds to before after counted new step s t
       ⊎ (PurgesIfDue hold_back thresholds budget from to before after counted new step s t
       ⊎ RestsIfDone thresholds from to before after counted new step s t)
 

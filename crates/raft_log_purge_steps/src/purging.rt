@@ -17,6 +17,7 @@ use log::Log;
 use raft_log_dual_pipes::PipeLog;
 use raft_log_memtables::MemTables;
 use raft_log_purge::PurgeCounts;
+use raft_log_purge::expired_files::free_before_compaction;
 use raft_log_purge_copy::raft_log_block_cache::BlockCache;
 use raft_log_purge_policy::{Thresholds, is_any_past, takes_append, takes_rewrite};
 use raft_log_record_base::{FileSeq, LogQueue, Result};
@@ -24,7 +25,8 @@ use std::alloc::Global;
 
 /// Does one step of a purge of both queues. Syncs Append, and then:
 /// - If a compaction of Rewrite is under way, up to the file `until`, continues or ends it.
-/// - Else, if Rewrite is past its threshold and enough of it is garbage, begins a compaction.
+/// - Else, if Rewrite is past its threshold and enough of it is garbage, begins a compaction. Before that, if Append is
+///   past its threshold too, deletes files of Append as a whole purge does (`free_before_compaction`).
 /// - Else, if Append is past its threshold, purges it in part.
 /// - Else does nothing more.
 ///
@@ -99,6 +101,7 @@ fn begin_or_purge<P: PipeLog, L: Log>(
 {
     counts.count_if(is_any_past(thresholds, pipes), tables);
     if takes_rewrite(thresholds, &counts.stats, pipes) {
+        free_before_compaction(alloc, rt, thresholds, pipes, tables, cache, &counts.stats)?;
         return begin_compaction(alloc, rt, pipes, until);
     }
     if !takes_append(thresholds, pipes) {

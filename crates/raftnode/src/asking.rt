@@ -19,12 +19,13 @@ the settings' spill-dir, which is created too.
 
 Standard input has the requests, as lines of docs/SESSIONS.md: round .. end, purge, rewrite-append,
 rewrite-rewrite. Standard output gets a line for each voter in the log, then 'ready', then what came of
-each request: a round is 'answered' once all that it changed is durable, else 'cut'. Standard error gets
-errors, and what the log warns of.
+each request: a round is 'answered' once all that it changed is durable, else 'cut'. On a full disk a
+request may be answered 'Refused', and raftnode goes on. Standard error gets errors, what the log warns
+of, and each key of SETTINGS that is not used.
 
 status: 0 the input ended, and the log is closed
-        1 the log failed, or something was refused, as standard error says; every answered round is
-          durable, and it is safe to start raftnode again on the same directory
+        1 the log, SETTINGS, a directory, the input or the output failed, as standard error says; every
+          answered round is durable, and it is safe to start raftnode again on the same directory
         2 wrong arguments
 ";
 

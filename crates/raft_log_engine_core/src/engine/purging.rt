@@ -44,9 +44,8 @@ impl<P: PipeLog> LogEngine<P> {
     /// group. What was written there and is no longer live is garbage.
     ///
     /// Fails with `Failed` if the engine has failed, or with the errors of a sync, a rotation, the tombstones, the
-    /// copies, and the deletions. Then the log keeps its contents, and this purge isn't counted among the nine. The old
-    /// copies of groups that were written to Rewrite again count as garbage. After `Failed`, an open finds the
-    /// contents.
+    /// copies, and the deletions. Then the log keeps its contents; after `Failed`, an open finds them. This purge isn't
+    /// counted among the nine. The old copies of groups that were written to Rewrite again count as garbage.
     pub fn purge_expired_files<L: Log>(&mut self, rt: &L) -> Result<Vec<u64>>
         ensures model { FollowsModel ModelPurges result (shows_of P.shown self.old) (shows_of P.shown self.new) }
         ensures ok { IfOk result (λ groups. PurgesAndCounts (PipesHoldBack P.shown P.holds_back Append)
@@ -55,8 +54,9 @@ impl<P: PipeLog> LogEngine<P> {
         ensures lived { OnOk result (Lives (shows_of P.shown self.old)) }
         ensures err { IfErr result (StopsPurgingExpired
             (shows_of P.shown self.old) (shows_of P.shown self.new)) }
-        ensures kept { OnErr result (StopsCountingIfPast self.old.thresholds self.old.tables
-            self.old.counts self.new.counts (shows_of P.shown self.old) (shows_of P.shown self.new)) }
+        ensures kept { OnErr result (StopsCountingIfPast (PipesHoldBack P.shown P.holds_back Append)
+            self.old.thresholds self.old.tables self.old.counts self.new.counts
+            (shows_of P.shown self.old) (shows_of P.shown self.new)) }
         ensures sizes { self.new.thresholds ≡ self.old.thresholds }
         ensures owes { OweNoMore (shows_of P.shown self.old).tables (shows_of P.shown self.new).tables }
     {

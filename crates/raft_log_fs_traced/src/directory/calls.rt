@@ -8,9 +8,11 @@ use raft_log_fs_state::Node;
 use std::io::ErrorKind;
 
 impl<D: Device> FileSystem for DirectoryFileSystem<D> {
-    ghost use Rattle.std.specs.Prelude.{◌≡◌};
+    ghost use Rattle.std.specs.Prelude.{◌≡◌, ◌+◌, OnOk, IfErr};
+    ghost use Rattle.raft_log_fs.specs.Disk.{Wrote, GrewTo};
+    ghost use Rattle.raft_log_fs.specs.Exits.{Writes, FailsToWrite, Grows, FailsToGrow};
     ghost use Rattle.raft_log_fs_traced.specs.Directory.{disk_of};
-    ghost use Rattle.raft_log_fs_traced.specs.Space.{TellsFree};
+    ghost use Rattle.raft_log_fs_traced.specs.Space.{TellsFree, GoesOnAfterUndone};
 
     ghost disk = { disk_of D.Device };
 
@@ -81,7 +83,15 @@ impl<D: Device> FileSystem for DirectoryFileSystem<D> {
         stopping(&mut self.stopped, made)
     }
 
-    fn write_at(&mut self, handle: Handle, offset: usize, bytes: &[u8]) -> Result<(), ErrorKind> {
+    fn write_at(&mut self, handle: Handle, offset: usize, bytes: &[u8]) -> Result<(), ErrorKind>
+        ensures ok { OnOk result
+            (Writes handle offset bytes.now (disk_of D.Device self.old) (disk_of D.Device self.new)) }
+        ensures permitted { OnOk result (handle.permission ≡ Permission.ReadWrite) }
+        ensures err { IfErr result (λ error. FailsToWrite handle offset bytes.now error
+            (disk_of D.Device self.old) (disk_of D.Device self.new)) }
+        ensures undone { IfErr result (λ error. GoesOnAfterUndone D.Device handle.file
+            (Wrote offset bytes.now) error self.old self.new) }
+    {
         self.check_writer(handle)?;
         if self.is_past_end(handle.file, offset, bytes.len()) {
             return self.extend(handle, offset, bytes);
@@ -102,7 +112,15 @@ impl<D: Device> FileSystem for DirectoryFileSystem<D> {
         stopping(&mut self.stopped, made)
     }
 
-    fn allocate(&mut self, handle: Handle, offset: usize, size: usize) -> Result<(), ErrorKind> {
+    fn allocate(&mut self, handle: Handle, offset: usize, size: usize) -> Result<(), ErrorKind>
+        ensures ok { OnOk result
+            (Grows handle (offset + size) (disk_of D.Device self.old) (disk_of D.Device self.new)) }
+        ensures permitted { OnOk result (handle.permission ≡ Permission.ReadWrite) }
+        ensures err { IfErr result (λ error. FailsToGrow handle (offset + size) error
+            (disk_of D.Device self.old) (disk_of D.Device self.new)) }
+        ensures undone { IfErr result (λ error. GoesOnAfterUndone D.Device handle.file
+            (GrewTo (offset + size)) error self.old self.new) }
+    {
         self.check_writer(handle)?;
         let Some(end) = offset.checked_add(size) else {
             return Err(self.fail(ErrorKind::StorageFull));

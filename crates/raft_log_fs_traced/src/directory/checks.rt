@@ -11,12 +11,17 @@ use std::io::ErrorKind;
 impl<D: Device> DirectoryFileSystem<D> {
     ghost use Rattle.std.specs.Prelude.{◌≡◌, true, OnOk, OnErr, IfErr};
     ghost use Rattle.raft_log_fs.specs.Arguments.{IsAfterStop};
-    ghost use Rattle.raft_log_fs_traced.specs.Directory.{disk_of, FailsOnce, Runs, RunsWithDirectory, RunsWithFile, RunsWithWriter, LacksDirectory, LacksFile, LacksWriter};
+    ghost use Rattle.raft_log_fs_state.specs.Storage.{contents_of};
+    ghost use Rattle.raft_log_fs_traced.specs.Space.{full_of};
+    ghost use Rattle.raft_log_fs_traced.specs.Directory.{calls_of, disk_of, FailsOnce, Runs, RunsWithDirectory, RunsWithFile, RunsWithWriter, LacksDirectory, LacksFile, LacksWriter};
 
     /// Counts a failure, and notes the kind that it is reported as. If the count is full, the file system stops
     /// instead: none is noted, and the error isn't out of memory.
     pub(super) fn fail(&mut self, kind: ErrorKind) -> ErrorKind
-        ensures { FailsOnce kind result (disk_of D.Device self.old) (disk_of D.Device self.new) }
+        ensures once { FailsOnce kind result (disk_of D.Device self.old) (disk_of D.Device self.new) }
+        ensures calls { calls_of D.Device self.new ≡ calls_of D.Device self.old }
+        ensures full { full_of D.Device self.new ≡ full_of D.Device self.old }
+        ensures model { contents_of self.new.storage ≡ contents_of self.old.storage }
     {
         match self.failures.checked_add(1) {
             Some(failures) => {

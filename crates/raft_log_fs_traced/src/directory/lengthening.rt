@@ -8,8 +8,10 @@ use std::io::ErrorKind;
 
 impl<D: Device> DirectoryFileSystem<D> {
     ghost use Rattle.std.specs.Prelude.{◌≡◌, OnOk, IfErr};
+    ghost use Rattle.raft_log_fs.specs.Disk.{Wrote, GrewTo};
     ghost use Rattle.raft_log_fs.specs.Exits.{Writes, FailsToWrite, Grows, FailsToGrow};
     ghost use Rattle.raft_log_fs_traced.specs.Directory.{disk_of, RunsWithWriter};
+    ghost use Rattle.raft_log_fs_traced.specs.Space.{GoesOnAfterUndone};
 
     /// Whether a write of `count` bytes at an offset ends past the end of a file. A write of no bytes doesn't.
     pub(super) fn is_past_end(&self, file: usize, offset: usize, count: usize) -> bool {
@@ -28,6 +30,8 @@ impl<D: Device> DirectoryFileSystem<D> {
             (Writes handle offset bytes.now (disk_of D.Device self.old) (disk_of D.Device self.new)) }
         ensures err { IfErr result (λ error. FailsToWrite handle offset bytes.now error
             (disk_of D.Device self.old) (disk_of D.Device self.new)) }
+        ensures undone { IfErr result (λ error. GoesOnAfterUndone D.Device handle.file
+            (Wrote offset bytes.now) error self.old self.new) }
     {
         let file = handle.file;
         if let Err(kind) = self
@@ -41,11 +45,10 @@ impl<D: Device> DirectoryFileSystem<D> {
                 let written = self.storage.write(file, offset, bytes, u64::MAX);
                 stopping(&mut self.stopped, written)
             }
-            Ok(Attempt::Undone(kind)) => {
+            Ok(Attempt::Undone) => {
                 let noted = self.storage.write_front(file, offset, bytes, 0, u64::MAX);
                 stopping(&mut self.stopped, noted)?;
-                self.note_full(file);
-                Err(self.fail(kind))
+                Err(self.count_lack(file))
             }
             Err(kind) => stopping(&mut self.stopped, Err(kind)),
         }
@@ -58,6 +61,8 @@ impl<D: Device> DirectoryFileSystem<D> {
             (Grows handle size (disk_of D.Device self.old) (disk_of D.Device self.new)) }
         ensures err { IfErr result (λ error. FailsToGrow handle size error
             (disk_of D.Device self.old) (disk_of D.Device self.new)) }
+        ensures undone { IfErr result (λ error. GoesOnAfterUndone D.Device handle.file
+            (GrewTo size) error self.old self.new) }
     {
         let file = handle.file;
         if let Err(kind) = self.storage.make_room(file, size) {
@@ -68,11 +73,10 @@ impl<D: Device> DirectoryFileSystem<D> {
                 let grown = self.storage.grow(file, 0, size, u64::MAX);
                 stopping(&mut self.stopped, grown)
             }
-            Ok(Attempt::Undone(kind)) => {
+            Ok(Attempt::Undone) => {
                 let noted = self.storage.fail_to_grow(file, size);
                 stopping(&mut self.stopped, noted)?;
-                self.note_full(file);
-                Err(self.fail(kind))
+                Err(self.count_lack(file))
             }
             Err(kind) => stopping(&mut self.stopped, Err(kind)),
         }

@@ -1,26 +1,22 @@
 //! The space of directories: what is set for it, and what is learned when a file finds none.
+ghost use Rattle.std.specs.Prelude.{IfSome};
+ghost use Rattle.raft_log_fs.specs.Disk.{IsPathIn};
+
 use super::DirectoryFileSystem;
 use crate::device::Device;
-use raft_log_fs_state::Node;
 use raft_log_fs_state::storage::child;
 use std::alloc::AllocError;
-
-/// The directory of a path, if it names this file.
-fn directory_if(path: &str, node: Node, file: usize) -> Option<&str> {
-    match node {
-        Node::File(id) if id == file => path.rfind('/').map(|at| &path[..at]),
-        _ => None,
-    }
-}
+use std::io::ErrorKind;
 
 impl<D: Device> DirectoryFileSystem<D> {
-    ghost use Rattle.std.specs.Prelude.{◌≡◌, ℕ, ◌-◌, Some, OnOk, OnErr};
+    ghost use Rattle.std.specs.Prelude.{◌≡◌, ◌↔◌, ℕ, ◌-◌, IsTrue, Some, IfSome, OnOk, OnErr};
+    ghost use Rattle.std.specs.String.{string_bytes};
     ghost use Rattle.std.specs.Map.{update};
     ghost use Rattle.std.specs.Str.{bytes_eq};
     ghost use Rattle.raft_log_fs_state.specs.Storage.{contents_of};
-    ghost use Rattle.raft_log_fs_memory.specs.Space.{size_at, HasUsed, IsFree};
-    ghost use Rattle.raft_log_fs_traced.specs.Directory.{calls_of, disk_of};
-    ghost use Rattle.raft_log_fs_traced.specs.Space.{spaces_of, full_of, TellsFree};
+    ghost use Rattle.raft_log_fs_memory.specs.Space.{size_at, HasUsed, IsFree, LiesIn};
+    ghost use Rattle.raft_log_fs_traced.specs.Directory.{calls_of, disk_of, FailsOnce};
+    ghost use Rattle.raft_log_fs_traced.specs.Space.{spaces_of, full_of, TellsFree, NotesFull};
 
     /// Sets how many bytes the files of a directory may have in all, replacing an earlier number. `free_space` returns
     /// what is left of it; no call fails because of it. Fails only if memory runs out; then nothing changes.
@@ -68,12 +64,23 @@ impl<D: Device> DirectoryFileSystem<D> {
         }
     }
 
+    /// Counts that a file found no space, and notes how many bytes its directory's files have.
+    pub(super) fn count_lack(&mut self, file: usize) -> ErrorKind
+        ensures once { FailsOnce ErrorKind.StorageFull result
+            (disk_of D.Device self.old) (disk_of D.Device self.new) }
+        ensures full { NotesFull D.Device file self.old self.new }
+    {
+        self.note_full(file);
+        self.fail(ErrorKind::StorageFull)
+    }
+
     /// Notes that a file found no space: from now on, its directory has as much as its files have. If memory runs out,
     /// nothing is noted.
-    pub(super) fn note_full(&mut self, file: usize)
+    fn note_full(&mut self, file: usize)
         ensures same { disk_of D.Device self.new ≡ disk_of D.Device self.old }
         ensures set { spaces_of D.Device self.new ≡ spaces_of D.Device self.old }
         ensures model { contents_of self.new.storage ≡ contents_of self.old.storage }
+        ensures full { NotesFull D.Device file self.old self.new }
     {
         let Some(directory) = self.directory_of(file) else {
             return;
@@ -83,13 +90,27 @@ impl<D: Device> DirectoryFileSystem<D> {
     }
 
     /// The directory of a file; nothing if it has no name, or if memory runs out.
-    fn directory_of(&self, file: usize) -> Option<String> {
-        for (path, node) in self.storage.paths.iter() {
-            if let Some(directory) = directory_if(path, *node, file) {
+    fn directory_of(&self, file: usize) -> Option<String>
+        ensures { IfSome result (λ directory.
+            LiesIn file (string_bytes directory) (contents_of self.now.storage)) }
+    {
+        for (path, _) in self.storage.paths.iter() {
+            if self.names(path, file) {
+                let directory = directory_in(path)?;
                 return String::from_str(self.storage.alloc, directory).ok();
             }
         }
         None
+    }
+
+    /// Whether a path names this file.
+    fn names(&self, path: &str, file: usize) -> bool
+        ensures { IsTrue result ↔ ((contents_of self.now.storage).names path.now ≡ Some file) }
+    {
+        match self.storage.file(path) {
+            Some(other) => other == file,
+            None => false,
+        }
     }
 
     /// How many bytes a directory's files leave of its space.
@@ -115,4 +136,12 @@ impl<D: Device> DirectoryFileSystem<D> {
             None => 0,
         }
     }
+}
+
+/// The directory that a path is in, if the path has a slash.
+fn directory_in(path: &str) -> Option<&str>
+    ensures { IfSome result (λ directory. IsPathIn directory.now path.now) }
+{
+    let at = path.rfind('/')?;
+    Some(&path[..at])
 }

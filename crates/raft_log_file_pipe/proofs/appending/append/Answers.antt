@@ -69,7 +69,7 @@ returns-in-Err-clause-full g c is_full =
     let signed = g.B.ReactiveBytes.signed c.args.bytes.now in
     let context : c.new.result ≡ context_of c.args.queue c.rotate_if_full.new.files = context_is c.args.queue c.rotate_if_full.new.files c.new-id.result c.new.result c.new-id.ensures.queue c.new-id.ensures.seq c.new.ensures.id c.new.ensures.version in
     let is : c.as_bytes-record.result.now ≡ signed (context_of c.args.queue c.rotate_if_full.new.files) = c.as_bytes-record.ensures ∙ c.sign.ensures.bytes ∙ ap signed context in
-    let (short, full, files, system) = c.report_write_fault.ensures.full is_full in
+    let (short, full, none, files, system) = c.report_write_fault.ensures.full is_full in
     record {
       middle = c.rotate_if_full.new.files;
       between = D c.rotate_if_full.new.file_system;
@@ -79,6 +79,7 @@ returns-in-Err-clause-full g c is_full =
           (subst (λ (fault : WriteFault). FailsToAdd (g.G.PipeFormat.format c.args.layout.now) (g.G.PipeFormat.own c.args.layout.now) (g.G.PipeFormat.file_paths c.args.layout.now) (signed (context_of c.args.queue c.rotate_if_full.new.files)) fault c.rotate_if_full.new.files c.add.new.files (D c.rotate_if_full.new.file_system) (D c.add.new.file_system)) short
           (subst (λ (bytes : List ℕ). FailsToAdd (g.G.PipeFormat.format c.args.layout.now) (g.G.PipeFormat.own c.args.layout.now) (g.G.PipeFormat.file_paths c.args.layout.now) bytes c.in-Err.fault c.rotate_if_full.new.files c.add.new.files (D c.rotate_if_full.new.file_system) (D c.add.new.file_system)) is c.in-Err.ensures.err)));
       lists = subst (SameLists c.rotate_if_full.new.files) (sym files) c.add.ensures.lists;
+      none = none;
       full = full;
     }
 

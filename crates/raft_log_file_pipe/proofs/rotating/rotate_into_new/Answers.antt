@@ -1,10 +1,10 @@
-use Rattle.std.proofs.Common.{rules, ◌∙◌, refl, sym, subst, false}
+use Rattle.std.proofs.Common.{rules, ℕ, List, ◌∙◌, refl, sym, subst, false}
 use Rattle.raft_log_fs.specs.Calls.{Creates}
 use Rattle.raft_log_file_writer.specs.declared.writer.LogFileWriter.{LogFileWriter}
 use Rattle.raft_log_active_file.specs.Rotation.{RotatesBy, RotatesToNew}
 use Rattle.raft_log_file_format.specs.Header.{header_bytes}
 use Rattle.raft_log_file_pipe.specs.Files.{Listed}
-use Rattle.raft_log_file_pipe.specs.Placing.{IsChosen}
+use Rattle.raft_log_file_pipe.specs.Placing.{IsChosen, TellsAfterCut, TellsFreed, directory_at}
 use Rattle.raft_log_file_pipe.proofs.Turning.{IsNext, IsTurnedTo, new_refused, new_done}
 use Rattle.raft_log_file_pipe.proofs.Doing.{new_not, turns_new}
 use Rattle.raft_log_file_pipe.proofs.rotating.rotate_into_new.Goals as goal
@@ -35,8 +35,16 @@ returns-in-Ok-clause-ok g c =
 pub returns-in-Ok-clause-placed : goal.returns-in-Ok-clause-placed
 returns-in-Ok-clause-placed g c =
     let tells = g.F.FileSystem.tells_space c.args.file_system.now in
+    let d = g.F.FileSystem.disk c.args.file_system.now in
     let directories = (g.G.PipeFormat.file_paths c.args.layout.now).directories in
-    subst (λ (f : Listed). IsChosen tells (g.F.FileSystem.disk c.args.file_system.now) c.args.new_files.now.target_size directories f.path_id) (sym c.turn_to.ensures.active) c.in_ok-path_id.ensures.ok
+    let size = c.args.new_files.now.target_size in
+    let files = c.args.files.now in
+    let freed = c.freed_by_cut-freed.result in
+    let here : IsChosen (TellsFreed tells (directory_at directories files.active.path_id) freed.bytes) d size directories c.in_ok-path_id.path_id =
+    subst (λ (own : List ℕ). IsChosen (TellsFreed tells own freed.bytes) d size directories c.in_ok-path_id.path_id) c.freed_by_cut-freed.ensures.directory c.in_ok-path_id.ensures.ok in
+    let chosen : IsChosen (TellsAfterCut tells d directories files) d size directories c.in_ok-path_id.path_id =
+    subst (λ (n : ℕ). IsChosen (TellsFreed tells (directory_at directories files.active.path_id) n) d size directories c.in_ok-path_id.path_id) c.freed_by_cut-freed.ensures.bytes here in
+    subst (λ (f : Listed). IsChosen (TellsAfterCut tells d directories files) d size directories f.path_id) (sym c.turn_to.ensures.active) chosen
 
 pub returns-clause-refusal : goal.returns-clause-refusal
 returns-clause-refusal g c =

@@ -19,7 +19,7 @@ returns-in_default-clause-err g c =
     let free : node_at system.storage path ≡ None = search rules in
     let home : HasDirectory path old = search rules in
     failed_once Nothing (λ d. Creates path d.unused d) (WrongCreate path) c.fail.result system.failures system.kinds.told old (disk_of g.D.Device system) (disk_of g.D.Device c.fail.new.self) runs.same refl
-    (right_create path (with_failures system.failures system.kinds.told old) (ap file_named free) (ap is_directory free) (record { directory = home.directory; inside = home.inside; there = home.there })) (λ k. refl) c.fail.ensures
+    (right_create path (with_failures system.failures system.kinds.told old) (ap file_named free) (ap is_directory free) (record { directory = home.directory; inside = home.inside; there = home.there })) (λ k. refl) c.fail.ensures.once
 
 pub invariant_of-self-2 : goal.invariant_of-self-2
 invariant_of-self-2 g c =

@@ -15,7 +15,7 @@ returns-in_default-clause-err g c =
     let path = c.args.path.now in
     let free : node_at system.storage path ≡ None = search rules in
     failed_once Nothing (MakesDirectory path) (WrongDirectory path) c.fail.result system.failures system.kinds.told old (disk_of g.D.Device system) (disk_of g.D.Device c.fail.new.self) c.in_ok-check_runs.ensures.ok.same refl
-    (right_directory path (with_failures system.failures system.kinds.told old) (ap file_named free) (ap is_directory free)) (λ k. refl) c.fail.ensures
+    (right_directory path (with_failures system.failures system.kinds.told old) (ap file_named free) (ap is_directory free)) (λ k. refl) c.fail.ensures.once
 
 pub invariant_of-self-2 : goal.invariant_of-self-2
 invariant_of-self-2 g c =

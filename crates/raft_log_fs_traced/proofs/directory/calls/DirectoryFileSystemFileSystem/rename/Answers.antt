@@ -20,7 +20,7 @@ returns-in_default-rename_file-clause-err g c =
     let apart : is_directory (node_at system.storage to) ≡ false = search rules in
     let home : HasDirectory to old = search rules in
     failed_once Nothing (Renames from to) (WrongRename from to) c.fail.result system.failures system.kinds.told old (disk_of g.D.Device system) (disk_of g.D.Device c.fail.new.self) c.in_ok-check_runs.ensures.ok.same refl
-    (right_rename from to (with_failures system.failures system.kinds.told old) id is apart (record { directory = home.directory; inside = home.inside; there = home.there })) (λ k. refl) c.fail.ensures
+    (right_rename from to (with_failures system.failures system.kinds.told old) id is apart (record { directory = home.directory; inside = home.inside; there = home.there })) (λ k. refl) c.fail.ensures.once
 
 pub invariant_of-self-2 : goal.invariant_of-self-2
 invariant_of-self-2 g c =

@@ -14,7 +14,7 @@ returns-in_default-clause-err g c =
     let old = contents_of system.storage in
     let checked = c.in_ok-check_handle.ensures.ok in
     failed_once Nothing (Changes c.args.handle.file flushed) (WrongHandle c.args.handle) c.fail.result system.failures system.kinds.told old (disk_of g.D.Device system) (disk_of g.D.Device c.fail.new.self) checked.runs.same refl
-    (right_handle c.args.handle (with_failures system.failures system.kinds.told old) checked.there) (λ k. refl) c.fail.ensures
+    (right_handle c.args.handle (with_failures system.failures system.kinds.told old) checked.there) (λ k. refl) c.fail.ensures.once
 
 pub invariant_of-self-2 : goal.invariant_of-self-2
 invariant_of-self-2 g c =

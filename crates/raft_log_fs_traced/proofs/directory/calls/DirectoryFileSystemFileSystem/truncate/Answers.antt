@@ -16,7 +16,7 @@ returns-in_default-clause-err g c =
     let writer = c.in_ok-check_writer.ensures.ok in
     let file = c.args.handle.file in
     failed_once (SomeOf file (ShortenedTo c.args.size)) (Changes file (after_change (ShortenedTo c.args.size))) (WrongWriter c.args.handle) c.fail.result system.failures system.kinds.told old (disk_of g.D.Device system) (disk_of g.D.Device c.fail.new.self) writer.file.runs.same refl
-    (right_writer c.args.handle (with_failures system.failures system.kinds.told old) writer.file.there writer.writes) (λ k. none refl) c.fail.ensures
+    (right_writer c.args.handle (with_failures system.failures system.kinds.told old) writer.file.there writer.writes) (λ k. none refl) c.fail.ensures.once
 
 pub invariant_of-self-2 : goal.invariant_of-self-2
 invariant_of-self-2 g c =

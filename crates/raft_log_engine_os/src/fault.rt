@@ -18,7 +18,7 @@ pub enum OpenFault {
 }
 
 impl From<DirectoryFault> for OpenFault {
-    ghost from_gives = { λ fault open. open ≡ Directory fault };
+    ghost from_gives = { λ fault refusal. refusal ≡ Directory fault };
 
     fn from(fault: DirectoryFault) -> OpenFault {
         OpenFault::Directory(fault)

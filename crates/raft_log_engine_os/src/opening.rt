@@ -29,10 +29,7 @@ pub type DirectoryEngine<R> = Engine<DirectoryFileSystem<FileDevice<R>>>;
 /// `Engine::open_with_file_system`.
 pub fn open_engine<
     R: Files<File = File> + Threads + Log + Eprint + AllocGlobal + Clone + Sync + Drop,
->(
-    rt: &R,
-    config: Config,
-) -> Result<DirectoryEngine<R>, OpenFault>
+>(rt: &R, config: Config) -> Result<DirectoryEngine<R>, OpenFault>
 where
     R::Dir: Send + Sync,
     ensures ok { IfOk result (λ engine. OpensIn ⟦<FileDevice<R> as Device>⟧ config

@@ -15,7 +15,7 @@ pub returns-then-not-takes_append-clause-ok : goal.returns-then-not-takes_append
 returns-then-not-takes_append-clause-ok g c =
     let none : TakesBoth c.args.thresholds.now c.args.stats.now (g.P.PipeLog.shown c.args.pipes.now) → ⊥ = λ due. elim c.then-not-takes_append.branch [
       | then-not-takes_append-via-then-not-takes_append w ↦ false≢true (sym w.if-not-takes_append.true ∙ c.takes_append.ensures.1 due.0)
-      | then-not-takes_append-via-else-not-takes_append+then-not-takes_rewrite w ↦ false≢true (sym w.if-not-takes_rewrite.true ∙ w.takes_rewrite-else-not-takes_append.ensures.1 due.1)
+      | then-not-takes_append-via-else-not-takes_append+then-not-takes_rewrite w ↦ false≢true (sym w.if-not-takes_rewrite.true ∙ w.takes_rewrite.ensures.1 due.1)
     ] in
     inr (none, refl)
 

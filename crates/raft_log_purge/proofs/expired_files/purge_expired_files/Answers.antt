@@ -117,3 +117,6 @@ returns-clause-kept g c =
 
 pub returns-clause-owes : goal.returns-clause-owes
 returns-clause-owes g c = λ v h. c.purge_append.ensures.owes v (c.purge_rewrite.ensures.owes v h)
+
+pub returns-clause-rests : goal.returns-clause-rests
+returns-clause-rests g c = λ rest. c.purge_append.ensures.rests (c.purge_rewrite.ensures.rests rest)

@@ -41,7 +41,7 @@ pub record MeetsWritten (F : Format LogRecord) (files : PipeFiles) (before file 
       ⊎ IsHandedIn file.changes at w.bytes
   pub plain : F.IsAligned files.active.seq file.content → ⊥
 
--- after a close, the file at a path with the number of the pipe's active file has no CRC collision
+-- after a close, if a file has a path with the number of the pipe's active file, this file has no CRC collision
 abbrev pub LeavesWritten : Format LogRecord → PipeFiles → Disk → Disk → Type 0
 LeavesWritten F files old new = (before file : File) (path : List ℕ) (id : ℕ)
     → old.files files.writer.handle.file ≡ Some before → F.IsPath files.active.seq path

@@ -3,8 +3,8 @@ use Rattle.std.specs.Prelude.{◌≡◌, ℕ, Option, None}
 use Rattle.raft_log_record_base.specs.declared.pipe_log.LogQueue.{LogQueue}
 use Rattle.raft_log_dual_pipes.specs.Pipes.{LogPipes}
 
--- Some pipes in the state `v` pin these files of this queue. If `held` is `None`, they pin no file. Otherwise they pin
--- the files from the number in `held` on.
+-- There are pipes in the state `v` that pin files of this queue as `held` says: the files from the number in `held` on,
+-- or none if `held` is `None`.
 abbrev pub PipesHoldBack : {P : Type 0} → (P → LogPipes) → (P → LogQueue → Option ℕ → Type 0)
     → LogQueue → LogPipes → Option ℕ → Type 0
 PipesHoldBack {P} shown holds_back queue v held =

@@ -60,8 +60,8 @@ abbrev pub entries_of : LogQueue → ℕ → List Place → List EntryIndex
 entries_of queue index [] = []
 entries_of queue index (p ∷ ps) = entry_of queue index p ∷ entries_of queue (index + 1) ps
 
--- these entries as an item of the model, which has their places as a run of consecutive indexes; the run begins at the
--- first entry's index
+-- the item of the model for these entries: a run of their places, with consecutive indexes from the first entry's index
+-- on
 abbrev pub run_of : List EntryIndex → Item Place (List ℕ)
 run_of [] = Run 0 []
 run_of (e ∷ es) = Run e.index (map place_of (e ∷ es))

@@ -1,7 +1,7 @@
 -- Lists of runs, which encode the places of a group's consecutive entries. A run begins with entries that are adjacent
 -- in one block, the block of the run. If all these entries have the same length, the run is even, and stores only the
--- offset of the first one. Otherwise the offset of each is in a second list, `starts`. The entries of a run after these
--- are each alone in a block. For each of them, `starts` has its place, as eight numbers.
+-- offset of the first one. Otherwise the offset of each is in a second list, `starts`. Each further entry of the run is
+-- alone in a block; `starts` has its place, as eight numbers.
 use Rattle.std.specs.Prelude.{◌≡◌, ℕ, ◌+◌, ◌-◌, ◌*◌, ◌<◌, ◌≤◌, ◌^◌, Bool, true, false, List, [], ◌∷◌, ◌++◌, if◌then◌else◌, nat_le, nat_lt, length, map, take, drop, slice_index_or}
 use Rattle.std.specs.Coded.{Unit-prop, le_prop, Coded-set, coded_ℕ}
 use Rattle.raft_log_record_items.specs.declared.entry.EntryIndex.{EntryIndex}

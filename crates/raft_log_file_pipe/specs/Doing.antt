@@ -1,6 +1,7 @@
 -- What each call of a pipe does, on any disk: which file system calls it makes, in order, and the pipe's files after
--- the call. This doesn't require that the files are those of a queue. `before` and `after` are the pipe's files, `old`
--- and `new` the disk. `begin` are the settings for new files. `signed` gives a record's bytes, signed for a given file.
+-- the call. The definitions don't require that the files are those of a queue. `before` and `after` are the pipe's
+-- files, `old` and `new` the disk. `begin` are the settings for new files. `signed` gives a record's bytes, signed for
+-- a given file.
 use Rattle.std.specs.Prelude.{◌≡◌, ◌⊎◌, ℕ, ◌<◌, ◌≤◌, ◌^◌, false, List, [], ◌∷◌, ◌++◌, length, suc}
 use Rattle.std.specs.declared.io.ErrorKind.{ErrorKind}
 use Rattle.std.specs.declared.io.ErrorKind.TheVariants.{StorageFull}

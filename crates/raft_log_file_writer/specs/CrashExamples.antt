@@ -1,6 +1,6 @@
 -- The premise "no CRC collision" is sometimes true and sometimes false. A stop that loses an unsynced record satisfies
--- it. A stop that leaves another record in the place of the unsynced one doesn't. A file in which another record is
--- synced after the chain doesn't hold the chain.
+-- it. A stop that leaves another record in the place of the unsynced one doesn't. `HoldsChain` is false of a file in
+-- which one more record is synced after those that it lists.
 use Rattle.std.specs.Prelude.{◌≡◌, ℕ, ◌+◌, ◌<◌, ◌≤◌, List, [], ◌∷◌, ◌++◌, length, take, drop}
 use Rattle.raft_log_fs.specs.Disk.{Wrote, File, at_rest}
 use Rattle.raft_log_fs.specs.Image.{IsLeft}

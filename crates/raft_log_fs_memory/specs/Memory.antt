@@ -1,4 +1,4 @@
--- A file system in memory as a disk, and the unsynced changes of all its files.
+-- The disk that contracts see for a file system in memory, and the unsynced changes of all its files.
 use Rattle.std.specs.Prelude.{◌≡◌, ℕ, ◌+◌, ◌<◌, ◌≤◌, ◌⊎◌, Bool, true, false, suc, cond, Option, Some, None, List, [], ◌∷◌}
 use Rattle.std.proofs.Common.{nat_eq, nat_lt}
 use Rattle.std.specs.declared.io.ErrorKind.{ErrorKind}

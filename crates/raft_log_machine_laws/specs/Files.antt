@@ -77,9 +77,9 @@ abbrev pub store_of : {E V : Type 0} → FileQueue E V → FileQueue E V → Sto
 store_of r a = record { rewrite = queue_of r; append = queue_of a }
 
 -- A crash of Rewrite's files `r` and Append's files `a` loses at most a suffix of the pending `batches`. The prefixes
--- of pending records that the crash leaves determine a number `count`. A recovery then gets map `m` after the first
--- `count` batches, whatever files it may start at. After the last gap, Rewrite's files are numbered from `n` on, and
--- Append's files from `k` on.
+-- of pending records that the crash leaves determine a number `count`. A recovery then gets the map `m` with the first
+-- `count` batches applied to it, at whatever files it starts. After the last gap, Rewrite's files are numbered from `n`
+-- on, and Append's files from `k` on.
 abbrev pub SurvivesInFiles : {E V : Type 0} → ℕ → FileQueue E V → ℕ → FileQueue E V → Map E V
     → List (Record E V) → Type 0
 SurvivesInFiles {E} {V} n r k a m batches =

@@ -1,4 +1,5 @@
--- Short logs for worked examples, and for examples of wrong rules. Each entry and each value is a number.
+-- Short logs for worked examples, and for examples that show why other rules would be wrong. Each entry and each value
+-- is a number.
 use Rattle.std.specs.Prelude.{ℕ, zero, suc, List, [], ◌∷◌, ◌++◌, Option, map, Some, None}
 use Rattle.raft_log_model_laws.specs.Item.{Item, Tagged, Record}
 use Rattle.raft_log_model_laws.specs.Item.Item.{Run, Compact, Put}

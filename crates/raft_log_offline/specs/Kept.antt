@@ -1,5 +1,5 @@
 -- What a checker keeps of each group: the first and the last index of its runs of entries, and its finding. The finding
--- is the index after which the first indexes are missing.
+-- is the last index before the group's first hole.
 use Rattle.std.specs.BTreeMap.{get}
 use Rattle.std.specs.Option.{option_or}
 use Rattle.std.specs.Ordering.{nat_cmp}

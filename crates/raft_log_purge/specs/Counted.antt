@@ -41,7 +41,7 @@ pub record CountsAndResets (before : MemTables) (old new : PurgeCounts) : Type 0
   pub stats : new.stats ≡ reset_counts counted.stats
   pub rounds : new.rounds ≡ old.rounds
 
--- The counts after a compaction of Rewrite failed. They were updated before the compaction. Which counts are left after
+-- The counts that a failed compaction of Rewrite leaves. They were updated before the compaction. What they are after
 -- that depends on the step that failed (`StopsAtRewrite`).
 pub record CountsAndKeeps (before : MemTables) (old new : PurgeCounts) (s t : EngineState) : Type 0 where
   pub counted : PurgeCounts

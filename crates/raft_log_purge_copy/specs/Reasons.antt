@@ -1,5 +1,5 @@
--- Why a part of a purge fails. A comment that says *the error says why* means that the error has one of these reasons
--- if no batch was pending.
+-- Why a part of a purge fails. A comment that says *the error says why* means this: if no batch was pending before the
+-- part, the error has one of these reasons.
 use Rattle.std.specs.Prelude.{◌≡◌, ◌⊎◌, ℕ, false, List, [], Some}
 use Rattle.raft_log_model_laws.specs.Meaning.Slot.{Key}
 use Rattle.raft_log_model_laws.specs.Meaning.Content.{Value}

@@ -118,7 +118,8 @@ put_item group key value = record { raft_group_id = group; content = contents.Kv
 abbrev pub del_item : ℕ → List ℕ → LogItem
 del_item group key = record { raft_group_id = group; content = contents.Kv (del_of key) }
 
--- what follows the byte `op` in an operation on a key: the key, and the value of a put; any other `op` is invalid
+-- what follows the byte `op` in an operation on a key: the key, and for a put (1) the value; a deletion is 2, and no
+-- other `op` is valid
 abbrev pub IsKeyValueOf : ℕ → List ℕ → KeyValue → Type 0
 IsKeyValueOf op = Choice (op == 1) (Then IsBytes (λ key. Then IsBytes (λ value. IsKnown (put_of key value))))
     (Choice (op == 2) (Then IsBytes (λ key. IsKnown (del_of key))) Never)

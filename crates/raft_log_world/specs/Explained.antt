@@ -1,4 +1,5 @@
--- What it means that the model explains a run's moments, or answers to events. Also the laws that it explains all runs.
+-- What it means that the model explains the moments of a run, or a list of answers to events. Also the laws that it
+-- explains all runs.
 -- A moment is an event, its answer, and the engine or the files after it.
 use Rattle.std.specs.Prelude.{◌≡◌, List, [], ◌∷◌}
 use Rattle.raft_log_world.specs.declared.event.Answer.{Answer}

@@ -51,7 +51,7 @@ pub record Answered (home : LogDirectories) (V : World) (qs : List (ℕ × Reque
 -- A round of the requests `qs` began with engine `s` and the voters of `V`. The engine, now `t`, failed at one of these
 -- requests, as a file system call failed. `told` has the replies to the requests before that one. Replies that aren't
 -- `Refused` are the voters' own. The log's files can be opened. They store the voters after a prefix of the requests
--- taken, or after all of them and the request at which the engine failed.
+-- before that one, without those that were refused; or after all of these and the request at which the engine failed.
 pub record GaveUp (home : LogDirectories) (V : World) (qs : List (ℕ × Request)) (told : List Reply) (s t : EngineState)
     : Type 0 where
   pub failed : has_failed t ≡ true

@@ -1,4 +1,4 @@
--- What the lines say that a node prints for a round.
+-- The lines that a node prints for a round, and what they say.
 use Rattle.std.specs.Prelude.{◌≡◌, ◌⊎◌, ℕ, List, []}
 use Rattle.raft_voter_messages.specs.declared.reply.Reply.{Reply}
 use Rattle.raft_voter_messages.specs.declared.request.Request.{Request}

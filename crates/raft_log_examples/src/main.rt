@@ -94,7 +94,8 @@ fn exit_after(usage: io::Result<()>, status: u8) -> ExitCode {
     }
 }
 
-// An open lends its file system to threads. `proofs/main/Answers.antt` proves that one over real directories may be lent.
+// An open lends its file system to threads. `proofs/main/Answers.antt` proves that one over real directories may be
+// lent.
 fn main(rt: HostRuntime) -> ExitCode {
     let (example, directory) = match Asked::read(&rt) {
         Ok(Asked::InMemory(example)) => return exit(&rt, play_in_memory(&rt, example)),

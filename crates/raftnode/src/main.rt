@@ -59,7 +59,8 @@ fn refused<R: Eprint>(rt: &R, refusal: &Refusal) -> ExitCode {
     exit_after(eprintln!(rt; "raftnode: {refusal}"), REFUSED)
 }
 
-// An open lends its file system to threads. `proofs/main/Answers.antt` proves that one over real directories may be lent.
+// An open lends its file system to threads. `proofs/main/Answers.antt` proves that one over real directories may be
+// lent.
 fn main(rt: HostRuntime) -> ExitCode {
     let (directory, file) = match Asked::read(&rt) {
         Ok(Asked::Node(directory, file)) => (directory, file),

@@ -5,4 +5,4 @@ pub mod fault;
 pub mod opening;
 
 pub use fault::OpenFault;
-pub use opening::{DirectoryEngine, open_engine, open_files};
+pub use opening::{DirectoryEngine, open_engine, open_files, set_limits};

@@ -79,8 +79,9 @@ fn open_made<R: Files<File = File> + Threads + Eprint + AllocGlobal + Clone + Sy
     open_directories(rt, directory, Some(spill.as_str()))
 }
 
-/// Sets the limits of these settings. Fails only if memory runs out.
-fn set_limits<D: Device>(
+/// Sets the limits of these settings, for directories that were opened by other calls than `open_files`. Fails only if
+/// memory runs out.
+pub fn set_limits<D: Device>(
     files: &mut DirectoryFileSystem<D>,
     config: &Config,
 ) -> Result<(), AllocError>

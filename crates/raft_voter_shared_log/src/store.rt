@@ -72,5 +72,5 @@ impl<F: FileSystem + Sync> LogStore<F> {
 fn copy_settings(config: &Config) -> Result<Config, AllocError>
     ensures { IfOk result (λ copy. settings_of copy ≡ settings_of config.now) }
 {
-    config.clone()
+    Ok(config.clone()?)
 }

@@ -1,4 +1,4 @@
--- The file system over the directories of settings, and the open of the log in it.
+-- The file system over the directories that settings name, and the open of the log in it.
 use Rattle.std.specs.Prelude.{◌≡◌, ℕ, List, Option, None, Some}
 use Rattle.std.specs.Map.{update}
 use Rattle.std.specs.Str.{bytes_eq}

@@ -1,6 +1,6 @@
 -- Failures that a test arms in a file system in memory, and how they make a changing call fail. A changing call is one
--- that changes names or files, or syncs. A failure is armed for a changing call to come: 1 is the next one. `old` is
--- the state before a call, and `new` the state after it. `left` is the state that a failed call leaves.
+-- that changes names or files, or syncs. A failure is armed for the n-th changing call from now; the next one is the
+-- first. `old` is the state before a call, and `new` the state after it. `left` is the state that a failed call leaves.
 use Rattle.std.specs.Prelude.{◌≡◌, ℕ, ◌-◌, ◌⊎◌, Bool, true, false, cond, Option, Some, None, List, [], ◌∷◌, ◌++◌, Result}
 use Rattle.std.specs.Result.{MatchResult}
 use Rattle.std.specs.String.{string_bytes}
@@ -92,8 +92,8 @@ pub record IsSpared (a : Armed) : Type 0 where
   pub part : front_of a.parts ≡ None
   pub stop : a.stop ≡ 1 → ⊥
 
--- A partial failure is due at the next changing call, and `count` is how many bytes a write writes at it. No full
--- failure or stop is due there; these have priority.
+-- A partial failure is due at the next changing call. If that call is a write, it writes `count` bytes. No full
+-- failure or stop is due at that call; these have priority.
 pub record PartFalls (count : ℕ) (a : Armed) : Type 0 where
   pub front : front_of a.parts ≡ Some count
   pub refusal : Contains a.refusals 1 → ⊥
@@ -140,8 +140,8 @@ pub record ArmedStopFell (error : ErrorKind) (old new : MemoryFileSystem) : Type
   pub kind : error ≡ Other
   pub left : disk_of new ≡ at_stop (disk_of old)
 
--- the state `k` after a failure that returned `error`: it was counted, or, if the count is full, the file system has
--- stopped
+-- The state `k` after a failure that returned `error`. The failure was counted. If the count of failures was at its
+-- maximum, the file system stopped instead.
 abbrev pub after_failure : ErrorKind → Kept → Kept
 after_failure error k = record k { disk = failed_once error k.disk }
 

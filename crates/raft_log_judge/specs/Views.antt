@@ -1,5 +1,5 @@
--- Views of a log: what its readers see, and what a crash may leave. They decide which answers are possible. `says`
--- gives the record of a batch.
+-- Views of a log: what its readers see, and what a crash may leave. They decide which answers are possible. Where a
+-- definition has the parameter `says`, that maps a batch to its record.
 use Rattle.std.specs.Prelude.{◌≡◌, ◌⊎◌, ◌↔◌, true, false, List, [], ◌∷◌, ◌++◌, option_map}
 use Rattle.raft_log_model_laws.specs.Item.Record.{Plain}
 use Rattle.raft_log_model_laws.specs.Groups.{taken}
@@ -130,8 +130,8 @@ IsRead m (Serve (Scan group start end)) (Keys pairs) =
 IsRead m event answer = ⊥
 
 -- How `view` becomes `next` by an outcome. `read` says that a read's answer is right for the view. If a batch is added
--- without a sync, a crash afterwards leaves one of two: all batches with this one, or what a crash before the batch
--- could leave.
+-- without a sync, a crash afterwards leaves either all batches, including this one, or what a crash before this batch
+-- could have left.
 abbrev pub Turned : Outcome → BatchRecord → Type 0 → View → View → Type 0
 Turned Never batch read view next = ⊥
 Turned Reads batch read view next = read × (next ≡ view)

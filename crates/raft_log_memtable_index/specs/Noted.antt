@@ -72,7 +72,7 @@ abbrev pub AllUpTo : ℕ → List Place → Type 0
 AllUpTo n [] = Unit {0}
 AllUpTo n (p ∷ ps) = (p.file ≤ n) × AllUpTo n ps
 
--- every copy is in a file up to number `n`
+-- each of these moves is to a file whose number is at most `n`
 abbrev pub AreUpTo : ℕ → List Move → Type 0
 AreUpTo n [] = Unit {0}
 AreUpTo n (MoveRun f ps ∷ xs) = AllUpTo n ps × AreUpTo n xs

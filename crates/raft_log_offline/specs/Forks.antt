@@ -26,7 +26,7 @@ LiesWithin directory path = (path ≡ directory) ⊎ ((rest : List ℕ) × (path
 abbrev pub LiesInOne : List (List ℕ) → List ℕ → Type 0
 LiesInOne directories path = (directory : List ℕ) × Contains directories directory × LiesWithin directory path
 
--- the directory exists and has a file with the name of a log file or of a reserved file
+-- the directory exists and has a file with the name of a log file, or of a file that is kept for recycling
 pub record HoldsLogFile (directory : List ℕ) (d : Disk) : Type 0 where
   pub home : d.directories directory ≡ true
   pub name : List ℕ

@@ -27,7 +27,7 @@ CountsFrom file (Some least) v n = ((file < least) × StandIn v n) ⊎ ((least �
 abbrev pub StandsPast : ℕ → Shown → ℕ → Type 0
 StandsPast file v n = (least : Option ℕ) × IsMinFile Rewrite v least × CountsFrom file least v n
 
--- `n` is the sum of the numbers of `StandsPast` over these groups, at most 2 ^ 64 - 1
+-- `n` is the sum of the numbers of `StandsPast` over these groups, or 2 ^ 64 - 1 if the sum is greater
 abbrev pub CountsPast : ℕ → (ℕ → Shown) → List ℕ → ℕ → Type 0
 CountsPast file v [] n = n ≡ 0
 CountsPast file v (g ∷ gs) n =

@@ -55,7 +55,7 @@ FailsAtARecord error s t = Fails s.pipes.disk t.pipes.disk × RecordIsRefused er
 -- - `Failed`: a file system call failed
 -- - `NumberRange`: a queue's active file has the last number that a file name can have
 -- - `Full`: a record of what one group has would be too long
--- - `InvalidArgument`: a value would be a mark of an atomic group
+-- - `InvalidArgument`: group 0 has a value under the key of marks; a copy of it would be a mark of an atomic group
 -- - `Memory`: memory ran out
 -- No other error occurs.
 abbrev pub HasReason : LogDirectories → LogMap → Error → EngineState → EngineState → Type 0

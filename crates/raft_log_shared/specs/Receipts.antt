@@ -20,8 +20,8 @@ pub record Stamp : Type 0 where
   pub written : ℕ × List Served
   pub synced : Option (ℕ × List Served)
 
--- The answer to the write of a batch, if its caller got `result`. With a sync, the write succeeded, and `result` is
--- that of the sync.
+-- The answer to the write of a batch, if its caller got `result`. If a sync followed, the write had succeeded, and
+-- `result` is the sync's.
 abbrev pub write_answer : Result ℕ Error → Option (ℕ × List Served) → Answer
 write_answer result None = answer_of result
 write_answer result (Some sync) = Done

@@ -97,7 +97,7 @@ place_reached Cut size [] = 0
 place_reached Cut size (cut ∷ cuts) = cut
 
 -- The outcome of round `r` is possible in world `W`. If the round has replies, these are what the voters of `W` reply.
--- If it was cut off, there is a first of `cuts`, which is at most the number of the round's requests.
+-- If the round was cut off, `cuts` isn't empty, and its first position is at most the number of the round's requests.
 abbrev pub OutcomeHolds : Outcome → World → Round → List ℕ → Type 0
 OutcomeHolds (Answered replies) W r cuts = replies ≡ replies_of W r
 OutcomeHolds Cut W r cuts = HasCut (length r.requests) cuts

@@ -1,5 +1,5 @@
 -- The text that encodes a session: the lines of its settings, then those of its events. Numbers have no leading zeros,
--- and each Append has its commit.
+-- and the line of each Append request states its commit index.
 use Rattle.std.specs.Prelude.{ℕ, ◌^◌, ◌≤◌, ◌&&◌, nat_lt, nat_le, Bool, true, false, not, IsTrue}
 use Rattle.std.specs.Prelude.{List, [], ◌∷◌, ◌++◌, length, map, codes, Option, Some, None}
 use Rattle.std.specs.List.{flat_map, list_all}

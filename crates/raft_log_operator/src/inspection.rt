@@ -7,6 +7,7 @@ use crate::fault::CommandFault;
 use crate::text::{DamageLine, GapLine};
 use raft_log_command_line::Place;
 use raft_log_engine::{FileSystem, LogQueue};
+use raft_log_fs::Receipt;
 use raft_log_inspection::{QueueInspection, inspect_queue};
 use raft_log_offline::laws::findings_are_first_holes;
 use raft_log_offline::{ConsistencyChecker, Finding};
@@ -108,7 +109,8 @@ fn inspect_one<F: FileSystem>(
     ensures { IfOk result (InspectsOne queue (map string_bytes paths.now) (F.disk files.now)) }
 {
     let mut checker = ConsistencyChecker::new(alloc);
-    let files = inspect_queue(alloc, files, queue, paths, &mut checker)?;
+    let mut receipts = Receipt::none();
+    let files = inspect_queue(alloc, files, queue, paths, &mut checker, &mut receipts)?;
     findings_are_first_holes();
     let holes = checker.finish()?;
     Ok(QueueFaults {

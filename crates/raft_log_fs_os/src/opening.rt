@@ -32,7 +32,7 @@ use std::{fs, io};
 ///   open fails with `Irregular`. Entries with other names are ignored.
 /// - The last file of either queue is written back with the same bytes and synced; then the directories are synced.
 ///   What the file system shows is therefore durable, even if a sync failed earlier in this boot of the machine.
-///   `CALLING.md` lists two exceptions.
+///   `CALLING.md` lists the exceptions.
 /// - Paths are those of the operating system; the log's settings must spell them the same. The file system makes no
 ///   other directory, as that would have no lock.
 ///

@@ -1,6 +1,8 @@
 pub mod Taking
 pub mod Upkeep
+pub mod Reading
 pub mod Rounds
+pub mod Refusals
 pub mod Silence
 pub mod Service
 pub mod Opening

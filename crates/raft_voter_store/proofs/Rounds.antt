@@ -1,8 +1,6 @@
 -- A round: each step, and each end, is a call of one law.
 use Rattle.std.proofs.Common.{◌≡◌, ℕ, zero, suc, ◌<◌, ◌≤◌, ◌||◌, Bool, true, false, List, [], ◌∷◌, ◌++◌, length, get_or, Some, refl, sym, ap, subst, inl, inr, ◌∙◌, arith}
 use Rattle.std.specs.Prelude.{◌⊎◌, slice_get, take}
-use Rattle.std.specs.List.{AllByRecursion}
-use Rattle.std.proofs.lemmas.List.{append_assoc, map-append}
 use Rattle.raft_log_fs.specs.Causes.{IsLater}
 use Rattle.raft_log_record_base.specs.declared.errors.Error.{Error}
 use Rattle.raft_log_engine.specs.raft_log_engine_laws.specs.EngineState.{EngineState, has_failed}
@@ -16,13 +14,11 @@ use Rattle.raft_voter.specs.Service.{is_refused, refused_from}
 use Rattle.raft_voter_durability_laws.specs.Ends.{Went}
 use Rattle.raft_voter_durability_laws.specs.Requests.{Broke, Served, TurnedDown}
 use Rattle.raft_voter_durability_laws.proofs.Public.{later_same, later_twice, rounds_end, rounds_go_on}
-use Rattle.raft_voter_store.specs.Refusals.{AppendsCutRefusals, AppendsRefusals, AreExcused, IsRefusal, IsRefusedFor, TurnsDown, told_refusal}
-use Rattle.raft_voter_store.specs.Rounds.{CutsRoundOff, GoesOn, NotesOn, Passes, RoundIsAnswered, StopsAt}
+use Rattle.raft_voter_store.specs.Refusals.{AreExcused, IsCauseOf}
+use Rattle.raft_voter_store.specs.Rounds.{CutsRoundOff, GoesOn, Passes, RoundIsAnswered, StopsAt}
 use Rattle.raft_voter_store.specs.Taking.{FailsToTake}
-use Rattle.raft_voter_store.specs.declared.refusals.Refusal.{Refusal}
 use Rattle.raft_voter_store.specs.declared.refusals.RefusalCause.{RefusalCause}
 use Rattle.raft_voter_store.specs.declared.refusals.RefusalCause.TheVariants.{OutOfRange, Rejected}
-use Rattle.raft_voter_store.proofs.Places.{refused_behind}
 
 same_some : {A : Type 0} (x y : A) → Some x ≡ Some y → x ≡ y
 same_some x y is = by is
@@ -48,11 +44,11 @@ behind {A} (z ∷ zs) x y (suc i) is = elim (behind zs x y i is) [
 
 -- why the request at the last place is refused, if it is
 abbrev IsExcusedHere : List (ℕ × Request) → List Reply → Reply → ℕ × Request → EngineState → EngineState → (ℕ → State) → Type 0
-IsExcusedHere qs told a q s t os = replies.Refused ≡ a → (cause : RefusalCause) × IsRefusedFor cause qs told q s t os
+IsExcusedHere qs told a q s t os = replies.Refused ≡ a → (cause : RefusalCause) × IsCauseOf cause qs told q s t os
 
 -- a cause is one still behind what comes later
-refused_since : (cause : RefusalCause) (qs : List (ℕ × Request)) (told : List Reply) (q : ℕ × Request) (s t u : EngineState) (os : ℕ → State) → IsLater t.pipes.disk u.pipes.disk → IsRefusedFor cause qs told q s t os
-    → IsRefusedFor cause qs told q s u os
+pub refused_since : (cause : RefusalCause) (qs : List (ℕ × Request)) (told : List Reply) (q : ℕ × Request) (s t u : EngineState) (os : ℕ → State) → IsLater t.pipes.disk u.pipes.disk → IsCauseOf cause qs told q s t os
+    → IsCauseOf cause qs told q s u os
 refused_since OutOfRange qs told q s t u os since outside = outside
 refused_since (Rejected error) qs told q s t u os since turned = record {
   wrote = turned.wrote;
@@ -74,11 +70,11 @@ excused_more : (qs : List (ℕ × Request)) (told : List Reply) (a : Reply) (q :
 excused_more qs told a q s t os before at here place r refused is = elim (behind told a replies.Refused place refused) [
   | inl there ↦
       let (cause, why) = before place r there.0 is in
-      (cause, subst (λ (l : List Reply). IsRefusedFor cause qs l r s t os) (sym there.1) why)
+      (cause, subst (λ (l : List Reply). IsCauseOf cause qs l r s t os) (sym there.1) why)
   | inr last ↦
       let same : q ≡ r = same_some q r (sym at ∙ ap (λ (n : ℕ). slice_get qs n) (sym last.0) ∙ is) in
       let (cause, why) = here (sym last.1) in
-      (cause, subst (λ (x : ℕ × Request). IsRefusedFor cause qs (take place (told ++ a ∷ [])) x s t os) same (subst (λ (l : List Reply). IsRefusedFor cause qs l q s t os) (sym last.2) why))
+      (cause, subst (λ (x : ℕ × Request). IsCauseOf cause qs (take place (told ++ a ∷ [])) x s t os) same (subst (λ (l : List Reply). IsCauseOf cause qs l q s t os) (sym last.2) why))
 ]
 
 -- Steps.

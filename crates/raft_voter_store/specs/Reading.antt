@@ -18,7 +18,7 @@ abbrev pub FetchesRaw : ℕ → ℕ → ℕ → Option ℕ → EngineState → E
 FetchesRaw g low high max s t messages = FetchesTo raw_message g low high max s t [] messages (length messages)
 
 -- The engine fetched entries (`FetchesRaw`), and their bytes encode the entries `es`, with indexes from `low` on.
-pub record ReadsSome (g low high : ℕ) (max : Option ℕ) (s t : EngineState) (es : List Entry) : Type 0 where
+pub record ReadsEntriesTo (g low high : ℕ) (max : Option ℕ) (s t : EngineState) (es : List Entry) : Type 0 where
   pub messages : List RawMessage
   pub fetches : FetchesRaw g low high max s t messages
   pub read : AreReadAs low (map (λ m. m.bytes) messages) es
@@ -27,8 +27,8 @@ pub record ReadsSome (g low high : ℕ) (max : Option ℕ) (s t : EngineState) (
 -- - `failed`: the engine had failed before
 -- - `unfetched`: the engine failed to fetch them
 -- - `unread`: it fetched them, and memory ran out when they were read, or their bytes aren't entries
-pub data FailsToReadSome (g low high : ℕ) (max : Option ℕ) (s t : EngineState) (error : Error) : Type 0 where
-  failed : HadFailed s t error → FailsToReadSome g low high max s t error
-  unfetched : FailsToFetch raw_message g low high s t error → FailsToReadSome g low high max s t error
+pub data FailsToReadEntries (g low high : ℕ) (max : Option ℕ) (s t : EngineState) (error : Error) : Type 0 where
+  failed : HadFailed s t error → FailsToReadEntries g low high max s t error
+  unfetched : FailsToFetch raw_message g low high s t error → FailsToReadEntries g low high max s t error
   unread : error ≡ errors.Memory → (messages : List RawMessage) → FetchesRaw g low high max s t messages
-      → FailsToReadSome g low high max s t error
+      → FailsToReadEntries g low high max s t error

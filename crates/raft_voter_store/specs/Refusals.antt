@@ -32,15 +32,15 @@ pub record TurnsDown (qs : List (ℕ × Request)) (told : List Reply) (q : ℕ �
 
 -- The request `q`, which follows the requests with the replies `told`, was refused for this cause. Either it is out of
 -- range. Or it was rejected with this error, after the requests before it were served.
-abbrev pub IsRefusedFor : RefusalCause → List (ℕ × Request) → List Reply → ℕ × Request → EngineState → EngineState
+abbrev pub IsCauseOf : RefusalCause → List (ℕ × Request) → List Reply → ℕ × Request → EngineState → EngineState
     → (ℕ → State) → Type 0
-IsRefusedFor OutOfRange qs told q s t os = in_range q.1 ≡ false
-IsRefusedFor (Rejected error) qs told q s t os = TurnsDown qs told q error s t os
+IsCauseOf OutOfRange qs told q s t os = in_range q.1 ≡ false
+IsCauseOf (Rejected error) qs told q s t os = TurnsDown qs told q error s t os
 
--- each reply `Refused` in `told` has a cause (`IsRefusedFor`)
+-- each reply `Refused` in `told` has a cause (`IsCauseOf`)
 abbrev pub AreExcused : List (ℕ × Request) → List Reply → EngineState → EngineState → (ℕ → State) → Type 0
 AreExcused qs told s t os = (place : ℕ) (q : ℕ × Request) → slice_get told place ≡ Some Refused
-    → slice_get qs place ≡ Some q → (cause : RefusalCause) × IsRefusedFor cause qs (take place told) q s t os
+    → slice_get qs place ≡ Some q → (cause : RefusalCause) × IsCauseOf cause qs (take place told) q s t os
 
 -- the reply at the refusal's position in `told` is `Refused`, and the request there was refused for the refusal's cause
 pub record IsRefusal (qs : List (ℕ × Request)) (told : List Reply) (s t : EngineState) (os : ℕ → State) (r : Refusal)
@@ -48,7 +48,7 @@ pub record IsRefusal (qs : List (ℕ × Request)) (told : List Reply) (s t : Eng
   pub refused : slice_get told r.place ≡ Some Refused
   pub request : ℕ × Request
   pub at : slice_get qs r.place ≡ Some request
-  pub cause : IsRefusedFor r.cause qs (take r.place told) request s t os
+  pub cause : IsCauseOf r.cause qs (take r.place told) request s t os
 
 -- Refusals of the round `qs` were appended to `old`, which became `new`: one for each reply `Refused` in `told`, in this
 -- order, with the cause of that reply.

@@ -10,7 +10,7 @@ use raft_log_record_items::{RawEntries, RawMessage};
 use raft_voter_messages::{Entry, Items};
 
 impl<P: PipeLog> LogVoterStore<P> {
-    ghost use Rattle.raft_voter_store.specs.Reading.{FailsToReadSome, ReadsSome};
+    ghost use Rattle.raft_voter_store.specs.Reading.{FailsToReadEntries, ReadsEntriesTo};
 
     /// The entries of a group from index `low` on, below `high`: always the first, and more while they take at most
     /// `max_size` bytes together. An entry takes 17 bytes, for a form byte, its index and its term, and as many as it has
@@ -33,9 +33,9 @@ impl<P: PipeLog> LogVoterStore<P> {
         high: u64,
         max_size: Option<usize>,
     ) -> Result<Items<Entry>>
-        ensures ok { IfOk result (λ entries. ReadsSome group low high max_size
+        ensures ok { IfOk result (λ entries. ReadsEntriesTo group low high max_size
             (shows_of P.shown self.old.engine) (shows_of P.shown self.new.engine) entries) }
-        ensures err { IfErr result (λ error. FailsToReadSome group low high max_size
+        ensures err { IfErr result (λ error. FailsToReadEntries group low high max_size
             (shows_of P.shown self.old.engine) (shows_of P.shown self.new.engine) error) }
         ensures stays { StaysButBlock
             (shows_of P.shown self.old.engine) (shows_of P.shown self.new.engine) }

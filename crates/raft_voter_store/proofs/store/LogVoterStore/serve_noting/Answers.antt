@@ -9,8 +9,8 @@ use Rattle.raft_voter_store.specs.declared.store.LogVoterStore.{LogVoterStore}
 use Rattle.raft_voter_store.proofs.Counting.{counts_round, ends_synced, ends_unwritten}
 use Rattle.raft_voter_store.proofs.Rounds.{answered_synced, answered_unwritten, cut_at, cut_unsynced, excused_synced}
 use Rattle.raft_voter_store.proofs.Silence.{never}
-use Rattle.raft_voter_store.proofs.store.LogVoterStore.serve.Goals.{then-wrote+in-Ok-sync, else-wrote}
-use Rattle.raft_voter_store.proofs.store.LogVoterStore.serve.Goals as goal
+use Rattle.raft_voter_store.proofs.store.LogVoterStore.serve_noting.Goals.{then-wrote+in-Ok-sync, else-wrote}
+use Rattle.raft_voter_store.proofs.store.LogVoterStore.serve_noting.Goals as goal
 
 pub returns-in_default-take_all-clause-cut : goal.returns-in_default-take_all-clause-cut
 returns-in_default-take_all-clause-cut g c = λ cause.

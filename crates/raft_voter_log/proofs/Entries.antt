@@ -111,17 +111,17 @@ limited_is (Some max) (p ∷ ps) (e ∷ es) are = ap (λ (n : ℕ). take (if nat
         let none : max - stored_len e ≡ 0 = omega (arith, low) in
         ap (λ (l : List VoterEntry). e ∷ l) (sym (ap (λ (n : ℕ). fitting_entries n es) none ∙ none_fits es))
 
-fitting_entries-le : (left : ℕ) (ps : List Place) → fitting left ps ≤ length ps
-fitting_entries-le left [] = omega arith
-fitting_entries-le left (p ∷ ps) =
-    let rest = fitting_entries-le (left - p.entry_len) ps in
+fitting-le : (left : ℕ) (ps : List Place) → fitting left ps ≤ length ps
+fitting-le left [] = omega arith
+fitting-le left (p ∷ ps) =
+    let rest = fitting-le (left - p.entry_len) ps in
     elim (nat_le p.entry_len left) as (λ b. (if b then suc (fitting (left - p.entry_len) ps) else 0) ≤ suc (length ps)) [ true ↦ omega (arith, rest) | false ↦ omega arith ]
 
 sized-le : (max : Option ℕ) (ps : List Place) → sized max ps ≤ length ps
 sized-le None ps = omega arith
 sized-le (Some max) [] = omega arith
 sized-le (Some max) (p ∷ ps) =
-    let rest = fitting_entries-le (max - p.entry_len) ps in
+    let rest = fitting-le (max - p.entry_len) ps in
     elim (nat_le p.entry_len max) as (λ b. (if b then suc (fitting (max - p.entry_len) ps) else 1) ≤ suc (length ps)) [ true ↦ omega (arith, rest) | false ↦ omega arith ]
 
 length-entries_from : (v : Shown) (n : ℕ) (ps : List Place) → length (entries_from v n ps) ≡ length ps

@@ -50,8 +50,8 @@ pub record IsRefusal (qs : List (ℕ × Request)) (told : List Reply) (s t : Eng
   pub at : slice_get qs r.place ≡ Some request
   pub cause : IsCauseOf r.cause qs (take r.place told) request s t os
 
--- Refusals of the round `qs` were appended to `old`, which became `new`: one for each reply `Refused` in `told`, in this
--- order, with the cause of that reply.
+-- Refusals of the round `qs` were appended to `old`, which became `new`: one for each reply `Refused` in `told`, in the
+-- order of the replies, with its cause.
 pub record AppendsRefusals (qs : List (ℕ × Request)) (told : List Reply) (old new : List Refusal) (s t : EngineState)
     (os : ℕ → State) : Type 0 where
   pub refusals : List Refusal

@@ -49,7 +49,10 @@ each_at P (y ∷ ys) (suc k) x (one, all) is = each_at P ys k x all is
 place_in : (ps : List Place) (k : ℕ) → k < length ps → (p : Place) × (slice_get ps k ≡ Some p) × (drop k ps ≡ p ∷ drop (k + 1) ps)
 place_in [] k less = absurd (omega (arith, less))
 place_in (p ∷ ps) zero less = (p, refl, refl)
-place_in (p ∷ ps) (suc k) less = let there = place_in ps k (omega (arith, less)) in (there.0, there.1, there.2)
+place_in (p ∷ ps) (suc k) less =
+    let (q, got, rest) = place_in ps k (omega (arith, less)) in
+    let one : suc k + 1 ≡ suc (k + 1) = omega arith in
+    (q, got, rest ∙ ap (λ (n : ℕ). q ∷ drop n (p ∷ ps)) (sym one))
 
 take_numbered : (k i : ℕ) (log : List (ℕ × List ℕ)) → take k (numbered i log) ≡ numbered i (take k log)
 take_numbered zero i log = refl

@@ -97,3 +97,28 @@ returns-clause-counted g c =
       | else-wrote w ↦ rw (c.from_vec.ensures, w.self-is)
           (counts_round qs told wrote s t t os us old c.with_round-self-2.result c.in-Some.ensures.went (ends_unwritten wrote t w.if-wrote.false) c.with_round-self-2.ensures)
     ]
+
+pub returns-in_default-take_all-clause-cut_causes : goal.returns-in_default-take_all-clause-cut_causes
+returns-in_default-take_all-clause-cut_causes g c = λ cause enough. (
+  c.take_all.new.replies.items,
+  ap (λ fault. fault.refused) c.cut_off.ensures ∙ ap (λ l. refused_from 0 l) c.as_slice.ensures.value,
+  c.take_all.ensures.noted (omega (arith, enough, c.in-Ok.ensures.room)),
+)
+
+pub returns-in_default-sync-clause-cut_causes : goal.returns-in_default-sync-clause-cut_causes
+returns-in_default-sync-clause-cut_causes g c = λ cause enough. (
+  c.take_all.new.replies.items,
+  ap (λ fault. fault.refused) c.cut_off-in_default-sync.ensures ∙ ap (λ l. refused_from 0 l) c.as_slice-in_default-sync.ensures.value,
+  noted_unsynced,
+)
+
+pub returns-clause-causes : goal.returns-clause-causes
+returns-clause-causes g c = λ enough.
+    let shown = g.P.PipeLog.shown in
+    let s = shows_of shown c.args.self.now.engine in
+    let t = shows_of shown c.take_all.new.self.engine in
+    let os = outlines_in c.args.self.now.outlines in
+    elim c.if-wrote.branch [
+      | then-wrote+in-Ok-sync w ↦ rw (c.from_vec.ensures, w.self-is) (noted_synced c.args.requests.now c.take_all.new.replies.items s t (shows_of shown w.sync.new.self) os w.in-Ok-sync.ensures.ok c.in-Some.ensures.went.excused)
+      | else-wrote w ↦ rw (c.from_vec.ensures, w.self-is) c.in-Some.ensures.went.excused
+    ]

@@ -6,6 +6,7 @@ use Rattle.std.proofs.lemmas.List.{append-nil, append_assoc, map-append}
 use Rattle.raft_log_fs.specs.Causes.{IsLater}
 use Rattle.raft_log_record_base.specs.declared.errors.Error.{Error}
 use Rattle.raft_log_engine.specs.raft_log_engine_laws.specs.EngineState.{EngineState, has_failed}
+use Rattle.raft_log_engine.specs.raft_log_engine_laws.specs.Syncing.{NotSynced, SyncsAppend}
 use Rattle.raft_voter_messages.specs.declared.reply.Reply.{Reply}
 use Rattle.raft_voter_messages.specs.declared.reply.Reply.TheVariants as replies
 use Rattle.raft_voter_messages.specs.declared.request.Request.{Request}
@@ -20,7 +21,7 @@ use Rattle.raft_voter_store.specs.Taking.{FailsToTake}
 use Rattle.raft_voter_store.specs.declared.refusals.Refusal.{Refusal}
 use Rattle.raft_voter_store.specs.declared.refusals.RefusalCause.TheVariants.{OutOfRange, Rejected}
 use Rattle.raft_voter_store.proofs.Places.{refused_behind}
-use Rattle.raft_voter_store.proofs.Rounds.{refused_since}
+use Rattle.raft_voter_store.proofs.Rounds.{refused_since, unsynced_later}
 
 all_wider : {A : Type 0} (P Q : A → Type 0) (xs : List A) → ((x : A) → P x → Q x) → AllByRecursion P xs → AllByRecursion Q xs
 all_wider P Q [] wider all = tt
@@ -82,6 +83,14 @@ noted_since qs told now first noted notes s t u os since same is before =
       places = before.places;
       right = all_wider (IsRefusal qs told s t os) (IsRefusal qs told s u os) before.refusals (λ r. refusal_since qs told s t u os r since) before.right;
     })
+
+-- what a sync leaves
+pub noted_synced : (qs : List (ℕ × Request)) (told : List Reply) (first notes : List Refusal) (s t u : EngineState) (os : ℕ → State) → SyncsAppend t u → AppendsRefusals qs told first notes s t os → AppendsRefusals qs told first notes s u os
+noted_synced qs told first notes s t u os synced before = noted_since qs told told first notes notes s t u os synced.later refl refl before
+
+pub noted_unsynced : (qs : List (ℕ × Request)) (told : List Reply) (first notes : List Refusal) (error : Error) (s t u : EngineState) (os : ℕ → State) → NotSynced error t u → AppendsRefusals qs told first notes s t os
+    → AppendsRefusals qs told first notes s u os
+noted_unsynced qs told first notes error s t u os unsynced before = noted_since qs told told first notes notes s t u os (unsynced_later error t u unsynced) refl refl before
 
 noted_more : (qs : List (ℕ × Request)) (told : List Reply) (a : Reply) (first noted notes more : List Refusal) (s t u : EngineState) (os : ℕ → State) → IsLater t.pipes.disk u.pipes.disk
     → AppendsRefusals qs told first noted s t os → notes ≡ noted ++ more → map (λ r. r.place) more ≡ refused_from (length told) (a ∷ []) → AllByRecursion (IsRefusal qs (told ++ a ∷ []) s u os) more

@@ -147,7 +147,7 @@ answered_synced qs told wrote s t u os us passes synced home V keeps outlines = 
 pub excused_synced : (qs : List (ℕ × Request)) (told : List Reply) (s t u : EngineState) (os : ℕ → State) → SyncsAppend t u → AreExcused qs told s t os → AreExcused qs told s u os
 excused_synced qs told s t u os synced before = excused_since qs told s t u os synced.later before
 
-unsynced_later : (error : Error) (t u : EngineState) → NotSynced error t u → IsLater t.pipes.disk u.pipes.disk
+pub unsynced_later : (error : Error) (t u : EngineState) → NotSynced error t u → IsLater t.pipes.disk u.pipes.disk
 unsynced_later error t u (is, inl had) = subst (λ (x : EngineState). IsLater t.pipes.disk x.pipes.disk) (sym had.1) (later_same t.pipes.disk)
 unsynced_later error t u (is, inr fails) = fails.later
 

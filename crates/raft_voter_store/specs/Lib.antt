@@ -6,5 +6,6 @@ pub mod Refusals
 pub mod Silence
 pub mod Service
 pub mod Opening
+pub mod Listing
 pub mod Writing
 pub mod Counting

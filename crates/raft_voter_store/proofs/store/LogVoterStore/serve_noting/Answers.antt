@@ -111,8 +111,8 @@ returns-in_default-sync-clause-cut_causes g c = λ cause enough. (
   c.take_all.new.replies.items,
   ap (λ fault. fault.refused) c.cut_off-in_default-sync.ensures ∙ ap (λ l. refused_from 0 l) c.as_slice-in_default-sync.ensures.value,
   noted_unsynced c.args.requests.now c.take_all.new.replies.items c.args.refusals.now.items c.take_all.new.refusals.items c.in_default-sync.field-0
-  (shows_of g.P.PipeLog.shown c.args.self.now.engine) (shows_of g.P.PipeLog.shown c.take_all.new.self.engine) (shows_of g.P.PipeLog.shown c.sync.new.self) (outlines_in c.args.self.now.outlines)
-  c.in_default-sync.ensures.err (c.take_all.ensures.noted (omega (arith, enough, c.in-Ok.ensures.room))),
+      (shows_of g.P.PipeLog.shown c.args.self.now.engine) (shows_of g.P.PipeLog.shown c.take_all.new.self.engine) (shows_of g.P.PipeLog.shown c.sync.new.self) (outlines_in c.args.self.now.outlines)
+      c.in_default-sync.ensures.err (c.take_all.ensures.noted (omega (arith, enough, c.in-Ok.ensures.room))),
 )
 
 pub returns-clause-causes : goal.returns-clause-causes

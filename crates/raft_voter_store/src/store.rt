@@ -5,18 +5,17 @@ ghost use Rattle.raft_log_engine.specs.raft_log_engine_core.specs.Reads.{shows_o
 mod counting;
 mod forking;
 mod opening;
+mod reading;
 mod rounds;
 mod service;
 mod status;
 mod upkeep;
 
 use crate::counters::WorkCounters;
-use crate::entries::read_entries;
 use crate::writing::write_change;
 use log::Log;
 pub use opening::{StoreRefused, VoterStore};
 use raft_log_engine::{Error, LogBatch, LogEngine, PipeLog, Result};
-use raft_log_record_items::{RawEntries, RawMessage};
 use raft_voter_messages::{Reply, Request};
 use raft_voter_outline::{Answer, Change, Decision, Outline, Outlines};
 use std::alloc::{AllocError, Global};
@@ -223,18 +222,11 @@ impl<P: PipeLog> LogVoterStore<P> {
             (shows_of P.shown self.old.engine) (shows_of P.shown self.new.engine) }
         ensures outlines { self.new.outlines ≡ self.old.outlines }
     {
-        let mut messages: Vec<RawMessage> = Vec::new(self.alloc);
-        match self
-            .engine
-            .fetch_entries_to::<RawEntries>(group, from, to, None, &mut messages)
-        {
-            Ok(_) => match read_entries(self.alloc, from, messages.as_slice()) {
-                Ok(entries) => Ok(Taken {
-                    reply: Reply::Entries(entries),
-                    wrote: false,
-                }),
-                Err(_) => Err(Error::Memory),
-            },
+        match self.entries(group, from, to, None) {
+            Ok(entries) => Ok(Taken {
+                reply: Reply::Entries(entries),
+                wrote: false,
+            }),
             Err(error) => Err(error),
         }
     }

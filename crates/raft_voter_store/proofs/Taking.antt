@@ -3,7 +3,7 @@ use Rattle.std.proofs.Common.{◌≡◌, ℕ, ◌<◌, ◌^◌, ◌==◌, true, 
 use Rattle.std.proofs.Math.Path.{fun_ext}
 use Rattle.std.specs.Prelude.{◌⊎◌, OnSome}
 use Rattle.std.specs.Borrow.{MutBor}
-use Rattle.std.proofs.lemmas.Bool.{cases_Bool}
+use Rattle.std.proofs.lemmas.Bool.{cases_Bool, false≢true}
 use Rattle.raft_log_record_base.specs.declared.errors.Error.{Error}
 use Rattle.raft_log_record_base.specs.declared.errors.Error.TheVariants as errors
 use Rattle.raft_log_record_items.specs.declared.raw_message.RawMessage.{RawMessage}
@@ -17,12 +17,13 @@ use Rattle.raft_voter_messages.specs.declared.reply.Reply.{Reply}
 use Rattle.raft_voter_messages.specs.declared.reply.Reply.TheVariants as replies
 use Rattle.raft_voter_messages.specs.declared.request.Request.{Request}
 use Rattle.raft_voter_messages.specs.declared.request.Request.TheVariants.{Read}
+use Rattle.raft_voter_messages.specs.declared.request.Request.TheVariants as requests
 use Rattle.raft_voter_messages.specs.Ranges.{in_range}
 use Rattle.raft_voter_outline.specs.declared.outline.decision.Answer.TheVariants as answers
 use Rattle.raft_voter_outline.specs.declared.outline.decision.Change.{Change}
 use Rattle.raft_voter_outline.specs.Decisions.{OutlineBecomes}
 use Rattle.raft_voter_outline.specs.Outlines.{ChangesEach, IsReplyOfEach, LeavesEach, Outlined}
-use Rattle.raft_voter_outline.specs.Rules.{next, next_in_range}
+use Rattle.raft_voter_outline.specs.Rules.{is_retire, next, next_in_range}
 use Rattle.raft_voter_outline.specs.State.{State, fresh}
 use Rattle.raft_voter_outline.specs.declared.outlines.Outlines.{Outlines}
 use Rattle.raft_voter_outline.specs.Kept.{kept_of, kept_or_fresh, outlines_in}
@@ -46,6 +47,21 @@ pub write_served : (q : ℕ × Request) (a : Reply) (c : Change) (b : Batch) (le
     → ChangesEach (os q.0) q.1 c → SaysChange q.0 q.1 c b → StepsOutlines q ws us → WritesBytes b false len s t → Served q a true s t os us
 write_served q a c b len s t os ws us same bare told changes says steps writes =
     written_requests_are_served q a c b len s t os us bare told changes says (subst (λ (o : ℕ → State). StepsOutlines q o us) (fun_ext same) steps) writes
+
+-- what was served is served in an equal state, with equal outlines
+pub served_on : (q : ℕ × Request) (a : Reply) (s t u : EngineState) (os us vs : ℕ → State) → u ≡ t → ((g : ℕ) → vs g ≡ us g) → Served q a true s t os us → Served q a true s u os vs
+served_on q a s t u os us vs engine voters served =
+    subst (λ (e : EngineState). Served q a true s e os vs) (sym engine) (subst (λ (o : ℕ → State). Served q a true s t os o) (sym (fun_ext voters)) served)
+
+-- the outline of a group that was retired is fresh
+pub retired_fresh : (g : ℕ) (r : Request) (os us : ℕ → State) → IsBare (os g) → StepsOutlines (g, r) os us → is_retire r ≡ true → us g ≡ fresh
+retired_fresh g requests.Retire os us bare steps is = sym (steps.own (os g) bare)
+retired_fresh g (requests.Vote a b c d) os us bare steps is = absurd (false≢true is)
+retired_fresh g (requests.Append a b c d e) os us bare steps is = absurd (false≢true is)
+retired_fresh g (requests.Compact a) os us bare steps is = absurd (false≢true is)
+retired_fresh g (requests.Install a b c) os us bare steps is = absurd (false≢true is)
+retired_fresh g (requests.Read a b) os us bare steps is = absurd (false≢true is)
+retired_fresh g requests.Status os us bare steps is = absurd (false≢true is)
 
 pub write_failed : (q : ℕ × Request) (c : Change) (b : Batch) (error : Error) (s t : EngineState) (os ws : ℕ → State) → ((g : ℕ) → ws g ≡ os g) → has_failed s ≡ false → ChangesEach (os q.0) q.1 c → SaysChange q.0 q.1 c b
     → record_len b.items b.entries < 2 ^ 56 → NotWritten b error s t → FailsToTake q error s t os ws

@@ -7,7 +7,7 @@ use Rattle.raft_voter_store.specs.Counting.{with_round}
 use Rattle.raft_voter_store.specs.declared.counters.WorkCounters.{WorkCounters}
 use Rattle.raft_voter_store.specs.declared.store.LogVoterStore.{LogVoterStore}
 use Rattle.raft_voter_store.proofs.Counting.{counts_round, ends_synced, ends_unwritten}
-use Rattle.raft_voter_store.proofs.Refusing.{noted_synced, noted_unsynced}
+use Rattle.raft_voter_store.proofs.Noting.{noted_synced, noted_unsynced}
 use Rattle.raft_voter_store.proofs.Rounds.{answered_synced, answered_unwritten, cut_at, cut_unsynced, excused_synced}
 use Rattle.raft_voter_store.proofs.Silence.{never}
 use Rattle.raft_voter_store.proofs.store.LogVoterStore.serve_noting.Goals.{then-wrote+in-Ok-sync, else-wrote}

@@ -1,7 +1,7 @@
 use Rattle.std.proofs.Common.{refl, sym, ◌∙◌}
 use Rattle.raft_log_engine.specs.raft_log_engine_core.specs.Reads.{shows_of}
 use Rattle.raft_voter_outline.specs.Kept.{outlines_in}
-use Rattle.raft_voter_store.proofs.Refusing.{past_notes, served_notes}
+use Rattle.raft_voter_store.proofs.Noting.{past_notes, served_notes}
 use Rattle.raft_voter_store.proofs.Rounds.{past_goes_on, served_goes_on, wrote_before, wrote_now}
 use Rattle.raft_voter_store.proofs.store.LogVoterStore.serve_one.Goals as goal
 

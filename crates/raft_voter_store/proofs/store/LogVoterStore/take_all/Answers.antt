@@ -2,7 +2,7 @@ use Rattle.std.proofs.Common.{◌∙◌, ◌<◌, ap, arith, length, refl, vec_c
 use Rattle.std.specs.Prelude.{slice_get}
 use Rattle.raft_log_engine.specs.raft_log_engine_core.specs.Reads.{shows_of}
 use Rattle.raft_voter_outline.specs.Kept.{outlines_in}
-use Rattle.raft_voter_store.proofs.Refusing.{none_noted, noted_since}
+use Rattle.raft_voter_store.proofs.Noting.{none_noted, noted_since}
 use Rattle.raft_voter_store.proofs.Rounds.{at_index, begun, stops_at}
 use Rattle.raft_voter_store.proofs.Silence.{idle_more, reads_more, reads_none, unwritten_more}
 use Rattle.raft_voter_store.proofs.store.LogVoterStore.take_all.Goals as goal

@@ -48,11 +48,11 @@ pub struct QueueInspection {
 /// Fails with `Path`:
 /// - if a directory isn't listed, or a file isn't opened or read
 /// - if a foreign record follows a file's last good one: an open fails on it too
+/// - if the machine declines a record
 /// - with `Memory`, if memory runs out while a file is read
 ///
 /// Fails with `Log`:
 /// - if a file's name begins with a number and isn't that number's
-/// - if the machine declines a record
 /// - if memory runs out elsewhere
 pub fn inspect_queue<F: FileSystem, M: ReplayMachine>(
     alloc: Global,

@@ -111,7 +111,7 @@ fn damage_of<F: FileSystem>(
         declined,
     } = read;
     if let Some(error) = declined {
-        return Err(InspectFault::Log(error));
+        return Err(InspectFault::Path { path, error });
     }
     let Some(cause) = fault else {
         return Ok(None);

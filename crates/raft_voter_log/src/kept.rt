@@ -1,6 +1,7 @@
 //! What follows from a store keeping its voters.
 
-ghost use Rattle.raft_voter_log.specs.Kept.{ArmsKeepVoters, KeptVotersAreTold, StatesAreVoters, VotersHaveNoOwnKey};
+ghost use Rattle.raft_voter_log.specs.Entries.{ReadEntriesAreTheVoters};
+ghost use Rattle.raft_voter_log.specs.Kept.{ArmsKeepVoters, KeptVotersAreTold, ListedStatesAreVoters, StatesAreVoters, VotersHaveNoOwnKey};
 
 /// If a store's log stores voters, the store lists just these. So a call that keeps them doesn't change the list; a
 /// purge keeps them, unless it leaves the store failed.
@@ -22,4 +23,16 @@ pub fn arms_keep_voters()
 /// are the values of the voters that it serves.
 pub fn states_are_voters()
     ensures { StatesAreVoters }
+{}
+
+/// If a store's log stores voters, `states` of the store lists their states. A group that it doesn't list has a fresh
+/// voter.
+pub fn listed_states_are_voters()
+    ensures { ListedStatesAreVoters }
+{}
+
+/// If a store's log stores voters, the entries that a store reads of a group are the first that its voter has between
+/// the asked indexes, as many as the limit allows. If the voter has one, the first is always among them.
+pub fn read_entries_are_the_voters()
+    ensures { ReadEntriesAreTheVoters }
 {}

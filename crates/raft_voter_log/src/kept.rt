@@ -32,7 +32,7 @@ pub fn listed_states_are_voters()
 {}
 
 /// If a store's log stores voters, the entries that a store reads of a group are the first that its voter has between
-/// the asked indexes, as many as the limit allows. If the voter has one, the first is always among them.
+/// the asked indexes, as many as the limit allows.
 pub fn read_entries_are_the_voters()
     ensures { ReadEntriesAreTheVoters }
 {}

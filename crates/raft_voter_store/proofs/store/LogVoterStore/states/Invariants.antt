@@ -6,5 +6,5 @@ use Rattle.raft_voter_store.proofs.store.LogVoterStore.states.Given as goal
 -- the groups so far, and room for the others
 abbrev pub invariant-loop-group : goal.invariant-loop-group
 invariant-loop-group g l =
-    (l.states.items ≡ map (λ h. (h, state_of (outlines_in l.self.outlines h))) (take l.group-index l.groups.items))
-    × (vec_len l.states + (length l.groups.items - l.group-index) ≤ vec_capacity l.states)
+    (l.states.items ≡ map (λ h. (h, state_of (outlines_in l.self.outlines h))) (take l.group-index l.group-items))
+    × (vec_len l.states + (length l.group-items - l.group-index) ≤ vec_capacity l.states)

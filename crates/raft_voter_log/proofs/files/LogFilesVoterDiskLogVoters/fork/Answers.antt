@@ -12,9 +12,9 @@ pub returns-in-Ok-clause-stands : goal.returns-in-Ok-clause-stands
 returns-in-Ok-clause-stands g c = λ cut known.
     copy_leaves c.args.self.now.config c.args.target.now (disk_of c.args.self.now.files) (disk_of c.fork.new.file_system) cut (memory_sound c.args.self.now.files) (answered _ c.in-Ok.ensures.ok) known
 
-pub returns-in-Err-clause-stands : goal.returns-in-Err-clause-stands
-returns-in-Err-clause-stands g c = λ cut known.
+pub returns-clause-stands : goal.returns-clause-stands
+returns-clause-stands g c = λ cut known.
     copy_leaves c.args.self.now.config c.args.target.now (disk_of c.args.self.now.files) (disk_of c.fork.new.file_system) cut (memory_sound c.args.self.now.files) (refused c.in-Err.error c.in-Err.ensures.err) known
 
-pub returns-in-Err-clause-refuses : goal.returns-in-Err-clause-refuses
-returns-in-Err-clause-refuses g c = ((c.in-Err.error, (c.cause_of.ensures, c.in-Err.ensures.err)), refl)
+pub returns-clause-refuses : goal.returns-clause-refuses
+returns-clause-refuses g c = ((c.in-Err.error, (c.cause_of.ensures, c.in-Err.ensures.err)), refl)

@@ -17,4 +17,4 @@ returns-clause-stands g c = λ cut known.
     copy_leaves c.args.self.now.config c.args.target.now (disk_of c.args.self.now.files) (disk_of c.fork.new.file_system) cut (memory_sound c.args.self.now.files) (refused c.in-Err.error c.in-Err.ensures.err) known
 
 pub returns-clause-refuses : goal.returns-clause-refuses
-returns-clause-refuses g c = ((c.in-Err.error, (c.cause_of.ensures, c.in-Err.ensures.err)), refl)
+returns-clause-refuses g c = ((c.in-Err.error, c.cause_of.ensures, c.in-Err.ensures.err), refl)

@@ -1,22 +1,16 @@
 -- What follows if a store's log stores the voters of a world, with nothing pending.
-use Rattle.std.specs.Prelude.{◌≡◌, ◌==◌, IsTrue, ℕ, List, Option, None, Some}
-use Rattle.std.specs.Map.{lookup}
+use Rattle.std.specs.Prelude.{◌≡◌, IsTrue, ℕ, List, None}
 use Rattle.raft_log_fs.specs.declared.handle.Fault.{Fault}
 use Rattle.raft_log_fs.specs.declared.handle.Fault.TheVariants.{DenyRead}
 use Rattle.raft_log_model_laws.specs.Meaning.Slot.{Key}
 use Rattle.raft_log_record_frames.specs.Key.{is_internal}
-use Rattle.raft_voter_durability_laws.specs.raft_log_engine_laws.specs.EngineState.{LogDirectories, LogMap, EngineState, shows}
-use Rattle.raft_voter_durability_laws.specs.raft_log_engine_laws.specs.raft_log_memtables.specs.declared.mem_tables.MemTables.{MemTables}
-use Rattle.raft_voter_durability_laws.specs.raft_log_engine_laws.specs.raft_log_block_cache.specs.declared.block_cache.BlockCache.{BlockCache}
-use Rattle.raft_voter_durability_laws.specs.raft_log_engine_laws.specs.raft_log_dual_pipes.specs.Pipes.{LogPipes}
+use Rattle.raft_voter_durability_laws.specs.raft_log_engine_laws.specs.EngineState.{LogDirectories, LogMap, EngineState}
 use Rattle.raft_log_engine_core.specs.Whole.{ArmsEngine}
-use Rattle.raft_voter_messages.specs.declared.reply.VoterState.{VoterState}
-use Rattle.raft_voter_outline.specs.State.{State, fresh, last_index, state_of, term_at}
+use Rattle.raft_voter_outline.specs.State.{State, last_index, state_of, term_at}
 use Rattle.raft_voter.specs.Rounds.{World}
 use Rattle.raft_voter_records.specs.Voters.{Means}
 use Rattle.raft_voter_durability_laws.specs.Standing.{AreOutlines, Keeps}
 use Rattle.raft_voter_recovery.specs.Reading.{ListsVoters, world_in}
-use Rattle.raft_voter_store.specs.Listing.{ListsStates}
 
 -- If the log stores the voters of `W`, and a listing of its voters was read, the listed voters are those of `W`.
 abbrev pub KeptVotersAreTold : Type 0
@@ -48,15 +42,3 @@ pub record HasStateOf (o v : State) : Type 0 where
 -- If `os` are the outlines of the voters of `W`, each has the state of its voter.
 abbrev pub StatesAreVoters : Type 0
 StatesAreVoters = (os : ℕ → State) (W : World) → AreOutlines os W → (g : ℕ) → HasStateOf (os g) (W g)
-
--- what a listing of states has for a group with the voter `v`: its state, or nothing, and then `v` is fresh
-abbrev pub IsListedAs : State → Option VoterState → Type 0
-IsListedAs v None = v ≡ fresh
-IsListedAs v (Some state) = state ≡ state_of v
-
--- If a store's log stores the voters of `V`, and `os` are their outlines, a listing of the store's groups has the state
--- of each group's voter. A group that isn't listed has a fresh voter.
-abbrev pub ListedStatesAreVoters : Type 0
-ListedStatesAreVoters = (home : LogDirectories) (v : LogPipes) (tables : MemTables) (cache : BlockCache) (V : World)
-    (os : ℕ → State) (es : List (ℕ × VoterState)) → Keeps home (shows v tables cache) V → AreOutlines os V
-    → ListsStates (shows v tables cache).counts os es → (g : ℕ) → IsListedAs (V g) (lookup (λ k. k == g) es)

@@ -1,7 +1,7 @@
 //! What follows from a store keeping its voters.
 
 ghost use Rattle.raft_voter_log.specs.Entries.{ReadEntriesAreTheVoters};
-ghost use Rattle.raft_voter_log.specs.Kept.{ArmsKeepVoters, KeptVotersAreTold, ListedStatesAreVoters, StatesAreVoters, VotersHaveNoOwnKey};
+ghost use Rattle.raft_voter_log.specs.Kept.{ArmsKeepVoters, KeptVotersAreTold, StatesAreVoters, VotersHaveNoOwnKey};
 
 /// If a store's log stores voters, the store lists just these. So a call that keeps them doesn't change the list; a
 /// purge keeps them, unless it leaves the store failed.
@@ -23,12 +23,6 @@ pub fn arms_keep_voters()
 /// are the values of the voters that it serves.
 pub fn states_are_voters()
     ensures { StatesAreVoters }
-{}
-
-/// If a store's log stores voters, `states` of the store lists their states. A group that it doesn't list has a fresh
-/// voter.
-pub fn listed_states_are_voters()
-    ensures { ListedStatesAreVoters }
 {}
 
 /// If a store's log stores voters, the entries that a store reads of a group are the first that its voter has between

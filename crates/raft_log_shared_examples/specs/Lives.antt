@@ -1,5 +1,5 @@
 -- The lives of a log. In the first, two threads share its engine. In the second, it is opened again.
-use Rattle.std.specs.Prelude.{◌≡◌, ℕ, List, [], Result}
+use Rattle.std.specs.Prelude.{◌≡◌, ℕ, [], Result}
 use Rattle.raft_log_machine_laws.specs.Fresh.{nothing_stands}
 use Rattle.raft_log_record_base.specs.declared.errors.Error.{Error}
 use Rattle.raft_log_record_batches.specs.Batch.{Batch}

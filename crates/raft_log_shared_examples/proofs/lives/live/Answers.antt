@@ -5,5 +5,6 @@ pub returns : goal.returns
 returns g c =
     let disk = g.F.FileSystem.disk in
     let shared = c.in_ok-shared.shared in
-    life_left disk c.args.config (disk c.args.files) _ _ c.args.one c.args.other shared.first shared.second c.close.result c.in_ok-engine.ensures c.in_ok-shared.ensures
-    c.close.ensures.closes c.close.ensures.first c.close.ensures.second
+    let closed = c.close.ensures in
+    life_left disk c.args.config (disk c.args.files) _ _ c.args.one c.args.other shared.first shared.second
+    c.close.result c.in_ok-engine.ensures c.in_ok-shared.ensures closed.closes closed.first closed.second

@@ -4,8 +4,10 @@ use Rattle.raft_log_shared_examples.proofs.sharing.share_among.Goals as goal
 
 pub returns : goal.returns
 returns g c =
-    let one = c.write_both-first.result.0 in
-    let other = c.write_both-first.result.1 in
-    shares_and_writes c.synced_writes_are_durable.ensures g.L.Opening.began (λ x. shows_of g.P.PipeLog.shown x.engine) (λ x. x.first) (λ x. x.second) (shows_of g.P.PipeLog.shown c.args.engine) c.args.one c.args.other
-    one.result other.result one.receipt other.receipt c.write_both-first.ensures.one c.write_both-first.ensures.other c.requires.began
-    c.end_sharing.result c.end_sharing.ensures.back c.end_sharing.ensures.first c.end_sharing.ensures.second
+    let (one, other) = c.write_both-first.result in
+    let asked = c.write_both-first.ensures in
+    let ended = c.end_sharing.ensures in
+    shares_and_writes c.synced_writes_are_durable.ensures g.L.Opening.began
+    (λ x. shows_of g.P.PipeLog.shown x.engine) (λ x. x.first) (λ x. x.second)
+    (shows_of g.P.PipeLog.shown c.args.engine) c.args.one c.args.other one.result other.result one.receipt other.receipt
+    asked.one asked.other c.requires.began c.end_sharing.result ended.back ended.first ended.second

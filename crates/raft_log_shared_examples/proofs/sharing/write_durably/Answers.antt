@@ -8,14 +8,16 @@ use Rattle.raft_log_shared_examples.proofs.sharing.write_durably.Goals as goal
 pub returns-clause-answered : goal.returns-clause-answered
 returns-clause-answered g c =
     let written = c.write-written.result in
-    let back = came_back written.receipt c.confirm.new.receipts (c.confirm.ensures.same ∙ c.as_mut_slice.ensures.value) in
-    subst (λ (r : Option Stamp). IsAnswered c.args.batch written.result r) (sym back)
-    (answered c.args.batch written.result written.receipt c.write-written.ensures.stamped c.write-written.ensures.none)
+    let told = c.write-written.ensures in
+    let same = c.confirm.ensures.same ∙ c.as_mut_slice.ensures.value in
+    subst (λ (r : Option Stamp). IsAnswered c.args.batch written.result r)
+    (sym (came_back written.receipt c.confirm.new.receipts same))
+    (answered c.args.batch written.result written.receipt told.stamped told.none)
 
 pub returns-clause-confirmed : goal.returns-clause-confirmed
 returns-clause-confirmed g c =
     let written = c.write-written.result in
-    let asked = answered c.args.batch written.result written.receipt c.write-written.ensures.stamped
-    c.write-written.ensures.none in
-    confirmed c.synced_writes_are_durable.ensures g.L.Opening.began c.args.batch written.result written.receipt asked
-    (subst (λ (stamps : List Stamp). AreIn g.L.Opening.began stamps) c.as_mut_slice.ensures.value c.confirm.ensures.found)
+    let told = c.write-written.ensures in
+    confirmed c.synced_writes_are_durable.ensures g.L.Opening.began c.args.batch written.result written.receipt
+    (answered c.args.batch written.result written.receipt told.stamped told.none)
+    (subst (λ (all : List Stamp). AreIn g.L.Opening.began all) c.as_mut_slice.ensures.value c.confirm.ensures.found)

@@ -8,8 +8,8 @@ use thiserror::Error;
 /// Why the files of a log aren't inspected.
 #[derive(Debug, Drop, Error)]
 pub enum InspectFault {
-    /// A call on the file or the directory with this path failed. Or the file has a foreign record, the machine declined
-    /// a record of it, or memory ran out while it was read.
+    /// A call on the file or the directory with this path failed. Or the file has a foreign record, the machine
+    /// declined a record of it, or memory ran out while it was read.
     #[error("{path}: {error}")]
     Path {
         /// The path.

@@ -68,10 +68,8 @@ impl LogFaults {
 /// queue. A file is damaged if an open would truncate or reject it, or if it has a broken entry block. An open may not
 /// see the latter. Indexes missing between Rewrite and Append are no hole. Changes nothing.
 ///
-/// Fails with `File`:
-/// - if a directory isn't listed
-/// - if a file isn't opened or read
-/// - if a foreign record follows a file's last good one
+/// Fails with `File` if a directory isn't listed, a file isn't opened or read, or a foreign record follows a file's
+/// last good one.
 ///
 /// Fails with `Log` if a file's name begins with a number and isn't that number's, or if memory runs out.
 pub(crate) fn inspect<F: FileSystem>(

@@ -36,8 +36,7 @@ pub fn note(refusals: &mut Vec<Refusal>, place: usize, cause: RefusalCause)
     }
 }
 
-/// Notes that the request at this position is out of range, if it got the reply `Refused`. Notes nothing if there is no
-/// room.
+/// Notes that the request at this position is out of range, if its reply is `Refused`. Without room, notes nothing.
 pub fn note_told(refusals: &mut Vec<Refusal>, place: usize, reply: &Reply)
     ensures noted { vec_len refusals.old < vec_capacity refusals.old
         → refusals.new.items ≡ refusals.old.items ++ told_refusal place reply.now }

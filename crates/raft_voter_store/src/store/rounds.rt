@@ -124,7 +124,7 @@ impl<P: PipeLog> LogVoterStore<P> {
         ensures unmoved { OnErr result (All AsksForNone requests.now
             → IfVotersStay (outlines_in self.old.outlines) requests.now (self.new ≡ self.old)) }
 
-        // Each refusal is told with its cause. Nothing is appended if no request was served.
+        // Each refusal is appended with its cause. Nothing is appended if no request was served.
         ensures causes { IfOk result (λ told. AppendsRefusals requests.now told
             refusals.old.items refusals.new.items
             (shows_of P.shown self.old.engine) (shows_of P.shown self.new.engine) (outlines_in self.old.outlines)) }

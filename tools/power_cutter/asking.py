@@ -52,6 +52,8 @@ CALLS = [
     ("raft_log_ctl", ["purge", "low.toml"], 3, "stderr", '"low.toml"'),
     ("raft_log_ctl", ["purge", "."], 3, "stderr", "no log file in ."),
 ]
+# What one program prints on standard output to wrong arguments, beside the usage on standard error.
+REJECTED = {"raftvoters": "arguments refused\n"}
 
 
 class Asker:
@@ -76,7 +78,8 @@ class Asker:
         said = streams.pop(stream)
         is_there = said.startswith(text) if text == USAGE else text in said
         (silent,) = streams.values()
-        if ran.returncode != status or not is_there or silent:
+        beside = REJECTED.get(program, "") if status == 2 else ""
+        if ran.returncode != status or not is_there or silent != beside:
             self.wrong.append(f"{program} {arguments}: status {ran.returncode}, {said!r}, and on the other stream {silent!r}")
 
     def ask_of_dropped_keys(self):

@@ -202,6 +202,8 @@ class Filler:
             return
         free = free_bytes(root)
         spill = ["--spill-dir", f"{root}/spill"] if os.path.isdir(f"{root}/spill") else []
+        if spill and os.path.getsize(f"{root}/log/LOCK"):
+            self.purge_alone(root)
         ran = subprocess.run([*self.operator, "purge", f"{root}/log", *spill], capture_output=True, timeout=60)
         said = ran.stderr.decode()
         freed = free_bytes(root) - free
@@ -214,6 +216,13 @@ class Filler:
             self.counts["opens on a full disk, after a purge"] += 1
         elif ran.returncode == 0 or is_reserve_whole(root):
             raise Fault("after a purge it doesn't open on the full disk")
+
+    def purge_alone(self, root):
+        """Asks for a purge without the second directory, which the main one notes. It fails."""
+        ran = subprocess.run([*self.operator, "purge", f"{root}/log"], capture_output=True, timeout=60)
+        if ran.returncode != 3 or "has a second directory" not in ran.stderr.decode():
+            raise Fault(f"a purge without the second directory ends with status {ran.returncode}: {ran.stderr[-600:]!r}")
+        self.counts["purges without the second directory, which failed"] += 1
 
     def opens(self, root, before):
         """Whether the program opens on the full disk; if so it shows what may stand."""

@@ -1,5 +1,5 @@
-//! The log store under one name. A program that keeps a log needs at most two other crates of the log: `raft_log_fs_os`
-//! for real directories, and `raft_log_record_items` for `RawEntries`.
+//! The log store under one name. A program that keeps a log needs at most two other crates of the log:
+//! `raft_log_engine_os`, which opens a log in real directories, and `raft_log_record_items` for `RawEntries`.
 //!
 //! [`Engine`] is opened over a file system with settings. It writes batches, reads, compacts, purges and closes. A log
 //! that no engine has open can be forked, dumped and checked. This crate only re-exports; the page of each part says

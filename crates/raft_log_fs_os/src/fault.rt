@@ -24,6 +24,15 @@ pub enum DirectoryFault {
     /// The same path was given for both directories.
     #[error("{0:?} is named twice")]
     Twice(String),
+    /// No second directory was given, and the file `LOCK` of this log notes one that has files of a queue or can't be
+    /// listed.
+    #[error("the log in {directory:?} has a second directory, {second:?}, which has to be opened with it")]
+    Incomplete {
+        /// The log's main directory.
+        directory: String,
+        /// The second one, as `LOCK` notes it.
+        second: String,
+    },
     /// The operating system failed a call, for example for lack of permission.
     #[error("{path:?}: {error}")]
     Refused {

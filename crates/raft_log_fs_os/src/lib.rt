@@ -13,6 +13,7 @@ mod open_file;
 pub mod opening;
 mod record;
 mod reserve;
+mod second_directory;
 
 pub use fault::DirectoryFault;
 pub use file_device::FileDevice;

@@ -6,6 +6,7 @@ use std::alloc::Global;
 use std::fs::{File, OpenOptions};
 use std::io;
 use std::io::ErrorKind;
+use std::os::unix::fs::FileExt;
 use std::path::Path;
 use std::rt::Files;
 
@@ -15,8 +16,9 @@ use std::rt::Files;
 pub(crate) struct LockedDirectory {
     /// The space that it keeps for a full disk.
     pub reserve: Reserve,
-    // The path by which it was opened.
+    // The path by which it was opened, and for what.
     path: String,
+    access: Access,
     directory: File,
     // Whether the last attempt to make a file in it longer found no space.
     is_full: bool,
@@ -37,6 +39,7 @@ impl LockedDirectory {
         Ok(LockedDirectory {
             reserve: Reserve::new(format!(in alloc; "{path}/RESERVE")?),
             path: String::from_str(alloc, path)?,
+            access,
             directory,
             is_full: false,
             lock: None,
@@ -45,13 +48,8 @@ impl LockedDirectory {
 
     /// Locks the file `LOCK` in the directory; a writer makes it if it isn't there. Fails with `WouldBlock` if another
     /// program has locked it.
-    pub fn lock_file<R: Files<File = File>>(
-        &mut self,
-        rt: &R,
-        path: &str,
-        access: Access,
-    ) -> io::Result<()> {
-        let is_writer = access == Access::ReadWrite;
+    pub fn lock_file<R: Files<File = File>>(&mut self, rt: &R, path: &str) -> io::Result<()> {
+        let is_writer = self.access == Access::ReadWrite;
         let opened = OpenOptions::new()
             .read(true)
             .write(is_writer)
@@ -61,10 +59,35 @@ impl LockedDirectory {
             Err(error) if error.kind() == ErrorKind::NotFound && !is_writer => Ok(()),
             Err(error) => Err(error),
             Ok(file) => {
-                take(&file, access)?;
+                take(&file, self.access)?;
                 self.lock = Some(file);
                 Ok(())
             }
+        }
+    }
+
+    /// The path that the file `LOCK` notes. None if the file isn't there, or isn't a whole line of text.
+    pub fn noted(&self, alloc: Global) -> io::Result<Option<String>> {
+        let Some(lock) = &self.lock else {
+            return Ok(None);
+        };
+        let mut bytes = vec![in alloc; 0u8; lock.metadata()?.len() as usize]?;
+        lock.read_exact_at(&mut bytes, 0)?;
+        if bytes.pop() != Some(b'\n') {
+            return Ok(None);
+        }
+        Ok(String::from_utf8(bytes).ok())
+    }
+
+    /// Makes a line the content of the file `LOCK`, and syncs it. A reader changes nothing.
+    pub fn note(&self, line: &str) -> io::Result<()> {
+        match &self.lock {
+            Some(lock) if self.access == Access::ReadWrite => {
+                lock.set_len(0)?;
+                lock.write_all_at(line.as_bytes(), 0)?;
+                lock.sync_all()
+            }
+            _ => Ok(()),
         }
     }
 

@@ -10,6 +10,7 @@ use super::load::{Access, Found};
 use super::log_names::{ListedFile, list_files};
 use super::making_durable::{sync_directories, write_back_last_files};
 use super::reserve::fill_reserves;
+use super::second_directory::settle_second;
 use raft_log_fs::FileSystem;
 use raft_log_fs_traced::{Device, DirectoryFileSystem};
 use std::fs::File;
@@ -22,14 +23,16 @@ use std::{fs, io};
 /// Opens a log's main directory, and its second one if it has one, and returns the file system over them.
 ///
 /// - Both directories must exist. Each is locked until the file system is dropped, and so is the file `LOCK` in it.
-/// - The file `LOCK` is made if it isn't there. It keeps out programs built on raft-engine.
+/// - The file `LOCK` is made if it isn't there. It keeps out programs built on raft-engine. That of the main directory
+///   notes the path of the second one. A later open without the second one fails with `Incomplete`, unless that has no
+///   file of a queue any more.
 /// - Each directory gets a file `RESERVE` of 256 KiB, if there is room. On a full disk its space is given whole for a new
 ///   file with its header, or for a record of Rewrite. Later records can take what is left of it.
 /// - Each file with a log file's name is synced and read, several in parallel. If such an entry is no regular file, the
 ///   open fails with `Irregular`. Entries with other names are ignored.
 /// - The last file of either queue is written back with the same bytes and synced; then the directories are synced.
 ///   What the file system shows is therefore durable, even if a sync failed earlier in this boot of the machine.
-///   `CALLING.md` lists two exceptions.
+///   `CALLING.md` lists the exceptions.
 /// - Paths are those of the operating system; the log's settings must spell them the same. The file system makes no
 ///   other directory, as that would have no lock.
 ///
@@ -153,9 +156,11 @@ fn load_all<R: Files<File = File> + Threads + AllocGlobal + Clone + Sync + Drop>
 ) -> Result<Vec<ListedFile>, DirectoryFault> {
     lock(rt, found, directory)?;
     let Some(other) = spill_directory else {
+        settle_second(rt, found, directory, None)?;
         return load(rt, found, directory);
     };
     lock(rt, found, other)?;
+    settle_second(rt, found, directory, Some(other))?;
     let mut listed = load(rt, found, directory)?;
     listed.append(&mut load(rt, found, other)?)?;
     Ok(listed)
@@ -173,7 +178,7 @@ fn lock<R: Files<File = File> + AllocGlobal>(
         Ok(locked) => locked,
         Err(error) => return Err(DirectoryFault::of_directory(alloc, directory, error)),
     };
-    if let Err(error) = locked.lock_file(rt, path.as_str(), found.access) {
+    if let Err(error) = locked.lock_file(rt, path.as_str()) {
         return Err(DirectoryFault::of_lock(alloc, directory, path.as_str(), error));
     }
     found.directories.push(locked)?;

@@ -8,17 +8,16 @@ use thiserror::Error;
 /// Why the files of a log aren't inspected.
 #[derive(Debug, Drop, Error)]
 pub enum InspectFault {
-    /// A call on the file or the directory with this path failed. Or the file has a foreign record, or memory ran out
-    /// while it was read.
+    /// A call on the file or the directory with this path failed. Or the file has a foreign record, the machine
+    /// declined a record of it, or memory ran out while it was read.
     #[error("{path}: {error}")]
     Path {
         /// The path.
         path: String,
-        /// Why: `Io`, `Corruption` for a foreign record, or `Memory`.
+        /// Why: `Io`, `Corruption` for a foreign record, `Memory`, or the machine's error.
         error: Error,
     },
-    /// A file's name, which the error has, begins with a number and isn't that number's; the machine declined a record;
-    /// or memory ran out elsewhere.
+    /// A file's name, which the error has, begins with a number and isn't that number's; or memory ran out elsewhere.
     #[error("{0}")]
     Log(Error),
 }

@@ -1,7 +1,8 @@
 //! The files of a queue are inspected.
 
-ghost use Rattle.std.specs.Prelude.{◌<◌, All, IfOk, length, map};
+ghost use Rattle.std.specs.Prelude.{◌<◌, All, IfOk, IsTrue, length, map};
 ghost use Rattle.std.specs.String.{string_bytes};
+ghost use Rattle.raft_log_fs.specs.Receipts.{Collects};
 ghost use Rattle.raft_log_inspection.specs.Intact.{InspectsQueue};
 ghost use Rattle.raft_log_inspection.specs.Steps.{HandsFiles};
 
@@ -12,7 +13,7 @@ use crate::listing::find_queue;
 use crate::newest::newest_of;
 use crate::one_file::read_one;
 use raft_log_file_reader::LogItemBatchFileReader;
-use raft_log_fs::FileSystem;
+use raft_log_fs::{FileSystem, Receipt};
 use raft_log_record_base::{FileSeq, LogQueue};
 use raft_log_recovery_scan::scanning::found::FoundFile;
 use raft_log_replay::ReplayMachine;
@@ -42,16 +43,16 @@ pub struct QueueInspection {
 /// - A header with an alignment and no record after it counts as torn.
 ///
 /// The machine is handed the records before the damage. The contract says only what no gap and no damage in the result
-/// mean.
+/// mean, and only if all reads were honest. It adds its reads to `receipts`.
 ///
 /// Fails with `Path`:
 /// - if a directory isn't listed, or a file isn't opened or read
 /// - if a foreign record follows a file's last good one: an open fails on it too
+/// - if the machine declines a record
 /// - with `Memory`, if memory runs out while a file is read
 ///
 /// Fails with `Log`:
 /// - if a file's name begins with a number and isn't that number's
-/// - if the machine declines a record
 /// - if memory runs out elsewhere
 pub fn inspect_queue<F: FileSystem, M: ReplayMachine>(
     alloc: Global,
@@ -59,9 +60,12 @@ pub fn inspect_queue<F: FileSystem, M: ReplayMachine>(
     queue: LogQueue,
     paths: &[String],
     machine: &mut M,
+    receipts: &mut Receipt,
 ) -> Result<QueueInspection, InspectFault>
-    ensures { IfOk result (InspectsQueue (M.reads queue) queue (map string_bytes paths.now)
-        (F.disk files.now) machine.old machine.new) }
+    ensures ok { IfOk result (λ inspection. IsTrue receipts.new.honest
+        → InspectsQueue (M.reads queue) queue (map string_bytes paths.now)
+        (F.disk files.now) machine.old machine.new inspection) }
+    ensures receipts { Collects F.tells_truth receipts.old.honest receipts.new.honest }
 {
     let found = find_queue(alloc, files, queue, paths)?;
     let gaps = gaps_of(alloc, found.as_slice())?;
@@ -74,11 +78,12 @@ pub fn inspect_queue<F: FileSystem, M: ReplayMachine>(
         found.as_slice(),
         newest,
         machine,
+        receipts,
     )?;
     Ok(QueueInspection { gaps, damages })
 }
 
-/// Reads these files, hands a machine their records, and returns the damaged ones.
+/// Reads these files, hands a machine their records, and returns the damaged ones. Adds its reads to `receipts`.
 fn read_files<F: FileSystem, M: ReplayMachine>(
     alloc: Global,
     files: &F,
@@ -87,10 +92,13 @@ fn read_files<F: FileSystem, M: ReplayMachine>(
     found: &[FoundFile],
     newest: FileSeq,
     machine: &mut M,
+    receipts: &mut Receipt,
 ) -> Result<Vec<Damage>, InspectFault>
     requires { All (λ file. file.path_id < length paths.now) found.now }
-    ensures { IfOk result (λ damages. HandsFiles (M.reads queue) queue (map string_bytes paths.now)
+    ensures ok { IfOk result (λ damages. IsTrue receipts.new.honest
+        → HandsFiles (M.reads queue) queue (map string_bytes paths.now)
         (F.disk files.now) newest found.now machine.old machine.new damages.items) }
+    ensures receipts { Collects F.tells_truth receipts.old.honest receipts.new.honest }
 {
     let mut reader = LogItemBatchFileReader::new(alloc, BLOCK);
     let mut damages = Vec::new(alloc);
@@ -104,6 +112,7 @@ fn read_files<F: FileSystem, M: ReplayMachine>(
             *file,
             newest,
             machine,
+            receipts,
         )?;
         if let Some(damage) = damage {
             damages.push(damage)?;

@@ -1,11 +1,12 @@
 //! Finds out whether the end of a file is only zeros.
 
 ghost use Rattle.std.specs.Prelude.{◌≡◌, ◌↔◌, ◌<◌, IsTrue, IfOk, drop, length};
+ghost use Rattle.raft_log_fs.specs.Receipts.{Collects};
 ghost use Rattle.raft_log_file_reader.specs.Source.{bytes_in};
 ghost use Rattle.raft_log_inspection.specs.Intact.{AreZeros};
 ghost use Rattle.raft_log_inspection.specs.Steps.{IsPieceOf};
 
-use raft_log_fs::{FileSystem, Handle};
+use raft_log_fs::{FileSystem, Handle, Receipt};
 use raft_log_record_base::Result;
 use std::alloc::Global;
 use std::io::ErrorKind;
@@ -22,38 +23,47 @@ pub(crate) struct Piece {
     pub(crate) has_zeros: bool,
 }
 
-/// Whether a file has only zeros from this offset on, or nothing. Fails with `Io` if a read fails, or with `Memory`.
+/// Whether a file has only zeros from this offset on, or nothing. Adds its reads to `receipts`. Fails with `Io` if a
+/// read fails, or with `Memory`.
 pub(crate) fn has_zeros_from<F: FileSystem>(
     alloc: Global,
     files: &F,
     handle: Handle,
     offset: usize,
+    receipts: &mut Receipt,
 ) -> Result<bool>
-    ensures { IfOk result (λ zeros. IsTrue zeros
+    ensures ok { IfOk result (λ zeros. IsTrue receipts.new.honest → IsTrue zeros
         ↔ AreZeros (drop offset (bytes_in ((F.disk files.now).files handle.file)))) }
+    ensures receipts { Collects F.tells_truth receipts.old.honest receipts.new.honest }
 {
     let size = files.file_size(handle)?;
     let mut room = vec![in alloc; 0u8; PIECE]?;
-    let zeros = scan_zeros(files, handle, offset, size, room.as_mut_slice())?;
+    let zeros = scan_zeros(files, handle, offset, size, room.as_mut_slice(), receipts)?;
     Ok(zeros)
 }
 
-/// Whether a file of this size has only zeros from this offset on. Reads as many bytes at a time as the room has.
+/// Whether a file of this size has only zeros from this offset on. Reads as many bytes at a time as the room has. Fails
+/// with `UnexpectedEof` if a read returns no byte, or more bytes than the file has there.
 fn scan_zeros<F: FileSystem>(
     files: &F,
     handle: Handle,
     offset: usize,
     size: usize,
     room: &mut [u8],
+    receipts: &mut Receipt,
 ) -> Result<bool, ErrorKind>
     requires some { 0 < length room.old }
     requires whole { size ≡ length (bytes_in ((F.disk files.now).files handle.file)) }
-    ensures { IfOk result (λ zeros. IsTrue zeros
+    ensures ok { IfOk result (λ zeros. IsTrue receipts.new.honest → IsTrue zeros
         ↔ AreZeros (drop offset (bytes_in ((F.disk files.now).files handle.file)))) }
+    ensures receipts { Collects F.tells_truth receipts.old.honest receipts.new.honest }
 {
     let mut at = offset;
     while at < size {
-        let piece = read_piece(files, handle, at, room)?;
+        let piece = read_piece(files, handle, at, room, receipts)?;
+        if piece.count == 0 || size - at < piece.count {
+            return Err(ErrorKind::UnexpectedEof);
+        }
         if !piece.has_zeros {
             return Ok(false);
         }
@@ -68,10 +78,14 @@ fn read_piece<F: FileSystem>(
     handle: Handle,
     at: usize,
     room: &mut [u8],
+    receipts: &mut Receipt,
 ) -> Result<Piece, ErrorKind>
-    ensures { IfOk result (IsPieceOf (bytes_in ((F.disk files.now).files handle.file)) at (length room.old)) }
+    ensures ok { IfOk result (λ piece. IsTrue receipts.new.honest
+        → IsPieceOf (bytes_in ((F.disk files.now).files handle.file)) at (length room.old) piece) }
+    ensures receipts { Collects F.tells_truth receipts.old.honest receipts.new.honest }
 {
     let read = files.read_at(handle, at, room)?;
+    receipts.note(&read.receipt);
     let count = read.count;
     let has_zeros = are_zeros(&room[..count]);
     Ok(Piece { count, has_zeros })

@@ -11,7 +11,7 @@ use crate::placed_file::PlacedFile;
 use crate::placing::{find_placed, temporary_in};
 use crate::replacing::replace;
 use raft_log_file_settings::Config;
-use raft_log_fs::{FileSystem, Handle, Permission};
+use raft_log_fs::{FileSystem, Handle, Permission, Receipt};
 use raft_log_record_base::{Error, FileId, Result};
 use raft_log_recovery::paths::paths;
 use raft_log_recovery_read::ListedFile;
@@ -142,7 +142,8 @@ fn unpad_file<F: FileSystem>(alloc: Global, file_system: &mut F, file: &PlacedFi
         handle,
         is_last: file.is_last,
     };
-    let Some(bytes) = unpadded(alloc, file_system, listed)? else {
+    let mut receipts = Receipt::none();
+    let Some(bytes) = unpadded(alloc, file_system, listed, &mut receipts)? else {
         return Ok(false);
     };
     replace(

@@ -7,6 +7,7 @@ use crate::fault::CommandFault;
 use crate::text::{DamageLine, GapLine};
 use raft_log_command_line::Place;
 use raft_log_engine::{FileSystem, LogQueue};
+use raft_log_fs::Receipt;
 use raft_log_inspection::{QueueInspection, inspect_queue};
 use raft_log_offline::laws::findings_are_first_holes;
 use raft_log_offline::{ConsistencyChecker, Finding};
@@ -67,10 +68,8 @@ impl LogFaults {
 /// queue. A file is damaged if an open would truncate or reject it, or if it has a broken entry block. An open may not
 /// see the latter. Indexes missing between Rewrite and Append are no hole. Changes nothing.
 ///
-/// Fails with `File`:
-/// - if a directory isn't listed
-/// - if a file isn't opened or read
-/// - if a foreign record follows a file's last good one
+/// Fails with `File` if a directory isn't listed, a file isn't opened or read, or a foreign record follows a file's
+/// last good one.
 ///
 /// Fails with `Log` if a file's name begins with a number and isn't that number's, or if memory runs out.
 pub(crate) fn inspect<F: FileSystem>(
@@ -108,7 +107,8 @@ fn inspect_one<F: FileSystem>(
     ensures { IfOk result (InspectsOne queue (map string_bytes paths.now) (F.disk files.now)) }
 {
     let mut checker = ConsistencyChecker::new(alloc);
-    let files = inspect_queue(alloc, files, queue, paths, &mut checker)?;
+    let mut receipts = Receipt::none();
+    let files = inspect_queue(alloc, files, queue, paths, &mut checker, &mut receipts)?;
     findings_are_first_holes();
     let holes = checker.finish()?;
     Ok(QueueFaults {

@@ -1,5 +1,5 @@
 -- Runs whose closes are undisturbed, and whose crashes only lose.
-use Rattle.std.proofs.Common.{◌≡◌, inl, inr, ℕ, List, [], ◌∷◌, ◌++◌, Some, None, refl, sym, subst}
+use Rattle.std.proofs.Common.{◌≡◌, inl, inr, ℕ, List, [], ◌∷◌, ◌++◌, Option, Some, None, refl, sym, subst}
 use Rattle.std.proofs.lemmas.Bool.{false≢true}
 use Rattle.raft_log_fs.specs.Disk.{Disk as OnDisk}
 use Rattle.raft_log_fs.specs.Image.{IsImage, IsSound}
@@ -11,6 +11,7 @@ use Rattle.raft_log_recovery_laws.specs.ByCalls.{home_of}
 use Rattle.raft_log_recovery_laws.specs.ForkLeaving.{EndsFork}
 use Rattle.raft_log_recovery_laws.specs.ForkLeaving.EndsFork.{answered as copied, refused as uncopied}
 use Rattle.raft_voter_outline.specs.State.{State}
+use Rattle.raft_voter.specs.declared.service.Cause.{Cause}
 use Rattle.raft_voter_messages.specs.declared.round.Round.{Round}
 use Rattle.raft_voter.specs.Rounds.{Explains, fresh_world}
 use Rattle.raft_voter.specs.Service.{CutRound, Service, uncut}
@@ -44,9 +45,9 @@ armed_same fault old new (inl armed) = on_disk fault (disk_of old) (disk_of new)
 armed_same fault old new (inr stopped) = stopped.1
 
 -- how a copy of them ends
-copy_ends : (config : Config) (target : List ℕ) (old new : OnDisk) → EndsCopy config target old new → EndsFork config target old new
-copy_ends config target old new (inl forks) = copied forks.0 forks.1
-copy_ends config target old new (inr fails) = uncopied fails.0 fails.1
+copy_ends : (config : Config) (target : List ℕ) (refusal : Option Cause) (old new : OnDisk) → EndsCopy config target refusal old new → EndsFork config target old new
+copy_ends config target None old new forks = copied forks.0 forks.1
+copy_ends config target (Some cause) old new fails = uncopied fails.0 fails.2
 
 module _ {S : Type 0} (tells : MemoryFileSystem → List ℕ → ℕ → Type 0) (config : S → Config) (u : Upkeep S) (shows : S → EngineState) (outlines : S → ℕ → State) (sound : (store : S) → IsSound (shows store).pipes.disk)
     (End : Storage S LogFiles → CutRound → Type 0) where
@@ -105,9 +106,9 @@ module _ {S : Type 0} (tells : MemoryFileSystem → List ℕ → ℕ → Type 0)
       let then = at_rest_for f.config now.config (disk_of now.files) cut h.0.0.1 (at_rest_still f.config (disk_of f.files) (disk_of now.files) cut same rest.0) in
       let asks = asks_of now cut then in
       walk (Closed now) cut asks.0 (then, asks.1) ms (goes.1 asks.0) h.1 c
-  walk (Closed f) cut known rest (kept (copies target) (Closed now) ∷ ms) goes h c =
+  walk (Closed f) cut known rest (kept (copies target refusal) (Closed now) ∷ ms) goes h c =
       let then = at_rest_for f.config now.config (disk_of now.files) cut h.0.0.1
-      (at_rest_copied f.config target (disk_of f.files) (disk_of now.files) cut (memory_sound f.files) (copy_ends f.config target (disk_of f.files) (disk_of now.files) h.0.0.0) rest.0) in
+      (at_rest_copied f.config target (disk_of f.files) (disk_of now.files) cut (memory_sound f.files) (copy_ends f.config target refusal (disk_of f.files) (disk_of now.files) h.0.0.0) rest.0) in
       let asks = asks_of now cut then in
       walk (Closed now) cut asks.0 (then, asks.1) ms (goes.1 asks.0) h.1 c
   walk (Closed f) cut known rest (idle round now ∷ ms) goes h c =

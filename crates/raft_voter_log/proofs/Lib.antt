@@ -5,6 +5,7 @@ pub mod Causing
 mod ClosedWalking
 pub mod ClosedStores
 pub mod Crashes
+pub mod Entries
 pub mod Finding
 pub mod Forking
 pub mod Homes

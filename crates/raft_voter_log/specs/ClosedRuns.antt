@@ -54,7 +54,7 @@ ClosesOrLoses config shows (Open store) (crashed gone left ∷ ms) =
 ClosesOrLoses config shows (Closed files) (crashed gone left ∷ ms) = ClosesOrLoses config shows (Closed left) ms
 ClosesOrLoses config shows (Closed files) (kept (arms fault) (Closed now) ∷ ms) =
     ClosesOrLoses config shows (Closed now) ms
-ClosesOrLoses config shows (Closed files) (kept (copies target) (Closed now) ∷ ms) =
+ClosesOrLoses config shows (Closed files) (kept (copies target refusal) (Closed now) ∷ ms) =
     ClosesOrLoses config shows (Closed now) ms
 ClosesOrLoses config shows (Closed files) (idle round now ∷ ms) = ClosesOrLoses config shows (Closed now) ms
 ClosesOrLoses config shows storage ms = ⊥

@@ -1,6 +1,6 @@
 -- A store of voters on a log, and the log's files, as the store and the disk of a simulated world. `tells` says which
 -- sizes a file system may return as a directory's free space.
-use Rattle.std.specs.Prelude.{◌≡◌, ◌⊎◌, ℕ, false, true, List, Option, None, Result}
+use Rattle.std.specs.Prelude.{◌≡◌, ◌⊎◌, ℕ, false, true, List, Option, None, Some, Result}
 use Rattle.raft_log_fs.specs.Disk.{Disk as OnDisk}
 use Rattle.raft_log_fs.specs.Exits.{Arms}
 use Rattle.raft_log_fs_memory.specs.Answers.{IsLeftOf}
@@ -33,7 +33,7 @@ use Rattle.raft_voter_world.specs.declared.faults.Purge.{Purge}
 use Rattle.raft_voter_world.specs.declared.faults.Purge.TheVariants.{Expired, RewriteAppend, RewriteRewrite}
 use Rattle.raft_voter_world.specs.Stores.{Disk, Upkeep}
 use Rattle.raft_voter_log.specs.declared.files.LogFiles.{LogFiles}
-use Rattle.raft_voter_log.specs.Causes.{purge_cause, unread_cause}
+use Rattle.raft_voter_log.specs.Causes.{cause_of, purge_cause, unread_cause}
 use Rattle.raft_voter_log.specs.Faults.{fault_of, remainder_of}
 use Rattle.raft_voter_log.specs.Leaving.{FilesLeave, SparesFiles, SparesStore}
 
@@ -102,11 +102,12 @@ RefusesFiles tells files workers cause back = ((cause ≡ Memory) × (back ≡ f
     × ((why : Unread) × (cause ≡ unread_cause why)
     × FailsToOpenVoters disk_of tells settings why files.files back))
 
--- a copy of the log of these settings into the directory `target` succeeded or failed
-abbrev pub EndsCopy : Config → List ℕ → OnDisk → OnDisk → Type 0
-EndsCopy config target old new =
-    ((copied : List (List ℕ)) × Forks (settings_of config) target copied old new)
-    ⊎ ((error : Error) × FailsToFork (settings_of config) target error old new)
+-- a copy of the log of these settings into the directory `target` succeeded, or failed for this cause
+abbrev pub EndsCopy : Config → List ℕ → Option Cause → OnDisk → OnDisk → Type 0
+EndsCopy config target None old new =
+    (copied : List (List ℕ)) × Forks (settings_of config) target copied old new
+EndsCopy config target (Some cause) old new =
+    (error : Error) × (cause ≡ cause_of error) × FailsToFork (settings_of config) target error old new
 
 -- the fault was armed in the file system; or the file system had stopped, and its disk is unchanged
 abbrev pub ArmsFiles : Fault → MemoryFileSystem → MemoryFileSystem → Type 0
@@ -145,7 +146,8 @@ log_disk tells config shows outlines = record {
       × ClosesByCalls (shows store) (disk_of files.files);
   crashes = λ files gone left. IsLeftOf (remainder_of gone) files.files left.files × AreSame left.config files.config;
   crashes_under = λ store gone left. CrashesUnder (shows store).pipes.disk gone (disk_of left.files) × AreSame left.config (config store);
-  forks = λ target old new. EndsCopy old.config target (disk_of old.files) (disk_of new.files) × AreSame new.config old.config;
+  forks = λ target refusal old new. EndsCopy old.config target refusal (disk_of old.files) (disk_of new.files)
+      × AreSame new.config old.config;
   arms = λ fault old new. ArmsFiles fault old.files new.files × AreSame new.config old.config;
   has_stopped = λ files. (disk_of files.files).stopped;
 }

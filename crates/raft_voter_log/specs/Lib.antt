@@ -2,6 +2,7 @@ pub mod Causes
 pub mod Chance
 pub mod ClosedRuns
 pub mod ClosedStores
+pub mod Entries
 pub mod Faults
 pub mod Forking
 pub mod Instance

@@ -1,4 +1,4 @@
-//! The cause that an open or a purge returns for an error of the log.
+//! The cause that an open, a purge or a copy returns for an error of the log.
 ghost use Rattle.std.specs.Prelude.{◌≡◌};
 ghost use Rattle.raft_voter_log.specs.Causes.{cause_of, purge_cause, unread_cause};
 
@@ -30,7 +30,7 @@ pub fn purge_cause(failed: bool, error: &Error) -> Cause
 }
 
 /// `Memory` if memory ran out, else `FileSystem`.
-fn cause_of(error: &Error) -> Cause
+pub(crate) fn cause_of(error: &Error) -> Cause
     ensures { result ≡ cause_of error.now }
 {
     match error {

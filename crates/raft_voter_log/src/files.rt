@@ -9,7 +9,7 @@ ghost use Rattle.raft_voter_outline.specs.Kept.{outlines_in};
 ghost use Rattle.raft_voter_log.specs.Instance.{AreSame, HasWorkers, log_disk};
 ghost use Rattle.raft_voter_log.specs.Leaving.{FilesLeave};
 
-use crate::causes::unread_cause;
+use crate::causes::{cause_of, unread_cause};
 use crate::faults::{fault_of, remainder_of};
 use crate::voters::LogVoters;
 use log::sink::Discard;
@@ -116,7 +116,7 @@ impl<R: Log> VoterDisk<R, LogVoters> for LogFiles {
     fn fork(&mut self, rt: &R, alloc: Global, target: &str) -> Result<(), Cause> {
         match fork(rt, alloc, &self.config, &mut self.files, target) {
             Ok(_) => Ok(()),
-            Err(_) => Err(Cause::FileSystem),
+            Err(error) => Err(cause_of(&error)),
         }
     }
 

@@ -1,5 +1,6 @@
 //! What follows from a store keeping its voters.
 
+ghost use Rattle.raft_voter_log.specs.Entries.{ReadEntriesAreTheVoters};
 ghost use Rattle.raft_voter_log.specs.Kept.{ArmsKeepVoters, KeptVotersAreTold, StatesAreVoters, VotersHaveNoOwnKey};
 
 /// If a store's log stores voters, the store lists just these. So a call that keeps them doesn't change the list; a
@@ -22,4 +23,10 @@ pub fn arms_keep_voters()
 /// are the values of the voters that it serves.
 pub fn states_are_voters()
     ensures { StatesAreVoters }
+{}
+
+/// If a store's log stores voters, the entries that a store reads of a group are the first that its voter has between
+/// the asked indexes, as many as the limit allows.
+pub fn read_entries_are_the_voters()
+    ensures { ReadEntriesAreTheVoters }
 {}

@@ -43,6 +43,15 @@ impl Outlines {
         }
     }
 
+    /// Forgets the outline of a group whose voter is fresh, and gives its memory back. The voters are unchanged.
+    pub fn forget(&mut self, group: u64)
+        requires { outlines_in self.old group ≡ fresh }
+        ensures gone { kept_of self.new group ≡ None }
+        ensures voters { (g : ℕ) → outlines_in self.new g ≡ outlines_in self.old g }
+    {
+        let _outline = self.kept.remove(&group);
+    }
+
     /// Outlines from pairs with their groups. If several have one group, the last counts. The tree's nodes are full,
     /// unlike those of a tree built one `put` at a time. While it is built, the pairs take twice their memory.
     pub fn from_pairs(alloc: Global, pairs: Vec<(u64, Outline)>) -> Result<Outlines, Memory>

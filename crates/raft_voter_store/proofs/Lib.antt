@@ -4,6 +4,7 @@ pub mod Taking
 pub mod Upkeep
 pub mod Filling
 pub mod Rounds
+pub mod Noting
 pub mod Places
 pub mod Serving
 pub mod Silence

@@ -4,7 +4,7 @@ use Rattle.std.proofs.lemmas.List.{take_more}
 use Rattle.raft_voter_messages.specs.declared.reply.Reply.{Reply}
 use Rattle.raft_voter.specs.Service.{is_refused, refused_from}
 
-refused_behind : (p at : ℕ) (rs : List Reply) (r : Reply) → at ≡ p + length rs → refused_from p (rs ++ r ∷ []) ≡ refused_from p rs ++ refused_from at (r ∷ [])
+pub refused_behind : (p at : ℕ) (rs : List Reply) (r : Reply) → at ≡ p + length rs → refused_from p (rs ++ r ∷ []) ≡ refused_from p rs ++ refused_from at (r ∷ [])
 refused_behind p at [] r is =
     let here : at ≡ p = omega arith in
     rw here refl

@@ -14,8 +14,11 @@ use Rattle.raft_voter.specs.Service.{is_refused, refused_from}
 use Rattle.raft_voter_durability_laws.specs.Ends.{Went}
 use Rattle.raft_voter_durability_laws.specs.Requests.{Broke, Served, TurnedDown}
 use Rattle.raft_voter_durability_laws.proofs.Public.{later_same, later_twice, rounds_end, rounds_go_on}
-use Rattle.raft_voter_store.specs.Rounds.{AreExcused, CutsRoundOff, GoesOn, Passes, RoundIsAnswered, StopsAt, TurnsDown}
+use Rattle.raft_voter_store.specs.Refusals.{AreExcused, IsCauseOf}
+use Rattle.raft_voter_store.specs.Rounds.{CutsRoundOff, GoesOn, Passes, RoundIsAnswered, StopsAt}
 use Rattle.raft_voter_store.specs.Taking.{FailsToTake}
+use Rattle.raft_voter_store.specs.declared.refusals.RefusalCause.{RefusalCause}
+use Rattle.raft_voter_store.specs.declared.refusals.RefusalCause.TheVariants.{OutOfRange, Rejected}
 
 same_some : {A : Type 0} (x y : A) → Some x ≡ Some y → x ≡ y
 same_some x y is = by is
@@ -41,36 +44,37 @@ behind {A} (z ∷ zs) x y (suc i) is = elim (behind zs x y i is) [
 
 -- why the request at the last place is refused, if it is
 abbrev IsExcusedHere : List (ℕ × Request) → List Reply → Reply → ℕ × Request → EngineState → EngineState → (ℕ → State) → Type 0
-IsExcusedHere qs told a q s t os = replies.Refused ≡ a → (in_range q.1 ≡ false) ⊎ TurnsDown qs told q s t os
+IsExcusedHere qs told a q s t os = replies.Refused ≡ a → (cause : RefusalCause) × IsCauseOf cause qs told q s t os
 
 -- a cause is one still behind what comes later
+pub refused_since : (cause : RefusalCause) (qs : List (ℕ × Request)) (told : List Reply) (q : ℕ × Request) (s t u : EngineState) (os : ℕ → State) → IsLater t.pipes.disk u.pipes.disk → IsCauseOf cause qs told q s t os
+    → IsCauseOf cause qs told q s u os
+refused_since OutOfRange qs told q s t u os since outside = outside
+refused_since (Rejected error) qs told q s t u os since turned = record {
+  wrote = turned.wrote;
+  mid = turned.mid;
+  next = turned.next;
+  outlines = turned.outlines;
+  went = turned.went;
+  turned = turned.turned;
+  later = later_twice turned.next.pipes.disk t.pipes.disk u.pipes.disk turned.later since;
+}
+
 excused_since : (qs : List (ℕ × Request)) (told : List Reply) (s t u : EngineState) (os : ℕ → State) → IsLater t.pipes.disk u.pipes.disk → AreExcused qs told s t os → AreExcused qs told s u os
-excused_since qs told s t u os since before place q refused is = elim (before place q refused is) [
-  | inl outside ↦ inl outside
-  | inr turned ↦ inr (record {
-    wrote = turned.wrote;
-    mid = turned.mid;
-    next = turned.next;
-    outlines = turned.outlines;
-    error = turned.error;
-    went = turned.went;
-    turned = turned.turned;
-    later = later_twice turned.next.pipes.disk t.pipes.disk u.pipes.disk turned.later since;
-  })
-]
+excused_since qs told s t u os since before place q refused is =
+    let (cause, why) = before place q refused is in
+    (cause, refused_since cause qs (take place told) q s t u os since why)
 
 excused_more : (qs : List (ℕ × Request)) (told : List Reply) (a : Reply) (q : ℕ × Request) (s t : EngineState) (os : ℕ → State) → AreExcused qs told s t os → slice_get qs (length told) ≡ Some q
     → IsExcusedHere qs told a q s t os → AreExcused qs (told ++ a ∷ []) s t os
 excused_more qs told a q s t os before at here place r refused is = elim (behind told a replies.Refused place refused) [
-  | inl there ↦ elim (before place r there.0 is) [
-    | inl outside ↦ inl outside
-    | inr turned ↦ inr (subst (λ (l : List Reply). TurnsDown qs l r s t os) (sym there.1) turned)
-  ]
-  | inr last ↦ let same : q ≡ r = same_some q r (sym at ∙ ap (λ (n : ℕ). slice_get qs n) (sym last.0) ∙ is) in
-      elim (here (sym last.1)) [
-        | inl outside ↦ inl (subst (λ (x : ℕ × Request). in_range x.1 ≡ false) same outside)
-        | inr turned ↦ inr (subst (λ (x : ℕ × Request). TurnsDown qs (take place (told ++ a ∷ [])) x s t os) same (subst (λ (l : List Reply). TurnsDown qs l q s t os) (sym last.2) turned))
-      ]
+  | inl there ↦
+      let (cause, why) = before place r there.0 is in
+      (cause, subst (λ (l : List Reply). IsCauseOf cause qs l r s t os) (sym there.1) why)
+  | inr last ↦
+      let same : q ≡ r = same_some q r (sym at ∙ ap (λ (n : ℕ). slice_get qs n) (sym last.0) ∙ is) in
+      let (cause, why) = here (sym last.1) in
+      (cause, subst (λ (x : ℕ × Request). IsCauseOf cause qs (take place (told ++ a ∷ [])) x s t os) same (subst (λ (l : List Reply). IsCauseOf cause qs l q s t os) (sym last.2) why))
 ]
 
 -- Steps.
@@ -83,7 +87,7 @@ passes_served : (qs : List (ℕ × Request)) (told : List Reply) (q : ℕ × Req
     → Passes qs told wrote s t os us → slice_get qs (length told) ≡ Some q → Served q a more t u us ws → Passes qs (told ++ a ∷ []) (wrote || more) s u os ws
 passes_served qs told q a wrote more s t u os us ws passes at served = record {
   went = rounds_go_on.served qs told q a wrote more s t u os us ws passes.went at served;
-  excused = excused_more qs told a q s u os (excused_since qs told s t u os served.later passes.excused) at (λ is. inl (served.refuses (ap (λ (r : Reply). is_refused r) (sym is))));
+  excused = excused_more qs told a q s u os (excused_since qs told s t u os served.later passes.excused) at (λ is. (OutOfRange, served.refuses (ap (λ (r : Reply). is_refused r) (sym is))));
 }
 
 passes_past : (qs : List (ℕ × Request)) (told : List Reply) (q : ℕ × Request) (error : Error) (wrote : Bool) (s t u : EngineState) (os us : ℕ → State)
@@ -91,7 +95,7 @@ passes_past : (qs : List (ℕ × Request)) (told : List Reply) (q : ℕ × Reque
 passes_past qs told q error wrote s t u os us passes at turned = record {
   went = rounds_go_on.turned_down qs told q error wrote s t u os us passes.went at turned;
   excused = excused_more qs told replies.Refused q s u os (excused_since qs told s t u os turned.later passes.excused) at
-      (λ is. inr (record { wrote = wrote; mid = t; next = u; outlines = us; error = error; went = passes.went; turned = turned; later = later_same u.pipes.disk }));
+      (λ is. (Rejected error, record { wrote = wrote; mid = t; next = u; outlines = us; went = passes.went; turned = turned; later = later_same u.pipes.disk }));
 }
 
 pub served_goes_on : (q : ℕ × Request) (a : Reply) (wrote more either : Bool) (told now : List Reply) (t u : EngineState) (us ws : ℕ → State) → Served q a more t u us ws → now ≡ told ++ a ∷ [] → either ≡ (wrote || more)
@@ -143,7 +147,7 @@ answered_synced qs told wrote s t u os us passes synced home V keeps outlines = 
 pub excused_synced : (qs : List (ℕ × Request)) (told : List Reply) (s t u : EngineState) (os : ℕ → State) → SyncsAppend t u → AreExcused qs told s t os → AreExcused qs told s u os
 excused_synced qs told s t u os synced before = excused_since qs told s t u os synced.later before
 
-unsynced_later : (error : Error) (t u : EngineState) → NotSynced error t u → IsLater t.pipes.disk u.pipes.disk
+pub unsynced_later : (error : Error) (t u : EngineState) → NotSynced error t u → IsLater t.pipes.disk u.pipes.disk
 unsynced_later error t u (is, inl had) = subst (λ (x : EngineState). IsLater t.pipes.disk x.pipes.disk) (sym had.1) (later_same t.pipes.disk)
 unsynced_later error t u (is, inr fails) = fails.later
 

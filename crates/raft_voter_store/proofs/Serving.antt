@@ -13,7 +13,8 @@ use Rattle.raft_voter_durability_laws.specs.Ends.{GaveUp, Unsynced}
 use Rattle.raft_voter_durability_laws.specs.Rounds.{took}
 use Rattle.raft_voter_durability_laws.specs.Standing.{AreOutlines, IsLeftAmong, Keeps}
 use Rattle.raft_voter_durability_laws.proofs.Public.{engines_leave_logs, left_behind_rounds, rising, told_rounds_are_answered, voters_are_left}
-use Rattle.raft_voter_store.specs.Rounds.{AreExcused, CutsRoundOff, RoundIsAnswered}
+use Rattle.raft_voter_store.specs.Refusals.{AreExcused}
+use Rattle.raft_voter_store.specs.Rounds.{CutsRoundOff, RoundIsAnswered}
 use Rattle.raft_voter_store.specs.Service.{HasFailedCall, LeavesAt, LeavesBehind, MayRefuse, service_in, voter_service}
 use Rattle.raft_voter_store.specs.Service.LeavesAt.{left, running}
 

@@ -1,15 +1,15 @@
 -- One request: each exit is a call of one law.
-use Rattle.std.proofs.Common.{◌≡◌, ℕ, ◌<◌, ◌^◌, ◌==◌, true, false, if◌then◌else◌, List, [], map, Option, Some, None, refl, sym, ap, subst, inl, inr, ◌∙◌, arith}
+use Rattle.std.proofs.Common.{◌≡◌, ℕ, ◌<◌, ◌^◌, ◌==◌, true, false, if◌then◌else◌, List, [], length, map, Option, Some, None, refl, sym, ap, subst, inl, inr, ◌∙◌, arith}
 use Rattle.std.proofs.Math.Path.{fun_ext}
 use Rattle.std.specs.Prelude.{◌⊎◌, OnSome}
 use Rattle.std.specs.Borrow.{MutBor}
-use Rattle.std.proofs.lemmas.Bool.{cases_Bool}
+use Rattle.std.proofs.lemmas.Bool.{cases_Bool, false≢true}
 use Rattle.raft_log_record_base.specs.declared.errors.Error.{Error}
 use Rattle.raft_log_record_base.specs.declared.errors.Error.TheVariants as errors
 use Rattle.raft_log_record_items.specs.declared.raw_message.RawMessage.{RawMessage}
 use Rattle.raft_log_record_frames.specs.Record.{record_len}
 use Rattle.raft_log_record_batches.specs.Batch.{Batch}
-use Rattle.raft_log_engine.specs.raft_log_engine_laws.specs.Fetching.{FailsToFetch, FetchesTo, HadFailed}
+use Rattle.raft_log_engine.specs.raft_log_engine_laws.specs.Fetching.{FailsToFetch, FetchesTo, HadFailed, StaysButBlock}
 use Rattle.raft_log_engine.specs.raft_log_engine_laws.specs.EngineState.{EngineState, has_failed}
 use Rattle.raft_log_engine.specs.raft_log_engine_laws.specs.Writing.{NotWritten, WritesBytes}
 use Rattle.raft_voter_messages.specs.declared.reply.Entry.{Entry}
@@ -17,12 +17,13 @@ use Rattle.raft_voter_messages.specs.declared.reply.Reply.{Reply}
 use Rattle.raft_voter_messages.specs.declared.reply.Reply.TheVariants as replies
 use Rattle.raft_voter_messages.specs.declared.request.Request.{Request}
 use Rattle.raft_voter_messages.specs.declared.request.Request.TheVariants.{Read}
+use Rattle.raft_voter_messages.specs.declared.request.Request.TheVariants as requests
 use Rattle.raft_voter_messages.specs.Ranges.{in_range}
 use Rattle.raft_voter_outline.specs.declared.outline.decision.Answer.TheVariants as answers
 use Rattle.raft_voter_outline.specs.declared.outline.decision.Change.{Change}
 use Rattle.raft_voter_outline.specs.Decisions.{OutlineBecomes}
 use Rattle.raft_voter_outline.specs.Outlines.{ChangesEach, IsReplyOfEach, LeavesEach, Outlined}
-use Rattle.raft_voter_outline.specs.Rules.{next, next_in_range}
+use Rattle.raft_voter_outline.specs.Rules.{is_retire, next, next_in_range}
 use Rattle.raft_voter_outline.specs.State.{State, fresh}
 use Rattle.raft_voter_outline.specs.declared.outlines.Outlines.{Outlines}
 use Rattle.raft_voter_outline.specs.Kept.{kept_of, kept_or_fresh, outlines_in}
@@ -33,6 +34,9 @@ use Rattle.raft_voter_durability_laws.specs.Reads.{IsCounted, IsRaw}
 use Rattle.raft_voter_durability_laws.specs.Requests.{SaysChange, Served, StepsOutlines, TurnedDown}
 use Rattle.raft_voter_durability_laws.specs.Requests.WasTurnedDown.{no_memory}
 use Rattle.raft_voter_durability_laws.proofs.Public.{fetched_entries_are_read, read_requests_are_served, unfetched_entries_are_unread, unmade_requests_are_turned_down, unread_requests_are_turned_down, unwritten_requests, written_requests_are_served}
+use Rattle.raft_voter_recovery.proofs.Public.{stays_at_first}
+use Rattle.raft_voter_store.specs.Reading.{FailsToReadEntries, FetchesRaw, ReadsEntriesTo, raw_message}
+use Rattle.raft_voter_store.specs.Reading.FailsToReadEntries.{failed, unfetched, unread}
 use Rattle.raft_voter_store.specs.Taking.{FailsToTake}
 use Rattle.raft_voter_store.specs.Writing.{FailsToWriteChange}
 use Rattle.raft_voter_store.specs.Writing.FailsToWriteChange.{unsaid, unwritten}
@@ -43,6 +47,21 @@ pub write_served : (q : ℕ × Request) (a : Reply) (c : Change) (b : Batch) (le
     → ChangesEach (os q.0) q.1 c → SaysChange q.0 q.1 c b → StepsOutlines q ws us → WritesBytes b false len s t → Served q a true s t os us
 write_served q a c b len s t os ws us same bare told changes says steps writes =
     written_requests_are_served q a c b len s t os us bare told changes says (subst (λ (o : ℕ → State). StepsOutlines q o us) (fun_ext same) steps) writes
+
+-- what was served is served in an equal state, with equal outlines
+pub served_on : (q : ℕ × Request) (a : Reply) (s t u : EngineState) (os us vs : ℕ → State) → u ≡ t → ((g : ℕ) → vs g ≡ us g) → Served q a true s t os us → Served q a true s u os vs
+served_on q a s t u os us vs engine voters served =
+    subst (λ (e : EngineState). Served q a true s e os vs) (sym engine) (subst (λ (o : ℕ → State). Served q a true s t os o) (sym (fun_ext voters)) served)
+
+-- the outline of a group that was retired is fresh
+pub retired_fresh : (g : ℕ) (r : Request) (os us : ℕ → State) → IsBare (os g) → StepsOutlines (g, r) os us → is_retire r ≡ true → us g ≡ fresh
+retired_fresh g requests.Retire os us bare steps is = sym (steps.own (os g) bare)
+retired_fresh g (requests.Vote a b c d) os us bare steps is = absurd (false≢true is)
+retired_fresh g (requests.Append a b c d e) os us bare steps is = absurd (false≢true is)
+retired_fresh g (requests.Compact a) os us bare steps is = absurd (false≢true is)
+retired_fresh g (requests.Install a b c) os us bare steps is = absurd (false≢true is)
+retired_fresh g (requests.Read a b) os us bare steps is = absurd (false≢true is)
+retired_fresh g requests.Status os us bare steps is = absurd (false≢true is)
 
 pub write_failed : (q : ℕ × Request) (c : Change) (b : Batch) (error : Error) (s t : EngineState) (os ws : ℕ → State) → ((g : ℕ) → ws g ≡ os g) → has_failed s ≡ false → ChangesEach (os q.0) q.1 c → SaysChange q.0 q.1 c b
     → record_len b.items b.entries < 2 ^ 56 → NotWritten b error s t → FailsToTake q error s t os ws
@@ -106,14 +125,11 @@ same_put group old new put was is own others g =
 
 -- Entries.
 
--- the bytes of a message, and the message of bytes
+-- the bytes of a message
 abbrev pub text_of : RawMessage → List ℕ
 text_of m = m.bytes
 
-abbrev pub reading_of : List ℕ → Option RawMessage
-reading_of source = Some (record { bytes = source })
-
-raw : IsRaw text_of reading_of
+raw : IsRaw text_of raw_message
 raw bytes = (record { bytes = bytes }, refl, refl)
 
 read_leaves : (v : State) (from to : ℕ) → next v (Read from to) ≡ v
@@ -124,31 +140,38 @@ leaves : (o : State) (q : Request) (from to : ℕ) → IsReplyOfEach o q (answer
 leaves o q from to told v is =
     subst (λ (r : Request). next v r ≡ v) (sym (told v is).1.0) (read_leaves v from to)
 
-pub read_served : (q : ℕ × Request) (from to count : ℕ) (s t : EngineState) (os : ℕ → State) (ms : List RawMessage) (es : List Entry) → IsReplyOfEach (os q.0) q.1 (answers.Entries from to) → IsCounted s
-    → FetchesTo reading_of q.0 from to None s t [] ms count → AreReadAs from (map text_of ms) es → Served q (replies.Entries es) false s t os os
-read_served q from to count s t os ms es told counted f read =
-    read_requests_are_served q from to es s t os told (leaves (os q.0) q.1 from to told) (fetched_entries_are_read text_of reading_of raw q from to count s t os ms es counted told f read)
+pub read_served : (q : ℕ × Request) (from to : ℕ) (s t : EngineState) (os : ℕ → State) (es : List Entry) → IsReplyOfEach (os q.0) q.1 (answers.Entries from to) → IsCounted s
+    → ReadsEntriesTo q.0 from to None s t es → Served q (replies.Entries es) false s t os os
+read_served q from to s t os es told counted r =
+    read_requests_are_served q from to es s t os told (leaves (os q.0) q.1 from to told)
+    (fetched_entries_are_read text_of raw_message raw q from to (length r.messages) s t os r.messages es counted told r.fetches r.read)
 
 pub read_failed : (q : ℕ × Request) (from to : ℕ) (error : Error) (s t : EngineState) (os : ℕ → State) → has_failed s ≡ false → IsReplyOfEach (os q.0) q.1 (answers.Entries from to)
-    → HadFailed s t error ⊎ FailsToFetch reading_of q.0 from to s t error → FailsToTake q error s t os os
-read_failed q from to error s t os alive told (inl had) = absurd cc
-read_failed q from to error s t os alive told (inr f) =
-    (refl, inl (unread_requests_are_turned_down q error s t os (unfetched_entries_are_unread text_of reading_of raw q from to error s t os told f)))
+    → FailsToReadEntries q.0 from to None s t error → FailsToTake q error s t os os
+read_failed q from to error s t os alive told (failed had) = absurd cc
+read_failed q from to error s t os alive told (unfetched f) =
+    (refl, inl (unread_requests_are_turned_down q error s t os (unfetched_entries_are_unread text_of raw_message raw q from to error s t os told f)))
+read_failed q from to error s t os alive told (unread is messages f) =
+    (refl, inl (unread_requests_are_turned_down q error s t os (record { alive = f.lived; stays = f.stays; why = λ home m pending W holds means outlines. no_memory is })))
 
-pub read_unmade : (q : ℕ × Request) (from to count : ℕ) (s t : EngineState) (os : ℕ → State) (ms : List RawMessage) → FetchesTo reading_of q.0 from to None s t [] ms count → FailsToTake q errors.Memory s t os os
-read_unmade q from to count s t os ms f =
-    (refl, inl (unread_requests_are_turned_down q errors.Memory s t os (record { alive = f.lived; stays = f.stays; why = λ home m pending W holds means outlines. no_memory refl })))
+-- By the list that a read begins with.
 
--- By the lists that a read begins with, and hands on.
+pub fetches_raw : (g low high count : ℕ) (max : Option ℕ) (s t : EngineState) (old ms : List RawMessage) → old ≡ [] → FetchesTo raw_message g low high max s t old ms count → FetchesRaw g low high max s t ms
+fetches_raw g low high count max s t old ms none f =
+    let from : FetchesTo raw_message g low high max s t [] ms count = subst (λ (l : List RawMessage). FetchesTo raw_message g low high max s t l ms count) none f in
+    let adds : ms ≡ from.messages = from.adds in
+    subst (λ (n : ℕ). FetchesTo raw_message g low high max s t [] ms n) (from.counts.0 ∙ ap length (sym adds)) from
 
-pub read_done : (q : ℕ × Request) (from to count : ℕ) (s t : EngineState) (os : ℕ → State) (old ms slice : List RawMessage) (es : List Entry) → old ≡ [] → slice ≡ ms
-    → IsReplyOfEach (os q.0) q.1 (answers.Entries from to) → IsCounted s → FetchesTo reading_of q.0 from to None s t old ms count → AreReadAs from (map text_of slice) es
-    → Served q (replies.Entries es) false s t os os
-read_done q from to count s t os old ms slice es none same told counted f read =
-    read_served q from to count s t os ms es told counted (subst (λ (l : List RawMessage). FetchesTo reading_of q.0 from to None s t l ms count) none f)
-    (subst (λ (l : List RawMessage). AreReadAs from (map text_of l) es) same read)
+pub reads_some : (g low high count : ℕ) (max : Option ℕ) (s t : EngineState) (old ms slice : List RawMessage) (es : List Entry) → old ≡ [] → slice ≡ ms → FetchesTo raw_message g low high max s t old ms count
+    → AreReadAs low (map text_of slice) es → ReadsEntriesTo g low high max s t es
+reads_some g low high count max s t old ms slice es none same f read =
+    record { messages = ms; fetches = fetches_raw g low high count max s t old ms none f; read = subst (λ (l : List RawMessage). AreReadAs low (map text_of l) es) same read }
 
-pub read_refused : (q : ℕ × Request) (from to count : ℕ) (s t : EngineState) (os : ℕ → State) (old ms : List RawMessage) → old ≡ [] → FetchesTo reading_of q.0 from to None s t old ms count
-    → FailsToTake q errors.Memory s t os os
-read_refused q from to count s t os old ms none f =
-    read_unmade q from to count s t os ms (subst (λ (l : List RawMessage). FetchesTo reading_of q.0 from to None s t l ms count) none f)
+-- a fetch that failed
+pub not_fetched : (g low high : ℕ) (max : Option ℕ) (s t : EngineState) (error : Error) → HadFailed s t error ⊎ FailsToFetch raw_message g low high s t error → FailsToReadEntries g low high max s t error
+not_fetched g low high max s t error (inl had) = failed had
+not_fetched g low high max s t error (inr f) = unfetched f
+
+pub unfetched_stays : (g low high : ℕ) (s t : EngineState) (error : Error) → HadFailed s t error ⊎ FailsToFetch raw_message g low high s t error → StaysButBlock s t
+unfetched_stays g low high s t error (inl had) = subst (λ (x : EngineState). StaysButBlock s x) (sym had.2) (stays_at_first s)
+unfetched_stays g low high s t error (inr f) = f.stays

@@ -1,8 +1,11 @@
 pub mod Taking
 pub mod Upkeep
+pub mod Reading
 pub mod Rounds
+pub mod Refusals
 pub mod Silence
 pub mod Service
 pub mod Opening
+pub mod Listing
 pub mod Writing
 pub mod Counting

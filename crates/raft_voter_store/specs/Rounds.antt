@@ -1,39 +1,17 @@
 -- How the store's loop serves the requests of a round one by one, and how the round ends. `s` and `os` are the engine's
 -- state and the outlines before the round or request. `t` and `us` are those after it.
-use Rattle.std.specs.Prelude.{◌≡◌, ◌⊎◌, ◌≤◌, ℕ, Bool, false, List, length, slice_get, Some, take}
-use Rattle.raft_log_fs.specs.Causes.{IsLater}
-use Rattle.raft_log_record_base.specs.declared.errors.Error.{Error}
+use Rattle.std.specs.Prelude.{◌≡◌, ◌⊎◌, ◌≤◌, ℕ, Bool, List, length, slice_get, Some}
 use Rattle.raft_log_engine.specs.raft_log_engine_laws.specs.EngineState.{LogDirectories, EngineState}
 use Rattle.raft_voter_messages.specs.declared.reply.Reply.{Reply}
-use Rattle.raft_voter_messages.specs.declared.reply.Reply.TheVariants.{Refused}
 use Rattle.raft_voter_messages.specs.declared.request.Request.{Request}
-use Rattle.raft_voter_messages.specs.Ranges.{in_range}
 use Rattle.raft_voter_outline.specs.State.{State}
 use Rattle.raft_voter.specs.Rounds.{World}
 use Rattle.raft_voter.specs.Service.{refused_from}
 use Rattle.raft_voter_durability_laws.specs.Standing.{AreOutlines, Keeps}
-use Rattle.raft_voter_durability_laws.specs.Requests.{Broke, TurnedDown}
+use Rattle.raft_voter_durability_laws.specs.Requests.{Broke}
 use Rattle.raft_voter_durability_laws.specs.Ends.{Answered, GaveUp, Unsynced, Went}
-
--- The first requests of the round `qs` got the replies `told`, and then request `q` was rejected with an error. The
--- round began in the state `s`, with the outlines `os`. The disk of `t` is that after the rejection, or a later one. So
--- if a file call failed at `q`, one failed between `s` and `t`.
-pub record TurnsDown (qs : List (ℕ × Request)) (told : List Reply) (q : ℕ × Request) (s t : EngineState) (os : ℕ → State)
-    : Type 0 where
-  pub wrote : Bool
-  pub mid : EngineState
-  pub next : EngineState
-  pub outlines : ℕ → State
-  pub error : Error
-  pub went : Went qs told wrote s mid os outlines
-  pub turned : TurnedDown q error mid next outlines
-  pub later : IsLater next.pipes.disk t.pipes.disk
-
--- Each reply `Refused` in `told` has a reason. Either its request is out of range. Or its request was rejected with an
--- error, after the requests before it were served.
-abbrev pub AreExcused : List (ℕ × Request) → List Reply → EngineState → EngineState → (ℕ → State) → Type 0
-AreExcused qs told s t os = (place : ℕ) (q : ℕ × Request) → slice_get told place ≡ Some Refused
-    → slice_get qs place ≡ Some q → (in_range q.1 ≡ false) ⊎ TurnsDown qs (take place told) q s t os
+use Rattle.raft_voter_store.specs.Refusals.{AppendsRefusals, AreExcused}
+use Rattle.raft_voter_store.specs.declared.refusals.Refusal.{Refusal}
 
 -- The first requests of the round `qs` got the replies `told`, and each reply `Refused` has a reason. `wrote` is
 -- false only if no record was written. The state `s` became `t`, and the outlines `os` became `us`.
@@ -76,3 +54,11 @@ pub record CutsRoundOff (qs : List (ℕ × Request)) (refused : List ℕ) (s t :
 abbrev pub GoesOn : ℕ × Request → Bool → Bool → List Reply → List Reply → EngineState → EngineState → (ℕ → State) → (ℕ → State) → Type 0
 GoesOn q wrote more told now t u us ws = (qs : List (ℕ × Request)) (s : EngineState) (os : ℕ → State)
     → Passes qs told wrote s t os us → slice_get qs (length told) ≡ Some q → Passes qs now more s u os ws
+
+-- The request `q` of a round was served, and its refusal was noted: `noted` became `notes`. Take any round as in
+-- `GoesOn`, whose refusals were appended to `first`, which became `noted`. Then `notes` are the refusals after `q`.
+abbrev pub NotesOn : ℕ × Request → List Reply → List Reply → List Refusal → List Refusal → EngineState → EngineState
+    → (ℕ → State) → Type 0
+NotesOn q told now noted notes t u us = (qs : List (ℕ × Request)) (wrote : Bool) (s : EngineState) (os : ℕ → State)
+    (first : List Refusal) → Passes qs told wrote s t os us → slice_get qs (length told) ≡ Some q
+    → AppendsRefusals qs told first noted s t os → AppendsRefusals qs now first notes s u os

@@ -11,7 +11,7 @@ use Rattle.raft_voter_outline.specs.State.{State}
 use Rattle.raft_voter.specs.Rounds.{World}
 use Rattle.raft_voter.specs.Service.{CutRound, MayFollow, Service, refused_from, uncut}
 use Rattle.raft_voter_durability_laws.specs.Standing.{AreOutlines, IsLeftAmong, Keeps}
-use Rattle.raft_voter_store.specs.Rounds.{AreExcused}
+use Rattle.raft_voter_store.specs.Refusals.{AreExcused}
 
 -- in some directories, the log of engine `s` stores the voters of world `W`, and `os` are their outlines
 abbrev pub ServesVoters : EngineState → (ℕ → State) → World → Type 0

@@ -6,9 +6,11 @@
 
 mod counters;
 mod entries;
+mod refusals;
 mod saying;
 mod store;
 mod writing;
 
 pub use counters::{StoreCounters, WorkCounters};
+pub use refusals::{Refusal, RefusalCause};
 pub use store::{LogVoterStore, StoreRefused, VoterStore};

@@ -1,22 +1,21 @@
 //! Voters whose log an engine keeps.
-ghost use Rattle.std.specs.Prelude.{◌≡◌, ℕ, false, IfErr, IfOk, OnErr, OnOk};
+ghost use Rattle.std.specs.Prelude.{◌≡◌, ℕ, false, true, None, IfErr, IfOk, OnErr, OnOk};
 ghost use Rattle.raft_log_engine.specs.raft_log_engine_core.specs.Reads.{shows_of};
 
 mod counting;
 mod forking;
 mod opening;
+mod reading;
 mod rounds;
 mod service;
 mod status;
 mod upkeep;
 
 use crate::counters::WorkCounters;
-use crate::entries::read_entries;
 use crate::writing::write_change;
 use log::Log;
 pub use opening::{StoreRefused, VoterStore};
 use raft_log_engine::{Error, LogBatch, LogEngine, PipeLog, Result};
-use raft_log_record_items::{RawEntries, RawMessage};
 use raft_voter_messages::{Reply, Request};
 use raft_voter_outline::{Answer, Change, Decision, Outline, Outlines};
 use std::alloc::{AllocError, Global};
@@ -50,7 +49,8 @@ impl<P: PipeLog> LogVoterStore<P> {
     ghost use Rattle.raft_voter_outline.specs.State.{fresh};
     ghost use Rattle.raft_voter_durability_laws.specs.Laws.{IsBare};
     ghost use Rattle.raft_voter_durability_laws.specs.Requests.{Served, StepsOutlines};
-    ghost use Rattle.raft_voter_outline.specs.Kept.{outlines_in};
+    ghost use Rattle.raft_voter_outline.specs.Kept.{kept_of, outlines_in};
+    ghost use Rattle.raft_voter_outline.specs.Rules.{is_retire};
     ghost use Rattle.raft_voter_store.specs.Counting.{no_work};
     ghost use Rattle.raft_voter_store.specs.Silence.{AsksForNone, IfVoterStays, ReadsAlone};
     ghost use Rattle.raft_voter_store.specs.Taking.{FailsToTake};
@@ -103,7 +103,7 @@ impl<P: PipeLog> LogVoterStore<P> {
         }
     }
 
-    /// Writes what a request changes, and the outline makes the change.
+    /// Writes what a request changes, and the outline makes the change. The outline of a retired group goes.
     fn write<R: Log>(
         &mut self,
         rt: &R,
@@ -122,6 +122,8 @@ impl<P: PipeLog> LogVoterStore<P> {
         ensures err { IfErr result (λ error. FailsToTake (group, request.now) error
             (shows_of P.shown self.old.engine) (shows_of P.shown self.new.engine)
             (outlines_in self.old.outlines) (outlines_in self.new.outlines)) }
+        ensures gone { OnOk result (is_retire request.now ≡ true
+            → kept_of self.new.outlines group ≡ None) }
     {
         let Ok(mut batch) = or_new(self.alloc, self.batch.take()) else {
             return Err(Error::Memory);
@@ -129,9 +131,24 @@ impl<P: PipeLog> LogVoterStore<P> {
         match self.log_change(rt, &mut batch, group, change, request) {
             Ok(()) => {
                 self.batch = Some(batch);
+                self.forget_retired(group, request);
                 Ok(Taken { reply, wrote: true })
             }
             Err(error) => Err(error),
+        }
+    }
+
+    /// Forgets the outline of the group if the request retired it. The voters are unchanged.
+    fn forget_retired(&mut self, group: u64, request: &Request)
+        requires { is_retire request.now ≡ true → outlines_in self.old.outlines group ≡ fresh }
+        ensures gone { is_retire request.now ≡ true → kept_of self.new.outlines group ≡ None }
+        ensures voters { (g : ℕ) → outlines_in self.new.outlines g ≡ outlines_in self.old.outlines g }
+        ensures engine { self.new.engine ≡ self.old.engine }
+        ensures work { self.new.work ≡ self.old.work }
+    {
+        match request {
+            Request::Retire => self.outlines.forget(group),
+            _ => {}
         }
     }
 
@@ -223,18 +240,11 @@ impl<P: PipeLog> LogVoterStore<P> {
             (shows_of P.shown self.old.engine) (shows_of P.shown self.new.engine) }
         ensures outlines { self.new.outlines ≡ self.old.outlines }
     {
-        let mut messages: Vec<RawMessage> = Vec::new(self.alloc);
-        match self
-            .engine
-            .fetch_entries_to::<RawEntries>(group, from, to, None, &mut messages)
-        {
-            Ok(_) => match read_entries(self.alloc, from, messages.as_slice()) {
-                Ok(entries) => Ok(Taken {
-                    reply: Reply::Entries(entries),
-                    wrote: false,
-                }),
-                Err(_) => Err(Error::Memory),
-            },
+        match self.entries(group, from, to, None) {
+            Ok(entries) => Ok(Taken {
+                reply: Reply::Entries(entries),
+                wrote: false,
+            }),
             Err(error) => Err(error),
         }
     }

@@ -40,15 +40,15 @@ kept_serves v u d (purges p refusal) (Open old) (Open new) cut k s = λ alive. g
     go false e alive = ((s e).0, k.1.served cut.before (s e).1 alive)
 kept_serves v u d (arms f) (Open old) (Open new) cut k s = λ alive. let before = s (sym k.1.failed ∙ alive) in (before.0, k.1.served cut.before before.1)
 kept_serves v u d (arms f) (Closed old) (Closed new) cut k s = tt
-kept_serves v u d (copies t) (Closed old) (Closed new) cut k s = tt
+kept_serves v u d (copies t refusal) (Closed old) (Closed new) cut k s = tt
 kept_serves v u d closes (Closed old) new cut k s = absurd k
 kept_serves v u d closes (Open old) (Open new) cut k s = absurd k
 kept_serves v u d (purges p refusal) (Closed old) new cut k s = absurd k
 kept_serves v u d (purges p refusal) (Open old) (Closed new) cut k s = absurd k
 kept_serves v u d (arms f) (Open old) (Closed new) cut k s = absurd k
 kept_serves v u d (arms f) (Closed old) (Open new) cut k s = absurd k
-kept_serves v u d (copies t) (Open old) new cut k s = absurd k
-kept_serves v u d (copies t) (Closed old) (Open new) cut k s = absurd k
+kept_serves v u d (copies t refusal) (Open old) new cut k s = absurd k
+kept_serves v u d (copies t refusal) (Closed old) (Open new) cut k s = absurd k
 
 -- a store that isn't alive doesn't come alive by such a call
 pub kept_dead : {S F : Type 0} (v : Service S) (u : Upkeep S) (d : Disk S F) (change : Change) (old new : Storage S F) → Keeps v u d change old new → is_alive v old ≡ false → is_alive v new ≡ false
@@ -60,15 +60,15 @@ kept_dead v u d (purges p refusal) (Open old) (Open new) k e = ap not (k.1.faile
     not_false false h = sym h
 kept_dead v u d (arms f) (Open old) (Open new) k e = ap not k.1.failed ∙ e
 kept_dead v u d (arms f) (Closed old) (Closed new) k e = refl
-kept_dead v u d (copies t) (Closed old) (Closed new) k e = refl
+kept_dead v u d (copies t refusal) (Closed old) (Closed new) k e = refl
 kept_dead v u d closes (Closed old) new k e = absurd k
 kept_dead v u d closes (Open old) (Open new) k e = absurd k
 kept_dead v u d (purges p refusal) (Closed old) new k e = absurd k
 kept_dead v u d (purges p refusal) (Open old) (Closed new) k e = absurd k
 kept_dead v u d (arms f) (Open old) (Closed new) k e = absurd k
 kept_dead v u d (arms f) (Closed old) (Open new) k e = absurd k
-kept_dead v u d (copies t) (Open old) new k e = absurd k
-kept_dead v u d (copies t) (Closed old) (Open new) k e = absurd k
+kept_dead v u d (copies t refusal) (Open old) new k e = absurd k
+kept_dead v u d (copies t refusal) (Closed old) (Open new) k e = absurd k
 
 -- a round that was answered
 pub answered_on : {S F : Type 0} (v : Service S) (old now : S) (cut : CutRound) (round : Round) (ms : List (Moment S F)) (last : ℕ) → IsAnswered v old round now → (cut ≡ uncut cut.before) × IsOpenAt v old cut.before

@@ -41,15 +41,15 @@ kept_known v u d closes (Open store) (Closed files) cut k known = k.1 cut known
 kept_known v u d (purges p refusal) (Open old) (Open new) cut k known = k.1.left cut known
 kept_known v u d (arms f) (Open old) (Open new) cut k known = k.1.left cut known
 kept_known v u d (arms f) (Closed old) (Closed new) cut k known = k.1 cut known
-kept_known v u d (copies t) (Closed old) (Closed new) cut k known = k.1 cut known
+kept_known v u d (copies t refusal) (Closed old) (Closed new) cut k known = k.1 cut known
 kept_known v u d closes (Closed old) new cut k known = absurd k
 kept_known v u d closes (Open old) (Open new) cut k known = absurd k
 kept_known v u d (purges p refusal) (Closed old) new cut k known = absurd k
 kept_known v u d (purges p refusal) (Open old) (Closed new) cut k known = absurd k
 kept_known v u d (arms f) (Open old) (Closed new) cut k known = absurd k
 kept_known v u d (arms f) (Closed old) (Open new) cut k known = absurd k
-kept_known v u d (copies t) (Open old) new cut k known = absurd k
-kept_known v u d (copies t) (Closed old) (Open new) cut k known = absurd k
+kept_known v u d (copies t refusal) (Open old) new cut k known = absurd k
+kept_known v u d (copies t refusal) (Closed old) (Open new) cut k known = absurd k
 
 -- a round that was cut off: what is known of it then
 cut_known : {S : Type 0} (v : Service S) (old now : S) (cut noted : CutRound) (round : Round) (cause : Cause) → IsCutOff v old round cause now → Within cut noted

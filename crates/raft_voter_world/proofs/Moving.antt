@@ -16,7 +16,7 @@ use Rattle.raft_voter_world.specs.History.{Change, Crashes, Either, Falls, IsCha
 use Rattle.raft_voter_world.specs.History.Change.{closes, purges, arms, copies}
 use Rattle.raft_voter_world.specs.History.Moment.{crashed, kept}
 use Rattle.raft_voter_world.specs.Steps.{Falling, Grows, IsStep, Moves, WhereAlive, event_of}
-use Rattle.raft_voter_world.specs.Storages.{KeepsIfClosed, PurgesIfOpen}
+use Rattle.raft_voter_world.specs.Storages.{CopiesIfClosed, PurgesIfOpen}
 use Rattle.raft_voter_world.specs.declared.faults.Purge.{Purge}
 use Rattle.raft_voter_world.specs.declared.faults.Purge.TheVariants.{Expired, RewriteAppend as Append, RewriteRewrite as Rewrite}
 use Rattle.raft_voter_world.specs.Stores.{Disk, Upkeep}
@@ -76,15 +76,15 @@ kept_alive v u d (purges p refusal) (Open old) (Open new) P k a = λ alive. go (
     go false e alive = a e
 kept_alive v u d (arms f) (Open old) (Open new) P k a = λ alive. a (sym k.1.failed ∙ alive)
 kept_alive v u d (arms f) (Closed old) (Closed new) P k a = tt
-kept_alive v u d (copies t) (Closed old) (Closed new) P k a = tt
+kept_alive v u d (copies t refusal) (Closed old) (Closed new) P k a = tt
 kept_alive v u d closes (Closed old) new P k a = absurd k
 kept_alive v u d closes (Open old) (Open new) P k a = absurd k
 kept_alive v u d (purges p refusal) (Closed old) new P k a = absurd k
 kept_alive v u d (purges p refusal) (Open old) (Closed new) P k a = absurd k
 kept_alive v u d (arms f) (Open old) (Closed new) P k a = absurd k
 kept_alive v u d (arms f) (Closed old) (Open new) P k a = absurd k
-kept_alive v u d (copies t) (Open old) new P k a = absurd k
-kept_alive v u d (copies t) (Closed old) (Open new) P k a = absurd k
+kept_alive v u d (copies t refusal) (Open old) new P k a = absurd k
+kept_alive v u d (copies t refusal) (Closed old) (Open new) P k a = absurd k
 
 kept_happens : {S F : Type 0} (v : Service S) (u : Upkeep S) (d : Disk S F) (change : Change) (old new : Storage S F) → Keeps v u d change old new → Happens v u d old (kept change new)
 kept_happens v u d change (Closed files) new k = k
@@ -242,12 +242,12 @@ close_step {S} {F} v u d place old mid new (Closed x) files is k now notes left 
     (λ ms h. subst (λ (y : Storage S F). Turns u d old.left y Close ms) (sym is) (subst (λ (y : Storage S F). Falls u d old.left y ms) is h)) f
 
 -- files are copied, where no store is open
-pub fork_step : {S F : Type 0} (v : Service S) (u : Upkeep S) (d : Disk S F) (place : ℕ) (target : String Global) (old mid new : World S F) (storage : Storage S F) → old.storage ≡ storage → KeepsIfClosed v u d (copies (string_bytes target)) storage mid.storage
+pub fork_step : {S F : Type 0} (v : Service S) (u : Upkeep S) (d : Disk S F) (place : ℕ) (target : String Global) (old mid new : World S F) (storage : Storage S F) → old.storage ≡ storage → CopiesIfClosed v u d (string_bytes target) storage mid.storage
     → mid.notes ≡ old.notes → mid.left ≡ old.left → Falling v u d place mid new → IsStep v u d place (Fork target) old new
-fork_step {S} {F} v u d place target old mid new (Closed x) is k notes left f =
-    kept_step v u d place (Fork target) (copies (string_bytes target)) old mid new
-    (subst (λ (y : Storage S F). Keeps v u d (copies (string_bytes target)) y mid.storage) (sym is) k) notes left
-    (λ ms h. subst (λ (y : Storage S F). Turns u d old.left y (Fork target) (kept (copies (string_bytes target)) mid.storage ∷ ms)) (sym is) (refl, subst (λ (g : Left). Falls u d g mid.storage ms) left h)) f
+fork_step {S} {F} v u d place target old mid new (Closed x) is (refusal, k) notes left f =
+    kept_step v u d place (Fork target) (copies (string_bytes target) refusal) old mid new
+    (subst (λ (y : Storage S F). Keeps v u d (copies (string_bytes target) refusal) y mid.storage) (sym is) k) notes left
+    (λ ms h. subst (λ (y : Storage S F). Turns u d old.left y (Fork target) (kept (copies (string_bytes target) refusal) mid.storage ∷ ms)) (sym is) (refl, subst (λ (g : Left). Falls u d g mid.storage ms) left h)) f
 fork_step {S} {F} v u d place target old mid new (Open x) is k notes left f =
     same_step v u d place (Fork target) old mid new (k ∙ sym is) notes left refl
     (λ ms h. subst (λ (y : Storage S F). Turns u d old.left y (Fork target) ms) (sym is) (subst (λ (y : Storage S F). Falls u d old.left y ms) is h)) f

@@ -27,12 +27,12 @@ use Rattle.raft_voter_world.specs.Stores.{KeepsVoters, RefusesPurge, StaysAsItWa
 -- Moments.
 
 -- A call that changes no voter: a close, a purge, the arming of a fault, or a copy of the files into a directory.
--- `purges` has a cause if the purge failed.
+-- `purges` and `copies` have a cause if the call failed.
 pub data Change : Type 0 where
   closes : Change
   purges : Purge → Option Cause → Change
   arms : Fault → Change
-  copies : List ℕ → Change
+  copies : List ℕ → Option Cause → Change
 
 -- One thing that happens, with the store or the files after it:
 -- - `opened`: a store was opened by this many workers, and its voters were read. The number is a position in the last
@@ -146,7 +146,7 @@ Keeps v u d closes (Open store) (Closed files) = d.closes store files × LeavesI
 Keeps v u d (purges purge refusal) (Open old) (Open new) = EndsPurge v u purge refusal old new × KeepsVoters v old new
 Keeps v u d (arms fault) (Open old) (Open new) = u.arms fault old new × StaysAsItWas v old new
 Keeps v u d (arms fault) (Closed old) (Closed new) = d.arms fault old new × StaysInFiles v d old new
-Keeps v u d (copies target) (Closed old) (Closed new) = d.forks target old new × StaysInFiles v d old new
+Keeps v u d (copies target refusal) (Closed old) (Closed new) = d.forks target refusal old new × StaysInFiles v d old new
 Keeps v u d change old new = ⊥
 
 -- `given` are the files of this storage; or, if a store is open in it, files that a close of this store may leave
@@ -215,6 +215,11 @@ abbrev pub IsPurge : {S F : Type 0} → Purge → Moment S F → Type 0
 IsPurge purge (kept (purges other refusal) now) = other ≡ purge
 IsPurge purge moment = ⊥
 
+-- the moment is a copy of the files into this directory, whether it succeeded or failed
+abbrev pub IsCopy : {S F : Type 0} → List ℕ → Moment S F → Type 0
+IsCopy target (kept (copies other refusal) now) = other ≡ target
+IsCopy target moment = ⊥
+
 -- the moment is a crash that leaves of the unsynced changes what `gone` says
 abbrev pub IsCrash : {S F : Type 0} → Left → Moment S F → Type 0
 IsCrash gone (crashed other files) = other ≡ gone
@@ -260,7 +265,7 @@ Turns u d gone storage (CrashAt calls gone') ms =
     Either (calls == 0) (Falls u d gone storage ms) (One u d gone' (IsChange (arms (Stop calls))) ms)
 Turns u d gone storage (Refuse calls) ms =
     Either (calls == 0) (Falls u d gone storage ms) (One u d gone (IsChange (arms (RefuseCall calls))) ms)
-Turns u d gone (Closed files) (Fork target) ms = One u d gone (IsChange (copies (string_bytes target))) ms
+Turns u d gone (Closed files) (Fork target) ms = One u d gone (IsCopy (string_bytes target)) ms
 Turns u d gone storage event ms = Falls u d gone storage ms
 
 -- what a crash after a stop of the disk leaves, once this event has happened; only an event that arms a stop changes

@@ -10,8 +10,8 @@ use Rattle.raft_voter_world.specs.declared.serving.Served.{Served}
 use Rattle.raft_voter_world.specs.declared.serving.Served.TheVariants.{Answered, TookSome, TookNone}
 use Rattle.raft_voter_world.specs.declared.storage.Storage.{Storage}
 use Rattle.raft_voter_world.specs.declared.storage.Storage.TheVariants.{Closed, Open}
-use Rattle.raft_voter_world.specs.History.{Change, IsAnswered, IsCutOff, IsIdle, Keeps}
-use Rattle.raft_voter_world.specs.History.Change.{purges}
+use Rattle.raft_voter_world.specs.History.{IsAnswered, IsCutOff, IsIdle, Keeps}
+use Rattle.raft_voter_world.specs.History.Change.{copies, purges}
 use Rattle.raft_voter_world.specs.Stores.{Disk, Upkeep}
 
 -- if a store is open, a purge of it, with success or not, changes the storage into `new`; otherwise nothing changes
@@ -20,11 +20,13 @@ abbrev pub PurgesIfOpen :
 PurgesIfOpen v u d purge (Open store) new = (refusal : Option Cause) × Keeps v u d (purges purge refusal) (Open store) new
 PurgesIfOpen v u d purge (Closed files) new = new ≡ Closed files
 
--- if no store is open, this call changes the files into `new` and keeps the voters; otherwise nothing changes
-abbrev pub KeepsIfClosed :
-    {S F : Type 0} → Service S → Upkeep S → Disk S F → Change → Storage S F → Storage S F → Type 0
-KeepsIfClosed v u d change (Closed files) new = Keeps v u d change (Closed files) new
-KeepsIfClosed v u d change (Open store) new = new ≡ Open store
+-- if no store is open, a copy of the files into this directory, with success or not, changes the storage into `new`;
+-- otherwise nothing changes
+abbrev pub CopiesIfClosed :
+    {S F : Type 0} → Service S → Upkeep S → Disk S F → List ℕ → Storage S F → Storage S F → Type 0
+CopiesIfClosed v u d target (Closed files) new =
+    (refusal : Option Cause) × Keeps v u d (copies target refusal) (Closed files) new
+CopiesIfClosed v u d target (Open store) new = new ≡ Open store
 
 -- How a round of these requests went:
 -- - `Answered`: the store replied to it;

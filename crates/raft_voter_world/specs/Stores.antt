@@ -1,5 +1,5 @@
 -- What a store of voters and its disk promise for each call that isn't a round.
-use Rattle.std.specs.Prelude.{◌≡◌, ◌==◌, ℕ, Bool, true, false, List, unwrap_or}
+use Rattle.std.specs.Prelude.{◌≡◌, ◌==◌, ℕ, Bool, true, false, List, Option, unwrap_or}
 use Rattle.std.specs.Map.{lookup}
 use Rattle.raft_voter_outline.specs.State.{State, fresh}
 use Rattle.raft_voter.specs.Rounds.{World}
@@ -71,7 +71,8 @@ RefusesPurge TooLong before now = ⊥
 -- - `closes`: a close of this store may leave these files;
 -- - `crashes`: a crash may turn the first files into the second;
 -- - `crashes_under`: a crash while this store is open may leave these files;
--- - `forks`: a copy into this directory may change the first files into the second, whether it succeeds or fails;
+-- - `forks`: a copy into this directory may change the first files into the second. It fails for the cause, if there is
+--   one, and else succeeds;
 -- - `arms`: arming this fault may change the first files into the second;
 -- - `has_stopped`: the disk has stopped.
 pub record Disk (S F : Type 0) : Type 1 where
@@ -84,7 +85,7 @@ pub record Disk (S F : Type 0) : Type 1 where
   pub closes : S → F → Type 0
   pub crashes : F → Left → F → Type 0
   pub crashes_under : S → Left → F → Type 0
-  pub forks : List ℕ → F → F → Type 0
+  pub forks : List ℕ → Option Cause → F → F → Type 0
   pub arms : Fault → F → F → Type 0
   pub has_stopped : F → Bool
 

@@ -1,5 +1,5 @@
 //! The trait of a disk that keeps the voters of a store while it isn't open.
-ghost use Rattle.std.specs.Prelude.{◌≡◌, false, IfErr, IfOk, OnOk};
+ghost use Rattle.std.specs.Prelude.{◌≡◌, false, IfErr, IfOk, None, OnOk, Some};
 ghost use Rattle.std.specs.Thread.{IsSync};
 ghost use Rattle.raft_voter.specs.Service.{IsFromOutside};
 ghost use Rattle.raft_voter_world.specs.Stores.{FindsVoters, LeavesInFiles, LeavesStanding, LeavesUnder, StaysInFiles};
@@ -58,9 +58,12 @@ pub trait VoterDisk<R, S: VoterStorage<R>>: Sized {
         ensures stands { IfOk result (LeavesUnder S.service disk store.now) }
         ensures runs { IfOk result (λ files. disk.has_stopped files ≡ false) };
 
-    /// Copies the files into a directory. Whether it succeeds or fails, the files keep the voters.
+    /// Copies the files into a directory. Whether it succeeds or fails, the files keep the voters. Fails with `Memory`
+    /// if memory runs out, and else with `FileSystem`.
     fn fork(&mut self, rt: &R, alloc: Global, target: &str) -> Result<(), Cause>
-        ensures forks { disk.forks target.now self.old self.new }
+        ensures forks { OnOk result (disk.forks target.now None self.old self.new) }
+        ensures refuses { IfErr result (λ cause. disk.forks target.now (Some cause) self.old self.new) }
+        ensures errors { IfErr result IsFromOutside }
         ensures stands { StaysInFiles S.service disk self.old self.new };
 
     /// Arms a fault: a later call that changes files fails, also one of a store that is opened on them. Whether arming

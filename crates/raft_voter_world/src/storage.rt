@@ -1,8 +1,8 @@
 //! A store that is open, or the files of one that isn't.
 ghost use Rattle.std.specs.Prelude.{◌≡◌, IfOk, OnOk};
 ghost use Rattle.raft_voter_world.specs.History.{Crashes, has_stopped, IsClosedAs, Keeps};
-ghost use Rattle.raft_voter_world.specs.History.Change.{arms, copies};
-ghost use Rattle.raft_voter_world.specs.Storages.{IsServed, KeepsIfClosed, PurgesIfOpen};
+ghost use Rattle.raft_voter_world.specs.History.Change.{arms};
+ghost use Rattle.raft_voter_world.specs.Storages.{CopiesIfClosed, IsServed, PurgesIfOpen};
 
 use crate::disk::VoterDisk;
 use crate::event::Left;
@@ -121,7 +121,7 @@ impl<S: Drop, F: Drop> Storage<S, F> {
     where
         S: VoterStorage<R>,
         F: VoterDisk<R, S>,
-        ensures { KeepsIfClosed S.service S.upkeep F.disk (copies target.now) self.old self.new }
+        ensures { CopiesIfClosed S.service S.upkeep F.disk target.now self.old self.new }
     {
         let Storage::Closed(files) = self else {
             return;

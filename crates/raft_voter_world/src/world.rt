@@ -206,7 +206,8 @@ impl<S: Drop, F: Drop> World<S, F> {
         opened.fallen()
     }
 
-    /// Copies the files into a directory if no store is open. A copy that fails isn't reported.
+    /// Copies the files into a directory if no store is open. A copy that fails isn't reported, but the moments of the
+    /// contract have its cause.
     pub fn fork<R>(mut self, rt: &R, place: usize, target: String) -> Result<World<S, F>, Memory>
     where
         S: VoterStorage<R>,

@@ -18,14 +18,14 @@ read_files-requires g c =
     let all : All P ordered.found = λ k e lt. subst (λ (n : ℕ). (get_or ordered.found k e).path_id < n) (length-map paths string_bytes) (ordered.all.found (get_or ordered.found k e) (Contains-get_or ordered.found k e lt)).listed in
     subst (All P) (sym c.as_slice-3.ensures.value) (All-permutation P ordered.found c.in_ok-found.found.items ordered.same all)
 
-pub returns : goal.returns
-returns g c =
+pub returns-clause-ok : goal.returns-clause-ok
+returns-clause-ok g c = λ honest.
     let d = g.F.FileSystem.disk c.args.files.now in
     let queue = c.args.queue in
     let directories = map string_bytes c.args.paths.now in
     let newest = c.newest_of-newest.result in
     let ordered = c.in_ok-found.ensures in
-    let hands = c.in_ok-damages.ensures in
+    let hands = c.in_ok-damages.ensures.ok honest in
     record {
       batches = all_batches hands.segments;
       taken = hands.taken;

@@ -7,7 +7,10 @@ use Rattle.raft_log_inspection.proofs.inspecting.read_files.Goals as goal
 use Rattle.raft_log_inspection.proofs.inspecting.read_files.Goals.{in-Some+in_ok-push, in_default}
 
 pub loop-file-init : goal.loop-file-init
-loop-file-init g c = record { segments = []; taken = takes_none (g.M.ReplayMachine.reads c.args.queue) c.args.machine.now; intact = λ none. tt }
+loop-file-init g c = (
+  (λ honest. record { segments = []; taken = takes_none (g.M.ReplayMachine.reads c.args.queue) c.args.machine.now; intact = λ none. tt }),
+  record { falls = λ honest. honest; stays = λ truth honest. honest },
+)
 
 pub loop-file-preserved : goal.loop-file-preserved
 loop-file-preserved g c =
@@ -18,13 +21,18 @@ loop-file-preserved g c =
     let i = c.loop-file.file-index in
     let lt : i < length files = c.loop-file-test.true in
     let damages = c.loop-file.damages.items in
-    elim c.match-damage.branch [
-      | in-Some+in_ok-push w ↦
-          subst (HandsFiles reads c.args.queue directories d c.args.newest (take (i + 1) files) c.args.machine.now c.read_one.new.machine) (sym (ap (λ v. v.items) w.damages-is ∙ w.in_ok-push.ensures.items))
-          (hands_damaged reads c.args.queue directories d c.args.newest files i _ lt c.args.machine.now c.loop-file.machine c.read_one.new.machine damages c.in_ok-damage.damage w.in-Some.damage
-          c.loop-file.invariant c.in_ok-damage.ensures)
-      | in_default w ↦
-          subst (HandsFiles reads c.args.queue directories d c.args.newest (take (i + 1) files) c.args.machine.now c.read_one.new.machine) (sym (ap (λ v. v.items) w.damages-is))
-          (hands_sound reads c.args.queue directories d c.args.newest files i _ lt c.args.machine.now c.loop-file.machine c.read_one.new.machine damages c.in_ok-damage.damage
-          c.loop-file.invariant c.in_ok-damage.ensures w.in_default.is)
-    ]
+    let (handed, receipts) = c.loop-file.invariant in
+    let own = c.in_ok-damage.ensures.receipts in (
+      (λ honest.
+          let before = handed (own.falls honest) in
+          let next = c.in_ok-damage.ensures.ok honest in
+          elim c.match-damage.branch [
+            | in-Some+in_ok-push w ↦
+                subst (HandsFiles reads c.args.queue directories d c.args.newest (take (i + 1) files) c.args.machine.now c.read_one.new.machine) (sym (ap (λ v. v.items) w.damages-is ∙ w.in_ok-push.ensures.items))
+                (hands_damaged reads c.args.queue directories d c.args.newest files i _ lt c.args.machine.now c.loop-file.machine c.read_one.new.machine damages c.in_ok-damage.damage w.in-Some.damage before next)
+            | in_default w ↦
+                subst (HandsFiles reads c.args.queue directories d c.args.newest (take (i + 1) files) c.args.machine.now c.read_one.new.machine) (sym (ap (λ v. v.items) w.damages-is))
+                (hands_sound reads c.args.queue directories d c.args.newest files i _ lt c.args.machine.now c.loop-file.machine c.read_one.new.machine damages c.in_ok-damage.damage before next w.in_default.is)
+          ]),
+      record { falls = λ honest. receipts.falls (own.falls honest); stays = λ truth honest. own.stays truth (receipts.stays truth honest) },
+    )

@@ -1,15 +1,29 @@
-use Rattle.std.proofs.lemmas.Result.{err_from_is_err_and}
+use Rattle.std.proofs.Common.{sym, ◌∙◌}
+use Rattle.std.proofs.lemmas.Bool.{and_parts, and_from}
+use Rattle.raft_log_file_reader.specs.Reader.{honest_of}
 use Rattle.raft_log_open.proofs.Joining.{judged}
 use Rattle.raft_log_open.specs.PaddingReading.{content_of}
 use Rattle.raft_log_open.proofs.content.is_padded.Goals as goal
 
-pub returns-clause-ok : goal.returns-clause-ok
-returns-clause-ok g c =
+pub returns-in-Ok-clause-ok : goal.returns-in-Ok-clause-ok
+returns-in-Ok-clause-ok g c = λ honest.
     let d = g.F.FileSystem.disk c.args.file_system.now in
-    let (read, reads, handed) = c.in_ok-found.ensures.ok (c.in_ok-found.ensures.receipts g.met.F.FileSystem.truthful) in
-    judged c.args.file.is_last c.args.file.id (content_of c.args.file d) read c.in_ok-found.found.format handed.format reads
+    let parts = and_parts c.args.receipts.now.honest (honest_of c.read_file-read.new.reader) (sym c.note_reads.ensures ∙ honest) in
+    let (read, reads, handed) = c.in-Ok.ensures.ok parts.1 in
+    judged c.args.file.is_last c.args.file.id (content_of c.args.file d) read c.in-Ok.found.format handed.format reads
 
-pub returns-in_err-found-clause-err : goal.returns-in_err-found-clause-err
-returns-in_err-found-clause-err g c =
-    let gave = err_from_is_err_and c.from_residual.result c.from_residual.ensures.1 in
-    rw (gave.1, gave.2) (c.in_err-found.ensures.err (c.in_err-found.ensures.receipts g.met.F.FileSystem.truthful))
+pub returns-in-Err-clause-err : goal.returns-in-Err-clause-err
+returns-in-Err-clause-err g c = λ honest.
+    c.in-Err.ensures.err (and_parts c.args.receipts.now.honest (honest_of c.read_file-read.new.reader) (sym c.note_reads.ensures ∙ honest)).1
+
+pub returns-in-Ok-clause-receipts : goal.returns-in-Ok-clause-receipts
+returns-in-Ok-clause-receipts g c = record {
+  falls = λ honest. (and_parts c.args.receipts.now.honest (honest_of c.read_file-read.new.reader) (sym c.note_reads.ensures ∙ honest)).0;
+  stays = λ truth honest. c.note_reads.ensures ∙ and_from c.args.receipts.now.honest (honest_of c.read_file-read.new.reader) honest (c.in-Ok.ensures.receipts truth);
+}
+
+pub returns-in-Err-clause-receipts : goal.returns-in-Err-clause-receipts
+returns-in-Err-clause-receipts g c = record {
+  falls = λ honest. (and_parts c.args.receipts.now.honest (honest_of c.read_file-read.new.reader) (sym c.note_reads.ensures ∙ honest)).0;
+  stays = λ truth honest. c.note_reads.ensures ∙ and_from c.args.receipts.now.honest (honest_of c.read_file-read.new.reader) honest (c.in-Err.ensures.receipts truth);
+}

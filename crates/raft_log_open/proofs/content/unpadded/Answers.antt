@@ -1,57 +1,36 @@
-use Rattle.std.proofs.Common.{◌≡◌, ℕ, inl, List, ◌++◌, refl, ap, subst, ◌∙◌}
-use Rattle.std.proofs.lemmas.Result.{err_from_is_err_and}
-use Rattle.raft_log_fs.specs.declared.handle.Handle.{Handle}
-use Rattle.raft_log_file_format.specs.Header.{header_bytes}
-use Rattle.raft_log_file_reader.specs.Opening.{SaysFormat}
-use Rattle.raft_log_file_reader.specs.Reader.{end_of}
-use Rattle.raft_log_file_reader.specs.Source.{bytes_in}
-use Rattle.raft_log_file_reader.specs.declared.open_file.OpenFile.{OpenFile}
-use Rattle.raft_log_recovery_read.proofs.Public.{file_unread}
-use Rattle.raft_log_open.specs.Content.{AreJoined, plain_format}
-use Rattle.raft_log_open.proofs.Joining.{plain_is, unopened}
+use Rattle.std.proofs.Common.{inl, sym, ◌∙◌}
+use Rattle.std.proofs.lemmas.Bool.{and_parts, and_from}
+use Rattle.raft_log_file_reader.specs.Reader.{honest_of}
 use Rattle.raft_log_open.proofs.content.unpadded.Goals as goal
 
-pub returns-in_err-format-clause-err : goal.returns-in_err-format-clause-err
-returns-in_err-format-clause-err g c =
-    let d = g.F.FileSystem.disk c.args.file_system.now in
-    let file = c.args.file in
-    let gave = err_from_is_err_and c.from_residual-in_err-format.result c.from_residual-in_err-format.ensures.1 in
-    let padded = rw c.if-not-branch.false at c.in_ok-is_padded.ensures.ok in
-    rw (gave.1, gave.2) (inl (unopened file.is_last file.id file.handle d c.in_err-format.field-0.0 padded (c.in_err-format.ensures.err (c.in_err-format.ensures.receipts g.met.F.FileSystem.truthful))))
-
-pub returns-in_err-join_records-clause-err : goal.returns-in_err-join_records-clause-err
-returns-in_err-join_records-clause-err g c =
-    let d = g.F.FileSystem.disk c.args.file_system.now in
-    let opens = c.in_ok-format.ensures.ok in
-    let file : OpenFile = record { id = c.args.file.id; source = opens.source; format = c.in_ok-format.format } in
-    let gave = err_from_is_err_and c.from_residual-in_err-join_records.result c.from_residual-in_err-join_records.ensures.1 in
-    rw (gave.1, gave.2) (inl (file_unread opens.source c.args.file.handle d c.in_err-join_records.field-0.0 opens.reads_by opens.size (c.in_err-join_records.ensures.err file opens.opened)))
-
-pub returns-clause-ok : goal.returns-clause-ok
-returns-clause-ok g c =
-    let d = g.F.FileSystem.disk c.args.file_system.now in
-    let opens = c.in_ok-format.ensures.ok in
-    let format = c.in_ok-format.format in
-    let file : OpenFile = record { id = c.args.file.id; source = opens.source; format = format } in
-    let content = bytes_in (d.files c.args.file.handle.file) in
-    let start = end_of c.open.new.self in
-    let joins = c.in_ok-join_records.ensures.ok file opens.opened in
-    let all : c.as_slice.result.now ≡ content = c.as_slice.ensures.value ∙ c.in_ok-bytes.ensures.ok in
-    let plain = plain_is c.new.result format c.new.ensures.version c.new.ensures.alignment in
-    let header : c.encode.new.out.items ≡ header_bytes (plain_format format) =
-    c.in_ok-encode.ensures.ok.1 ∙ ap (λ (l : List ℕ). l ++ header_bytes c.new.result) c.new-new.ensures.items ∙ ap header_bytes plain in
+pub returns-in-Ok-clause-ok : goal.returns-in-Ok-clause-ok
+returns-in-Ok-clause-ok g c = λ honest.
+    let parts = and_parts c.without_padding-made.new.receipts.honest (honest_of c.without_padding-made.new.reader) (sym c.note_reads.ensures ∙ honest) in
     record {
-      padded = rw c.if-not-branch.false at c.in_ok-is_padded.ensures.ok;
-      without = record {
-        file = file;
-        is = refl;
-        start = start;
-        says = subst (λ (h : Handle). SaysFormat (bytes_in (d.files h.file)) format start) opens.reads_by (opens.header (c.in_ok-format.ensures.receipts g.met.F.FileSystem.truthful));
-        bytes = joins.bytes;
-        are = subst (λ (l : List ℕ). AreJoined file l start joins.bytes) all joins.are;
-        made = joins.more ∙ ap (λ (l : List ℕ). l ++ joins.bytes) header;
-      };
+      padded = rw c.if-not-branch.false at (c.in_ok-is_padded.ensures.ok (c.in-Ok.ensures.receipts.falls parts.0));
+      without = c.in-Ok.ensures.ok parts.1 parts.0;
     }
 
-pub join_records-requires-clause-reading : goal.join_records-requires-clause-reading
-join_records-requires-clause-reading g c = record { reading = c.in_ok-format.ensures.reading; honest = c.in_ok-format.ensures.receipts g.met.F.FileSystem.truthful }
+pub returns-clause-err : goal.returns-clause-err
+returns-clause-err g c = λ honest.
+    let parts = and_parts c.without_padding-made.new.receipts.honest (honest_of c.without_padding-made.new.reader) (sym c.note_reads.ensures ∙ honest) in
+    let padded = rw c.if-not-branch.false at (c.in_ok-is_padded.ensures.ok (c.in-Err.ensures.receipts.falls parts.0)) in
+    inl (c.in-Err.ensures.err parts.1 parts.0 padded)
+
+pub returns-in-Ok-clause-receipts : goal.returns-in-Ok-clause-receipts
+returns-in-Ok-clause-receipts g c =
+    let first = c.in_ok-is_padded.ensures.receipts in
+    let own = c.in-Ok.ensures.receipts in
+    record {
+      falls = λ honest. first.falls (own.falls (and_parts c.without_padding-made.new.receipts.honest (honest_of c.without_padding-made.new.reader) (sym c.note_reads.ensures ∙ honest)).0);
+      stays = λ truth honest. c.note_reads.ensures ∙ and_from c.without_padding-made.new.receipts.honest (honest_of c.without_padding-made.new.reader) (own.stays truth (first.stays truth honest)) (c.in-Ok.ensures.reads truth);
+    }
+
+pub returns-clause-receipts : goal.returns-clause-receipts
+returns-clause-receipts g c =
+    let first = c.in_ok-is_padded.ensures.receipts in
+    let own = c.in-Err.ensures.receipts in
+    record {
+      falls = λ honest. first.falls (own.falls (and_parts c.without_padding-made.new.receipts.honest (honest_of c.without_padding-made.new.reader) (sym c.note_reads.ensures ∙ honest)).0);
+      stays = λ truth honest. c.note_reads.ensures ∙ and_from c.without_padding-made.new.receipts.honest (honest_of c.without_padding-made.new.reader) (own.stays truth (first.stays truth honest)) (c.in-Err.ensures.reads truth);
+    }

@@ -5,7 +5,7 @@ use Rattle.raft_log_operator.proofs.inspection.inspect_one.Goals as goal
 
 pub returns : goal.returns
 returns g c =
-    let inspects = c.in_ok-files.ensures in
+    let inspects = c.in_ok-files.ensures.ok (c.in_ok-files.ensures.receipts.stays g.met.F.FileSystem.truthful c.none-receipts.ensures) in
     let checker = c.inspect_queue.new.machine in
     record {
       batches = inspects.batches;

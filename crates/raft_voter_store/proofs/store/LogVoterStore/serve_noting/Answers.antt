@@ -1,16 +1,19 @@
-use Rattle.std.proofs.Common.{◌≡◌, Bool, true, refl, sym, ap, length, ◌∙◌}
+use Rattle.std.proofs.Common.{◌≡◌, Bool, true, List, refl, sym, ap, arith, length, subst, ◌∙◌}
 use Rattle.raft_log_engine.specs.raft_log_engine_core.specs.Reads.{shows_of}
 use Rattle.raft_log_engine.specs.raft_log_engine_laws.specs.EngineState.{has_failed}
 use Rattle.raft_voter.specs.Service.{refused_from}
 use Rattle.raft_voter_outline.specs.Kept.{outlines_in}
 use Rattle.raft_voter_store.specs.Counting.{with_round}
+use Rattle.raft_voter_store.specs.Refusals.{AppendsRefusals}
+use Rattle.raft_voter_store.specs.declared.refusals.Refusal.{Refusal}
 use Rattle.raft_voter_store.specs.declared.counters.WorkCounters.{WorkCounters}
 use Rattle.raft_voter_store.specs.declared.store.LogVoterStore.{LogVoterStore}
 use Rattle.raft_voter_store.proofs.Counting.{counts_round, ends_synced, ends_unwritten}
+use Rattle.raft_voter_store.proofs.Noting.{noted_synced, noted_unsynced}
 use Rattle.raft_voter_store.proofs.Rounds.{answered_synced, answered_unwritten, cut_at, cut_unsynced, excused_synced}
 use Rattle.raft_voter_store.proofs.Silence.{never}
-use Rattle.raft_voter_store.proofs.store.LogVoterStore.serve.Goals.{then-wrote+in-Ok-sync, else-wrote}
-use Rattle.raft_voter_store.proofs.store.LogVoterStore.serve.Goals as goal
+use Rattle.raft_voter_store.proofs.store.LogVoterStore.serve_noting.Goals.{then-wrote+in-Ok-sync, else-wrote}
+use Rattle.raft_voter_store.proofs.store.LogVoterStore.serve_noting.Goals as goal
 
 pub returns-in_default-take_all-clause-cut : goal.returns-in_default-take_all-clause-cut
 returns-in_default-take_all-clause-cut g c = λ cause.
@@ -96,4 +99,42 @@ returns-clause-counted g c =
           (counts_round qs told wrote s t (shows_of shown w.sync.new.self) os us old c.with_round-self-2.result c.in-Some.ensures.went (ends_synced wrote t _ w.if-wrote.true w.in-Ok-sync.ensures.ok) c.with_round-self-2.ensures)
       | else-wrote w ↦ rw (c.from_vec.ensures, w.self-is)
           (counts_round qs told wrote s t t os us old c.with_round-self-2.result c.in-Some.ensures.went (ends_unwritten wrote t w.if-wrote.false) c.with_round-self-2.ensures)
+    ]
+
+pub returns-in_default-take_all-clause-cut_causes : goal.returns-in_default-take_all-clause-cut_causes
+returns-in_default-take_all-clause-cut_causes g c = λ cause enough.
+    let shown = g.P.PipeLog.shown in
+    let s = shows_of shown c.args.self.now.engine in
+    let t = shows_of shown c.take_all.new.self.engine in
+    let os = outlines_in c.args.self.now.outlines in
+    let told = c.take_all.new.replies.items in (
+      told,
+      ap (λ fault. fault.refused) c.cut_off.ensures ∙ ap (λ l. refused_from 0 l) c.as_slice.ensures.value,
+      subst (λ (l : List Refusal). AppendsRefusals c.args.requests.now told l c.take_all.new.refusals.items s t os) c.in-Ok.ensures.items (c.take_all.ensures.noted (omega (arith, enough, c.in-Ok.ensures.ok))),
+    )
+
+pub returns-in_default-sync-clause-cut_causes : goal.returns-in_default-sync-clause-cut_causes
+returns-in_default-sync-clause-cut_causes g c = λ cause enough.
+    let shown = g.P.PipeLog.shown in
+    let s = shows_of shown c.args.self.now.engine in
+    let t = shows_of shown c.take_all.new.self.engine in
+    let os = outlines_in c.args.self.now.outlines in
+    let told = c.take_all.new.replies.items in
+    let noted = subst (λ (l : List Refusal). AppendsRefusals c.args.requests.now told l c.take_all.new.refusals.items s t os) c.in-Ok.ensures.items (c.take_all.ensures.noted (omega (arith, enough, c.in-Ok.ensures.ok))) in (
+      told,
+      ap (λ fault. fault.refused) c.cut_off-in_default-sync.ensures ∙ ap (λ l. refused_from 0 l) c.as_slice-in_default-sync.ensures.value,
+      noted_unsynced c.args.requests.now told c.args.refusals.now.items c.take_all.new.refusals.items c.in_default-sync.field-0 s t (shows_of shown c.sync.new.self) os c.in_default-sync.ensures.err noted,
+    )
+
+pub returns-clause-causes : goal.returns-clause-causes
+returns-clause-causes g c = λ enough.
+    let shown = g.P.PipeLog.shown in
+    let s = shows_of shown c.args.self.now.engine in
+    let t = shows_of shown c.take_all.new.self.engine in
+    let os = outlines_in c.args.self.now.outlines in
+    let told = c.take_all.new.replies.items in
+    let noted = subst (λ (l : List Refusal). AppendsRefusals c.args.requests.now told l c.take_all.new.refusals.items s t os) c.in-Ok.ensures.items (c.take_all.ensures.noted (omega (arith, enough, c.in-Ok.ensures.ok))) in
+    elim c.if-wrote.branch [
+      | then-wrote+in-Ok-sync w ↦ rw (c.from_vec.ensures, w.self-is) (noted_synced c.args.requests.now told c.args.refusals.now.items c.take_all.new.refusals.items s t (shows_of shown w.sync.new.self) os w.in-Ok-sync.ensures.ok noted)
+      | else-wrote w ↦ rw (c.from_vec.ensures, w.self-is) noted
     ]
